@@ -1,7 +1,8 @@
 //! The scheduler of a BOINC project, as a program.
 //!
-//! An operator makes tables, imports a project, serves it, lets time go by, and reads what a host was given; a run of
-//! messages is replayed from standard input. `bsched --help` tells the words, and `docs/PROFILE.md` states the formats.
+//! An operator makes tables, imports a project, serves it, runs ticks, and reads what a host was given. A run of
+//! messages is replayed from standard input. `bsched --help` lists the commands, and `docs/PROFILE.md` states the
+//! formats.
 #![tactic(auto)]
 
 #[cfg(test)]
@@ -23,12 +24,12 @@ fn main(rt: HostRuntime) -> io::Result<ExitCode> {
     }
 }
 
-/// The words of the command line, of which the first is the program's name.
+/// The words of the command line; the first is the program's name.
 fn words_of(rt: &HostRuntime) -> io::Result<Vec<String>> {
     Ok(env::args(rt)?.collect(rt.alloc())?)
 }
 
-/// Carries out the order of a command line, or tells what is wrong with it.
+/// Carries out the order of a command line, or says what is wrong with it.
 fn ordered(rt: &HostRuntime, order: Result<Order, OrderFault>) -> io::Result<ExitCode> {
     match order {
         Ok(order) => carried_out(rt, &order),

@@ -1,4 +1,4 @@
-//! The worked rows, and lines that are none, too long or broken.
+//! The worked rows, and lines that are too long, broken, or not of the form of a line.
 
 mod classes;
 mod desk;
@@ -31,7 +31,7 @@ use std::io::{BufRead, BufReader, ErrorKind, Read};
 use std::test::Fail;
 use stores::Store;
 
-/// The service over a store.
+/// Returns the service over a store.
 fn service_over<S: Store + Drop>(alloc: Global, store: S) -> Result<Service<S>, Fail> {
     match Service::new(alloc, store) {
         Ok(service) => Ok(service),
@@ -39,13 +39,13 @@ fn service_over<S: Store + Drop>(alloc: Global, store: S) -> Result<Service<S>, 
     }
 }
 
-/// A store of new lists in memory. (What owns the service over it is generic in the store, as over tables: the proof of a
-/// function that owns one over lists by name takes a minute.)
+/// Returns a store of new lists in memory. (A function that owns the service over it is generic in the store, as over
+/// tables. If it named the store of lists, its proof would take a minute.)
 fn new_store(alloc: Global) -> Result<ListStore, Fail> {
     Ok(ListStore::new(alloc, &default_settings(alloc)?)?)
 }
 
-/// What a replay of the lines of a reader by a service prints, and how it ends.
+/// What a service prints in a replay of the lines of a reader, and how the replay ends.
 fn replayed_from<S: Store, R: BufRead + Drop>(
     alloc: Global,
     service: &mut Service<S>,
@@ -56,7 +56,7 @@ fn replayed_from<S: Store, R: BufRead + Drop>(
     (printed, ended)
 }
 
-/// What a replay of these lines by a service prints, and how it ends.
+/// What a service prints in a replay of these lines, and how the replay ends.
 fn replayed_by<S: Store>(
     alloc: Global,
     service: &mut Service<S>,
@@ -85,7 +85,7 @@ fn replayed_in<S: Alter + Drop>(
     replayed_over(alloc, Tables::create(alloc, conn, settings)?, lines)
 }
 
-/// What a replay of these lines prints over tables with these settings, and how it ends; it fails where the plain lists
+/// What a replay of these lines prints over tables with these settings, and how it ends. It fails if the plain lists
 /// print anything else.
 fn replayed_under(
     alloc: Global,
@@ -105,7 +105,7 @@ fn replayed(alloc: Global, lines: &[u8]) -> Result<(Vec<u8>, Ended), Fail> {
     replayed_with(alloc, 3, lines)
 }
 
-/// The same, where so many hosts may stand.
+/// The same if there may be so many hosts.
 fn replayed_with(alloc: Global, max_hosts: u32, lines: &[u8]) -> Result<(Vec<u8>, Ended), Fail> {
     let mut settings = default_settings(alloc)?;
     settings.max_hosts = max_hosts;
@@ -118,7 +118,7 @@ const PROJECT: &str =
 const PROJECT_IMPORTED: &str =
     "200 {\"batch\":\"a0\",\"kind\":\"accounts\",\"rows\":3}\n200 {\"batch\":\"a0\",\"kind\":\"apps\",\"rows\":2}\n200 {\"batch\":\"a0\",\"kind\":\"versions\",\"rows\":3}\n";
 
-/// Behind the project's imports, these lines get these answers, where so many hosts may stand.
+/// Whether these lines get these answers after the project's imports, if there may be so many hosts.
 fn answers_in_project(
     alloc: Global,
     max_hosts: u32,
@@ -131,8 +131,8 @@ fn answers_in_project(
     Ok(ended == Ended::Good && printed.as_slice() == output.as_bytes())
 }
 
-/// The name of the first row that does not hold, where so many hosts may stand, or in which a message that comes a second
-/// time is answered otherwise.
+/// The name of the first row that does not hold, if there may be so many hosts. If all hold, that of the first in which
+/// a message gets another answer when it is sent again.
 fn first_wrong_twice(
     alloc: Global,
     max_hosts: u32,
@@ -186,11 +186,11 @@ fn odd_spellings(rt: HostRuntime) -> Result<(), Fail> {
     Ok(())
 }
 
-/// The first call of Ann's host, but for its end.
+/// The first call of Ann's host, without its end.
 const CALL_START: &str =
     "1970-01-01T00:16:40Z scheduler {\"authenticator\":\"k1\",\"rpc_seqno\":1,\"host_info\":{\"host_cpid\":\"c1\",\"p_fpops\":1000,\"m_nbytes\":8000,\"d_free\":9000},\"platform_name\":\"linux\"";
 
-/// Its reply, where it reports nothing.
+/// Its reply, if it reports nothing.
 const REPLY: &str =
     "200 {\"end_word\":\"enough\",\"host_total_credit\":0,\"hostid\":1,\"request_delay\":60,\"result_abort\":[],\"result_ack\":[],\"results\":[],\"rpc_seqno\":1,\"user_name\":\"Ann\",\"user_total_credit\":0}\n";
 
@@ -254,14 +254,14 @@ fn short_run(alloc: Global) -> Result<String, Fail> {
     )?)
 }
 
-/// Their answers.
+/// The answers to them.
 fn short_answers(alloc: Global) -> Result<String, Fail> {
     Ok(format!(in alloc;
         "200 {{\"batch\":\"a0\",\"kind\":\"accounts\",\"rows\":1}}\n200 {{\"batch\":\"k2\",\"kind\":\"accounts\",\"rows\":1}}\n{REPLY}"
     )?)
 }
 
-/// What a replay over a store prints whose reader is interrupted before each few bytes, and how it ends.
+/// What a replay over a store prints if its reader is interrupted before each few bytes, and how it ends.
 fn replayed_interrupted<S: Store + Drop>(
     alloc: Global,
     store: S,
@@ -276,7 +276,7 @@ fn replayed_interrupted<S: Store + Drop>(
     Ok(replayed_from(alloc, &mut service, reader))
 }
 
-/// What a replay over a store prints whose reader fails behind these bytes, and how it ends.
+/// What a replay over a store prints if its reader fails after these bytes, and how it ends.
 fn replayed_before_a_fault<S: Store + Drop>(
     alloc: Global,
     store: S,
@@ -292,7 +292,7 @@ fn replayed_before_a_fault<S: Store + Drop>(
     Ok(replayed_from(alloc, &mut service, reader))
 }
 
-/// What a replay by a service prints into so many bytes of room, and how it ends.
+/// What a service prints in a replay if there is room for so many bytes, and how the replay ends.
 fn printed_into<S: Store>(
     alloc: Global,
     service: &mut Service<S>,
@@ -305,7 +305,7 @@ fn printed_into<S: Store>(
     Ok((room, ended))
 }
 
-/// What a replay over a store prints into so many bytes of room, and how it ends.
+/// What a replay over a store prints if there is room for so many bytes, and how it ends.
 fn replayed_into<S: Store + Drop>(
     alloc: Global,
     store: S,
@@ -315,7 +315,7 @@ fn replayed_into<S: Store + Drop>(
     printed_into(alloc, &mut service_over(alloc, store)?, length, lines)
 }
 
-/// Whether a run printed a front of what is told and ended as its reader or its writer failed.
+/// Whether a run printed a front of this text, and ended as its reader or its writer failed.
 fn broke(run: &(Vec<u8>, Ended), told: &[u8]) -> bool {
     let (printed, ended) = run;
     *ended == Ended::File && told.starts_with(printed.as_slice())

@@ -1,4 +1,4 @@
--- The text of a number is digits, and std reads it as their value where it fits.
+-- The text of a number is digits, and std reads it as their value if it fits.
 use Rattle.std.proofs.Common.{◌≡◌, ℕ, ◌<◌, ◌^◌, true, List, [], ◌∷◌, Option, Some, None, Err, length, arith}
 use Rattle.std.proofs.lemmas.Bool.{and_parts}
 use Rattle.std.specs.Prelude.{nat_lt, nat_le, if◌then◌else◌}
@@ -8,7 +8,7 @@ use Rattle.std.specs.Str.Parse.{digits_value, ParsesUnsigned}
 use Rattle.command_line.specs.Numbers.{is_number_text}
 use Rattle.texts.proofs.Digits.{digits_read}
 
--- it is digits, and not empty
+-- such a text is digits, and not empty
 pub are_digits : (text : List ℕ) → is_number_text text ≡ true → list_all is_ascii_digit text ≡ true
 are_digits [] h = cc
 are_digits (c ∷ cs) h = (and_parts (nat_le 49 c) (list_all is_ascii_digit (c ∷ cs)) h).1

@@ -1,4 +1,4 @@
--- A command with one option more.
+-- A command with one more option.
 use Rattle.std.proofs.Common.{◌≡◌, ◌∙◌, Bor, ℕ, ◌+◌, ◌<◌, List, [], ◌∷◌, length, get_or, take, map, false, sym, ap, ap₂}
 use Rattle.std.specs.Prelude.{◌||◌}
 use Rattle.std.proofs.lemmas.List.{map-append, take_more}

@@ -1,4 +1,4 @@
--- The program is one of the commands of which `clap` says what it finds, and why it refuses words.
+-- The program is one of the commands for which `clap`'s contracts say what it finds, and why it refuses words.
 use Rattle.std.proofs.Common.{◌≡◌, true, refl}
 use Rattle.clap.specs.Words.{is_simple, is_simple_and_free}
 use Rattle.clap.proofs.OnLiterals.{clap_on_literals}

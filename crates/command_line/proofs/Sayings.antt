@@ -1,4 +1,4 @@
--- What follows for the words of a command line from what `clap` finds in them, and from its faults.
+-- What the words of a command line order, from what `clap` finds in them and from its faults.
 use Rattle.std.proofs.Common.{◌≡◌, ◌⊎◌, ◌∙◌, ap, sym, subst, refl, inl, inr, List, [], ◌∷◌, Option, None, Result, Ok, Err}
 use Rattle.clap.specs.Words.{IsAmong, Kinds, Row, Text, fault_of, subcommand_of}
 use Rattle.clap.specs.declared.error.kind.ErrorKind.{ErrorKind}
@@ -17,7 +17,7 @@ its_order : (kinds : Kinds) (order : Option Order) → kinds ≡ [] → unless_r
 its_order [] order none = refl
 its_order (k ∷ ks) order none = cc
 
--- without a fault the words order what their subcommand does
+-- without a fault the words order what their subcommand orders
 pub says_order : (words : List Text) (entered : Option (Text × List Row)) (answer : Result Order OrderFault)
     → entered ≡ subcommand_of the_program words → fault_of the_program words ≡ [] → GivesOrder (order_by entered) answer
     → OrderSays words answer

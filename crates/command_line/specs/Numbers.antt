@@ -9,7 +9,7 @@ abbrev pub is_number_text : List ℕ → Bool
 is_number_text [] = false
 is_number_text (c ∷ cs) = nat_le 49 c && list_all is_ascii_digit (c ∷ cs)
 
--- the number that such a text says, where it is at most this
+-- the number that such a text says, if it is at most this
 abbrev pub number_up_to : ℕ → List ℕ → Option ℕ
 number_up_to most text =
     if is_number_text text && nat_le (digits_value 10 text) most then Some (digits_value 10 text) else None

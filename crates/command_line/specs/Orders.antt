@@ -13,7 +13,7 @@ use Rattle.command_line.specs.declared.order.Order.TheVariants.{Create, Serve, I
 use Rattle.command_line.specs.declared.order.OrderFault.{OrderFault}
 use Rattle.command_line.specs.declared.order.OrderFault.TheVariants.{Refused, Help, Memory}
 
--- what is said goes on where it was said at all
+-- if something was said, the next step gets it
 infixl 10 ◌>>=◌
 abbrev pub ◌>>=◌ : {A B : Type 0} → Option A → (A → Option B) → Option B
 said >>= next = option_and_then next said
@@ -28,7 +28,7 @@ word_at name values = first_of name values >>= word_of
 abbrev pub moment_at : Text → List Row → Option ℕ
 moment_at name values = first_of name values >>= moment_told
 
--- what each subcommand orders by the values of its options
+-- what each subcommand orders, from the values of its options
 abbrev pub create_order : List Row → Option Order
 create_order values =
     first_of (codes "settings") values >>= λ settings.
@@ -82,7 +82,7 @@ order_named name values =
     else (if bytes_eq name (codes "replay") then replay_order values
     else None))))))
 
--- no subcommand at all is a replay with the default settings
+-- a command line without a subcommand orders a replay with the default settings
 abbrev pub order_by : Option (Text × List Row) → Option Order
 order_by None = Some (Replay None)
 order_by (Some entered) = order_named entered.0 entered.1
@@ -92,26 +92,24 @@ abbrev pub unless_refused : Kinds → Option Order → Option Order
 unless_refused [] order = order
 unless_refused (fault ∷ faults) order = None
 
--- what the words of a command line order, the first of which is the program's name: the subcommand and the options are
--- those that `clap` finds in them
+-- what the words of a command line order, if the first is the program's name; `clap` finds the subcommand and the options in them
 abbrev pub order_of_words : List Text → Option Order
 order_of_words words = unless_refused (fault_of the_program words) (order_by (subcommand_of the_program words))
 
--- An answer gives an order that there is, tells that there is none, or that memory was wanting.
+-- A result gives the order that there is, or says that there is none, or that there was no memory.
 abbrev pub GivesOrder : Option Order → Result Order OrderFault → Type 0
 GivesOrder order (Ok given) = order ≡ Some given
 GivesOrder order (Err Refused) = order ≡ None
 GivesOrder order (Err (Help text)) = ⊥
 GivesOrder order (Err Memory) = ⊤
 
--- a fault tells which kind of error `clap` gave; without memory it tells nothing
+-- a fault says which kind of error `clap` gave; without memory it says nothing
 abbrev pub FaultSays : ErrorKind → OrderFault → Type 0
 FaultSays given Refused = given ≢ kind.OutOfMemory
 FaultSays given (Help text) = given ≡ kind.DisplayHelp
 FaultSays given Memory = ⊤
 
--- An answer says what the words order, that they order nothing, or that they ask for help; without memory it says
--- nothing.
+-- A result says what the words order, or that they order nothing, or that they ask for help; without memory it says nothing.
 abbrev pub OrderSays : List Text → Result Order OrderFault → Type 0
 OrderSays words (Ok order) = order_of_words words ≡ Some order
 OrderSays words (Err Refused) = order_of_words words ≡ None

@@ -9,7 +9,7 @@ use Rattle.clap.specs.declared.builder.command.Command.TheViews.{out-Command}
 abbrev pub optional : Text → Rule
 optional name = record (new_rule name) { long = Some name; value_names = 1 }
 
--- an option that has to be told
+-- an option that must be given
 abbrev pub wanted : Text → Rule
 wanted name = record (optional name) { required = true }
 
@@ -17,7 +17,7 @@ wanted name = record (optional name) { required = true }
 abbrev pub command : Text → List Rule → App
 command name options = record (new_app name) { top = record (new_shape name) { rules = options } }
 
--- it is this command, and none of its options holds for commands below it
+-- it is this command, and its options do not hold for its subcommands
 pub record IsSubcommand (app : App) (c : Command) : Type 0 where
   pub is : app_of c ≡ app
   pub local : (out-Command c).has_globals ≡ false

@@ -1,4 +1,4 @@
-//! The program's command line: what is ordered by its words.
+//! The program's command line: what its words order.
 #![tactic(auto)]
 
 mod number;

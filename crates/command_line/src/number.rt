@@ -6,7 +6,7 @@ ghost use Rattle.std.specs.List.{list_all};
 ghost use Rattle.std.specs.Str.Parse.{digits_value};
 ghost use Rattle.command_line.specs.Numbers as spec;
 
-/// The number from 1 to `most` that a text says: a digit 1 to 9 followed by digits.
+/// The number in a text, which must be a digit 1 to 9 followed by digits, if it is at most `most`.
 pub(crate) fn number_up_to(most: u32, text: &str) -> Option<u32>
     ensures value { result ≡ spec.number_up_to most text.now }
     ensures range { IfSome result (λ n. n ≤ most) }
@@ -20,7 +20,7 @@ pub(crate) fn number_up_to(most: u32, text: &str) -> Option<u32>
     }
 }
 
-/// What such a text says, where it is below 2^32.
+/// The number that such a text says, if it is below 2^32.
 fn value_of(text: &str) -> Option<u32>
     requires { IsTrue (spec.is_number_text text.now) }
     ensures { result ≡ (if nat_lt (digits_value 10 text.now) (2 ^ 32) then Some (digits_value 10 text.now) else None) }

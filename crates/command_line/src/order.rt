@@ -8,7 +8,7 @@ use texts::Text;
 /// What a command line orders. Each `tables`, `settings` and `file` is the path of a file.
 #[derive(Drop)]
 pub enum Order {
-    /// Make a tables file by a settings file.
+    /// Make a tables file from a settings file.
     Create {
         settings: Text,
         tables: Text,
@@ -19,14 +19,14 @@ pub enum Order {
         port: u16,
         count: u32,
     },
-    /// Import the batch of this kind and this name, whose text is in the file.
+    /// Import the batch of this kind and this name; its text is in the file.
     Import {
         tables: Text,
         kind: Text,
         batch: Text,
         file: Text,
     },
-    /// Let time go by to this moment.
+    /// Handle a tick at this moment.
     Tick {
         tables: Text,
         at: Moment,
@@ -36,11 +36,11 @@ pub enum Order {
         tables: Text,
         host: u32,
     },
-    /// Carry tables of an older schema over to the newest one.
+    /// Upgrade tables of an older schema to the newest one.
     Upgrade {
         tables: Text,
     },
-    /// Answer the messages of a run from standard input, with the default settings where none are told.
+    /// Answer the messages of a run from standard input, with the default settings if no file is given.
     Replay {
         settings: Option<Text>,
     },
@@ -53,7 +53,7 @@ pub enum OrderFault {
     Refused,
     /// The words ask for help, and this is the text to show.
     Help(Text),
-    /// Memory was wanting.
+    /// There was no memory.
     Memory,
 }
 

@@ -11,7 +11,7 @@ use texts::Memory;
 /// The name of an option, that of its value, and its help.
 type OptionWords<'a> = (&'a str, &'a str, &'a str);
 
-/// The tables, where their file has to stand.
+/// The tables, if their file must exist.
 const TABLES: OptionWords<'static> = ("tables", "FILE", "Tables file, as create made it");
 
 /// An option `--NAME VALUE`.
@@ -25,7 +25,7 @@ fn optional<'a>(alloc: Global, name: &'a str, value: &'a str, help: &'a str) -> 
         .help(help)
 }
 
-/// An option that has to be told.
+/// An option that must be given.
 fn wanted<'a>(alloc: Global, name: &'a str, value: &'a str, help: &'a str) -> Arg<'a>
     ensures rule { rule_of result ≡ spec.wanted name.now }
     ensures local { result.global ≡ false }
@@ -33,7 +33,7 @@ fn wanted<'a>(alloc: Global, name: &'a str, value: &'a str, help: &'a str) -> Ar
     optional(alloc, name, value, help).required(true)
 }
 
-/// A subcommand with options that have to be told.
+/// A subcommand with options that must be given.
 fn subcommand<'a>(
     alloc: Global,
     name: &'a str,
@@ -120,7 +120,7 @@ fn replay_command<'a>(alloc: Global) -> Result<Command<'a>, Memory>
         .arg(optional(alloc, "settings", "FILE", settings))
 }
 
-/// The program with one subcommand more, where that was made.
+/// Adds a subcommand to the program, if the subcommand could be made.
 fn with<'a>(
     program: Command<'a>,
     subcommand: Result<Command<'a>, Memory>,

@@ -1,4 +1,4 @@
-//! The reading of a command line, by `clap`.
+//! Reading a command line, with `clap`.
 
 ghost use Rattle.std.specs.Prelude.{◌≡◌, IfOk, map};
 ghost use Rattle.std.specs.String.{string_bytes};
@@ -14,7 +14,7 @@ use clap::{ArgMatches, Error};
 use std::alloc::Global;
 use texts::{Memory, Text};
 
-/// What the words of a command line order, the first of which is the program's name.
+/// Returns what the words of a command line order; the first is the program's name.
 pub fn order_of(alloc: Global, words: &[String]) -> Result<Order, OrderFault>
     ensures { OrderSays (map string_bytes words.now) result }
 {
@@ -32,7 +32,7 @@ fn matches_of<'a>(alloc: Global, words: &'a [String]) -> Result<ArgMatches<'a>, 
     program(alloc)?.try_get_matches_from(words)
 }
 
-/// The fault that an error of `clap` is.
+/// The fault for an error of `clap`.
 fn fault_by(alloc: Global, error: &Error) -> OrderFault
     ensures { FaultSays (kind_of error.now) result }
 {
@@ -43,7 +43,7 @@ fn fault_by(alloc: Global, error: &Error) -> OrderFault
     }
 }
 
-/// The help that an error of `clap` tells.
+/// The help in an error of `clap`.
 fn help_by(alloc: Global, error: &Error) -> OrderFault
     ensures { FaultSays ErrorKind.DisplayHelp result }
 {
@@ -64,7 +64,7 @@ fn order_in(alloc: Global, matches: &ArgMatches<'_>) -> Result<Order, OrderFault
     }
 }
 
-/// What the subcommand orders that the words name, or the replay that they are without one.
+/// What the subcommand in the words orders. Without one it is a replay.
 fn subcommand_order(alloc: Global, matches: &ArgMatches<'_>) -> Result<Option<Order>, Memory>
     ensures { IfOk result (λ order. order ≡ order_by (subcommand_rows_of matches.now)) }
 {

@@ -1,4 +1,4 @@
--- What is told of a name by the fields so far, and by those that are left.
+-- What the fields of a name say: those so far, and the others.
 use Rattle.std.proofs.Common.{List, ℕ, [], ◌∷◌}
 use Rattle.http_messages.specs.Fields.{Told, absent, once, often, told_by}
 

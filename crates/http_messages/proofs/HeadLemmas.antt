@@ -1,4 +1,4 @@
--- Heads within the limits, from what `httparse` says of the bytes in which they have room.
+-- Heads within the limits, from what `httparse` says of the bytes in which they must fit.
 use Rattle.std.proofs.Common.{◌≡◌, ℕ, ◌+◌, ◌-◌, ◌<◌, ◌≤◌, List, ◌++◌, length, take, drop, sym, ap, ◌∙◌, subst, arith, length-take-le, append_assoc}
 use Rattle.std.proofs.lemmas.List.{take-append-drop, take-append-le, drop-append-le, take_all, length-take, length-map}
 use Rattle.std.proofs.Math.Seq.{take-append-add}
@@ -14,7 +14,7 @@ take_past xs ys n fits =
     let split : n ≡ length xs + (n - length xs) = omega (arith, fits) in
     ap (λ k. take k (xs ++ ys)) split ∙ take-append-add xs ys (n - length xs)
 
--- a head stands in its room
+-- a head fits in its room
 pub in_room : (bytes : List ℕ) (h : RequestHead) (rest : List ℕ) → IsHead bytes h rest
     → ReadsRequest (head_room bytes) h (take (head_limit - length (print_request h)) rest)
 in_room bytes h rest at =
@@ -23,7 +23,7 @@ in_room bytes h rest at =
 pub no_head : (bytes : List ℕ) → HasNoRequest (head_room bytes) → HasNoHead bytes
 no_head bytes none h rest at = none h _ (in_room bytes h rest at)
 
--- where the room is full, what follows changes nothing
+-- if the room is full, further bytes change nothing
 pub never_in_room : (bytes : List ℕ) → head_limit ≤ length bytes → HasNoRequest (head_room bytes) → NeverHasHead bytes
 never_in_room bytes full none more h rest at =
     let same = take-append-le head_limit bytes more full in
@@ -39,7 +39,7 @@ never_with_fields bytes over more h rest at =
     let few = at.has_room in
     absurd (omega (arith, many, few))
 
--- where there is room, none was found and one may come
+-- if no head was found, there is room, and one may come, then the bytes await a head
 pub awaits : (bytes : List ℕ) → length bytes < head_limit → HasNoRequest (head_room bytes) → MayBecomeRequest (head_room bytes) → AwaitsHead bytes
 awaits bytes room none may =
     let same : head_room bytes ≡ bytes = take_all head_limit bytes (omega (arith, room)) in
@@ -73,11 +73,11 @@ whole bytes fields spans room within found =
       at,
     )
 
--- a head stays one whatever follows
+-- a head stays one with any further bytes
 pub head_more : (bytes : List ℕ) (h : RequestHead) (rest more : List ℕ) → IsHead bytes h rest → IsHead (bytes ++ more) h (rest ++ more)
 head_more bytes h rest more at =
     record { reads = ReadsRequest-append bytes h rest more at.reads; is_short = at.is_short; has_room = at.has_room }
 
--- bytes begin with one head at most
+-- bytes begin with at most one head
 pub head_unique : (bytes : List ℕ) (h k : RequestHead) (rest other : List ℕ) → IsHead bytes h rest → IsHead bytes k other → (h ≡ k) × (rest ≡ other)
 head_unique bytes h k rest other at and = request_unique bytes h k rest other at.reads and.reads

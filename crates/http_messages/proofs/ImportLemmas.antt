@@ -1,4 +1,4 @@
--- What an import that bytes ask for may be: its batch has a word for its name, and its text is not too long.
+-- An import that bytes ask for has a word as the name of its batch, and a text that is not too long.
 use Rattle.std.proofs.Common.{◌≡◌, ℕ, zero, suc, ◌+◌, ◌≤◌, Bool, true, false, ◌&&◌, cond, List, [], ◌∷◌, length, map, take, drop, codes, Option, Some, None, Result, Ok, Err, refl, sym, subst, arith, inl, inr, IsTrue}
 use Rattle.std.specs.Prelude.{nat_le, nat_lt, nat_eq, not, position}
 use Rattle.std.specs.List.{starts_with}
@@ -20,7 +20,7 @@ use Rattle.http_messages.specs.Routing as routing
 use Rattle.http_messages.specs.Routing.{Route, kind_of_route, path_of, is_slash, is_part, import_with, import_at, route_of}
 use Rattle.http_messages.specs.declared.route_kind.RouteKind.TheVariants as at
 
--- an import with a word for its name, and of at most 1,048,576 bytes
+-- an import with a word as its name, and at most 1,048,576 bytes
 abbrev Fits : Asked → Type 0
 Fits (import kind batch text) = IsTrue (is_word batch) × (length text ≤ 1048576)
 Fits (call body) = Unit {0}
@@ -29,7 +29,7 @@ Fits (statement host) = Unit {0}
 Fits (wrong_method allowed) = Unit {0}
 Fits (refused fault) = Unit {0}
 
--- a route with a word for the name of its batch
+-- a route with a word as the name of its batch
 abbrev HasWord : Option Route → Type 0
 HasWord None = Unit {0}
 HasWord (Some (routing.import kind batch)) = IsTrue (is_word batch)
@@ -64,7 +64,7 @@ has_word path =
 
 -- ---- the length
 
--- a length of a body that is within the most
+-- the length of a body is within the most
 abbrev IsWithin : Result ℕ Fault → Type 0
 IsWithin (Ok bytes) = bytes ≤ 1048576
 IsWithin (Err fault) = Unit {0}
@@ -118,7 +118,7 @@ route_fits key method fields (Some route) word rest =
     (either P (needs_key (kind_of_route route) && not (is_operator key fields)) _ _ tt
     (body_fits route word (body_length (kind_of_route route) fields) (length_fits route fields) rest))
 
--- What bytes ask to import has a word for its name, and is not too long.
+-- What bytes ask to import has a word as its name, and is not too long.
 pub import_fits : (key bytes : List ℕ) (kind : Kind) (batch text : List ℕ) → Means key bytes (import kind batch text) → IsTrue (is_word batch) × (length text ≤ 1048576)
 import_fits key bytes kind batch text (inl (h, rest, head, is)) =
     subst Fits (sym is) (route_fits key h.method (map name_and_value h.fields) (route_of (path_of h.target)) (has_word (path_of h.target)) rest)

@@ -8,7 +8,7 @@ use Rattle.stores.specs.Kinds.{kind_of}
 use Rattle.texts.proofs.Words.{IsUtf8-word}
 use Rattle.texts.specs.Words.{is_word}
 
--- what is no text is no word
+-- bytes that are not UTF-8 are no word
 other_word : (name word : List ℕ) → is_utf8 name ≡ false → is_word word ≡ true → bytes_eq name word ≡ false
 other_word name word untold is = by (bytes_eq name word) refl
   where

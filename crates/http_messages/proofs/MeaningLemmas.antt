@@ -1,4 +1,4 @@
--- What bytes mean, by a head that was read; that they mean one thing, and when they mean it whatever follows.
+-- What bytes mean once a head was read: that they mean one thing, and when no further bytes can change it.
 use Rattle.std.proofs.Common.{◌≡◌, ℕ, ◌≤◌, ◌<◌, true, false, List, [], ◌++◌, length, map, refl, sym, ap, ◌∙◌, subst, arith, inl, inr, append-nil, length-append, rules, Option, Some, None}
 use Rattle.std.proofs.lemmas.Bool.Decides.{nat_tests}
 use Rattle.std.proofs.lemmas.List.{take-append-le}
@@ -30,7 +30,7 @@ pub settled_head : (key bytes : List ℕ) (h : RequestHead) (rest : List ℕ) (d
 settled_head key bytes h rest decision asked head same e whole more =
     means_head key (bytes ++ more) h (rest ++ more) decision asked (head_more bytes h rest more head) same (e ∙ stays decision rest more whole)
 
--- a body of which nothing is missing is whole
+-- a body with no byte missing is whole
 whole_body : (decision : Decision) (rest more : List ℕ) → missing decision rest ≤ length more → is_cut decision (rest ++ more) ≡ false
 whole_body (at_once asked) rest more enough = refl
 whole_body (with_body route bytes) rest more enough = let e = length-append rest more in grind (arith, nat_tests, e, enough)
@@ -40,7 +40,7 @@ cut_body : (decision : Decision) (rest more : List ℕ) → length more < missin
 cut_body (at_once asked) rest more few = absurd (omega (arith, few))
 cut_body (with_body route bytes) rest more few = let e = length-append rest more in grind (arith, nat_tests, e, few)
 
--- so a whole head whose body is cut awaits more until its last byte is there
+-- so a whole head whose body is cut awaits more until the last byte of the body has come
 pub misses_body : (key bytes : List ℕ) (h : RequestHead) (rest : List ℕ) (decision : Decision) (count : ℕ) → IsHead bytes h rest
     → decision ≡ decided key h → count ≡ missing decision rest → Misses key bytes count
 misses_body key bytes h rest decision count head same told more few =
@@ -48,7 +48,7 @@ misses_body key bytes h rest decision count head same told more few =
     let is : is_cut (decided key h) (rest ++ more) ≡ true = ap (λ (d : Decision). is_cut d (rest ++ more)) (sym same) ∙ cut in
     inr (h, rest ++ more, head_more bytes h rest more head, search (rules, is))
 
--- and with it no more
+-- with that byte it awaits no more
 pub misses_no_more : (key bytes : List ℕ) (h : RequestHead) (rest : List ℕ) (decision : Decision) (count : ℕ) → IsHead bytes h rest
     → decision ≡ decided key h → count ≡ missing decision rest → MissesNoMore key bytes count
 misses_no_more key bytes h rest decision count head same told k other more head_too enough =
@@ -57,7 +57,7 @@ misses_no_more key bytes h rest decision count head same told k other more head_
       settled_head key (bytes ++ more) h (rest ++ more) decision (asked_with decision (rest ++ more)) (head_more bytes h rest more head) same refl whole,
     )
 
--- where no byte is missing the body is whole
+-- if no byte is missing, the body is whole
 pub none_missing : (decision : Decision) (rest : List ℕ) (count : ℕ) → count ≡ missing decision rest → count ≡ 0 → is_cut decision rest ≡ false
 none_missing decision rest count told none =
     subst (λ (xs : List ℕ). is_cut decision xs ≡ false) (append-nil rest)
@@ -70,7 +70,7 @@ text_is bytes text read is = let told = rw (is_utf8-from_IsUtf8 bytes is) at rea
 pub text_is_some : (bytes : List ℕ) → ◌≡◌ {A = Option (List ℕ)} None (if is_utf8 bytes then Some bytes else None) → IsUtf8 bytes → ⊥
 text_is_some bytes read is = let told = rw (is_utf8-from_IsUtf8 bytes is) at read in cc
 
--- what was decided by the parts of a head
+-- what the parts of a head decide is what the head decides
 pub decided_at : (key method : List ℕ) (fields : List (List ℕ × List ℕ)) (path : List ℕ) (route : Option Route) (decision : Decision) (h : RequestHead)
     → decision ≡ decided_for key method fields route → method ≡ h.method → fields ≡ map name_and_value h.fields
     → route ≡ route_of path → path ≡ path_of h.target → decision ≡ decided key h

@@ -18,11 +18,11 @@ some_digits : (text : List ℕ) → are_digits text ≡ true → 0 < length text
 some_digits [] h = cc
 some_digits (c ∷ cs) h = omega arith
 
--- what std reads of digits
+-- what std reads from digits
 pub digits_read : {E : Type 0} (text : List ℕ) (r : Result ℕ E) → ParsesUnsigned 64 10 text r → are_digits text ≡ true → result_ok r ≡ number_in text
 digits_read text r h are = rw are (digits.digits_read 64 text r h (some_digits text are) (all_digits text are))
 
--- so few digits always fit
+-- a number of so few digits always fits
 pub short_number : (text : List ℕ) → length text ≤ 10 → number_in text ≡ length_in text
 short_number text short = by (are_digits text) refl
   where

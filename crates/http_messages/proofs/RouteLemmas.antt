@@ -31,7 +31,7 @@ route_kind_at (suc zero) = Import
 route_kind_at (suc (suc zero)) = Scheduler
 route_kind_at (suc (suc (suc n))) = Tick
 
--- the same behind the first slash
+-- the same patterns after the first slash
 abbrev behind_slash : Rows
 behind_slash =
     (codes "hosts/" ++ param_token ∷ [], 0) ∷ (codes "import/" ++ param_token ∷ 47 ∷ param_token ∷ [], 1)
@@ -50,7 +50,7 @@ found_number path =
     as_option (λ route. route.value) (first the_routes path) ∙ sym (first-rename (λ route. route.value) the_routes path)
     ∙ ap (λ rows. first rows path) (sym by_number) ∙ first-rename route_kind_at numbered path
 
--- the route by the number that was found
+-- the route of the number that was found
 abbrev route_by : Option ℕ → List ℕ → Option Route
 route_by number path = option_and_then (λ route_kind. route_at route_kind path) (map_key route_kind_at number)
 
@@ -146,7 +146,7 @@ import_around text (b ∷ w) behind whole none e = by (is_word behind) refl
     by true f = inr (ap (first two_parts) whole ∙ seek-two 1 b w behind none (word_part behind f))
     by false f = inl (e ∙ no_word (kind_of (b ∷ w)) behind f)
 
--- where an import is named, its row is found
+-- if an import is named, its row is found
 import_found : (text : List ℕ) → (import_of text ≡ None) ⊎ (first two_parts text ≡ Some 1)
 import_found text = by (nat_lt (position_or_len is_slash text) (length text)) refl
   where
@@ -167,7 +167,7 @@ import_by text path at =
     nothing None only none = sym none
     nothing (Some number) only none = ap (λ found. route_by found path) only ∙ at
 
--- the paths that go on with each letter
+-- the paths that continue with each letter
 at_hosts : (text : List ℕ) → route_by (first ((codes "osts/" ++ param_token ∷ [], 0) ∷ []) text) (47 ∷ 104 ∷ text) ≡ route_of (47 ∷ 104 ∷ text)
 at_hosts text = rw (first-prefix (codes "osts/") ((param_token ∷ [], 0) ∷ []) text (is_text (codes "osts/") refl)) (by (starts_with nat_eq text (codes "osts/")) refl)
   where

@@ -26,7 +26,7 @@ is_text (b ∷ w) h = (first_of (nat_lt b 256) _ h refl, is_text w (rest_of (nat
     rest_of true y h = h
     rest_of false y h = cc
 
--- where no row goes on with a parameter, the byte decides
+-- if no row continues with a parameter, the byte decides
 pub seek-byte : (rs : Rows) (b : ℕ) (path : List ℕ) → step param_token rs ≡ [] → step catch_all_token rs ≡ []
     → first rs (b ∷ path) ≡ first (step b rs) path
 unfolding seek
@@ -48,7 +48,7 @@ seek-literal (x ∷ w) k (b ∷ path) h =
     by true e ih = let f : (b == x) ≡ true = grind (arith, nat_tests) in rw (e, f) ih
     by false e ih = let f : (b == x) ≡ false = grind (arith, nat_tests) in rw (e, f) (seek-empty 0 path)
 
--- a row finds its own value or none
+-- a row finds its own value or nothing
 pub one_value : (w : List ℕ) (k : ℕ) (path : List ℕ) → first ((w, k) ∷ []) path ≡ map_key (λ _. k) (first ((w, k) ∷ []) path)
 one_value w k path = first-rename (λ _. k) ((w, k) ∷ []) path
 
@@ -124,7 +124,7 @@ param_to_slash k b w rest none =
     let taken : length ((b ∷ w) ++ 47 ∷ []) - 1 ≡ suc (length w) = omega (arith, count) in
     rw (suffix, whole, taken) refl
 
--- two parameters take what stands before the first slash, and behind it
+-- two parameters take what is before the first slash, and what is after it
 pub seek-two : (k b : ℕ) (w rest : List ℕ) → has_slash (b ∷ w) ≡ false → (nat_lt 0 (length rest) && not (list_any (λ b. b == 47) rest)) ≡ true
     → first ((param_token ∷ 47 ∷ param_token ∷ [], k) ∷ []) ((b ∷ w) ++ 47 ∷ rest) ≡ Some k
 unfolding seek

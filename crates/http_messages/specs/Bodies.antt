@@ -1,4 +1,4 @@
--- Promise. How long the body of a request is (RFC 9112, section 6): Content-Length alone tells it here.
+-- Promise. How long the body of a request is (RFC 9112, section 6): here only Content-Length gives it.
 use Rattle.std.specs.Prelude.{ℕ, nat_le, if◌then◌else◌, List, codes, Option, Some, None, Result, Ok, Err}
 use Rattle.rpc_records.specs.declared.fault.Fault.{Fault}
 use Rattle.rpc_records.specs.declared.fault.Fault.TheVariants.{BadHttp, LengthRequired, TooLarge}
@@ -8,7 +8,7 @@ use Rattle.http_messages.specs.RouteKinds.{most_bytes}
 use Rattle.http_messages.specs.declared.route_kind.RouteKind.{RouteKind}
 use Rattle.http_messages.specs.declared.route_kind.RouteKind.TheVariants.{Scheduler, Import, Tick, Hosts}
 
--- where no length is told, the body of a tick is empty
+-- if no length is given, the body of a tick is empty
 abbrev pub untold_length : RouteKind → Result ℕ Fault
 untold_length Scheduler = Err LengthRequired
 untold_length Import = Err LengthRequired
@@ -19,7 +19,7 @@ abbrev pub length_within : ℕ → Option ℕ → Result ℕ Fault
 length_within most None = Err BadHttp
 length_within most (Some bytes) = if nat_le bytes most then Ok bytes else Err TooLarge
 
--- the length by what is told of Content-Length
+-- the length, from what the fields Content-Length say
 abbrev pub told_length : RouteKind → Told → Result ℕ Fault
 told_length route_kind absent = untold_length route_kind
 told_length route_kind (once value) = length_within (most_bytes route_kind) (length_in value)
@@ -31,7 +31,7 @@ sent_length route_kind fields =
     if is_told (told (codes "transfer-encoding") fields) then Err LengthRequired
     else told_length route_kind (told (codes "content-length") fields)
 
--- the length of the body by the head's fields; of a GET none is read
+-- the length of the body, from the head's fields; the body of a GET is not read
 abbrev pub body_length : RouteKind → List (List ℕ × List ℕ) → Result ℕ Fault
 body_length Scheduler fields = sent_length Scheduler fields
 body_length Import fields = sent_length Import fields

@@ -14,8 +14,8 @@ use Rattle.http_messages.specs.RouteKinds.{method_text, method_of, needs_key}
 use Rattle.http_messages.specs.Routing as routing
 use Rattle.http_messages.specs.Routing.{Route, kind_of_route, path_of, route_of}
 
--- What a message asks for: a call of a host with its body; an import with its bytes; a tick; the statement of a host. Or the
--- route has another method, this one; or it is refused for another fault of its bytes.
+-- What a message asks for: a call of a host with its body; an import with its bytes; a tick; the statement of a host. Or the route takes
+-- another method, this one. Or the message is refused for another fault of its bytes.
 pub data Asked : Type 0 where
   call : (body : List ℕ) → Asked
   import : (kind : Kind) (batch text : List ℕ) → Asked
@@ -24,12 +24,12 @@ pub data Asked : Type 0 where
   wrong_method : (allowed : Method) → Asked
   refused : (fault : Fault) → Asked
 
--- What a head decides: what is asked, whatever stands behind it, or so much by its route and a body of so many bytes.
+-- What a head decides: either what is asked, with any bytes after it, or its route and a body of so many bytes.
 pub data Decision : Type 0 where
   at_once : (asked : Asked) → Decision
   with_body : (route : Route) (bytes : ℕ) → Decision
 
--- exactly one field tells a key, and it is the operator's
+-- exactly one field has a key, and it is the operator's
 abbrev pub is_key : List ℕ → Told → Bool
 is_key key absent = false
 is_key key (once value) = bytes_eq value key
@@ -42,7 +42,7 @@ abbrev pub decided_length : Route → Result ℕ Fault → Decision
 decided_length route (Err fault) = at_once (refused fault)
 decided_length route (Ok bytes) = with_body route bytes
 
--- on a route: the method, then the operator's key, then the length of the body
+-- on a route the checks are: the method, then the operator's key, then the length of the body
 abbrev pub decided_on : List ℕ → List ℕ → List (List ℕ × List ℕ) → Route → Decision
 decided_on key method fields route =
     if not (bytes_eq method (method_text (method_of (kind_of_route route)))) then at_once (wrong_method (method_of (kind_of_route route)))
@@ -53,7 +53,7 @@ abbrev pub decided_for : List ℕ → List ℕ → List (List ℕ × List ℕ) �
 decided_for key method fields None = at_once (refused NoRoute)
 decided_for key method fields (Some route) = decided_on key method fields route
 
--- by a head, where this is the operator's key
+-- what a head decides, if this is the operator's key
 abbrev pub decided : List ℕ → RequestHead → Decision
 decided key h = decided_for key h.method (map name_and_value h.fields) (route_of (path_of h.target))
 
@@ -68,17 +68,17 @@ asked_on (routing.import kind batch) body = import kind batch body
 asked_on routing.tick body = tick
 asked_on (routing.hosts id) body = statement_of (host_in id)
 
--- fewer bytes stand behind the head than those of the body
+-- there are fewer bytes after the head than the body has
 abbrev pub is_cut : Decision → List ℕ → Bool
 is_cut (at_once asked) rest = false
 is_cut (with_body route bytes) rest = nat_lt (length rest) bytes
 
--- how many bytes of the body do not stand behind the head
+-- how many bytes of the body are missing after the head
 abbrev pub missing : Decision → List ℕ → ℕ
 missing (at_once asked) rest = 0
 missing (with_body route bytes) rest = bytes - length rest
 
--- what is asked with these bytes behind the head; those behind the body are not looked at
+-- what is asked with these bytes after the head; those after the body are ignored
 abbrev pub asked_with : Decision → List ℕ → Asked
 asked_with (at_once asked) rest = asked
 asked_with (with_body route bytes) rest =

@@ -25,7 +25,7 @@ told_by [] = absent
 told_by (value ∷ []) = once value
 told_by (value ∷ other ∷ more) = often
 
--- what the fields of a name tell
+-- what the fields of a name say
 abbrev pub told : List ℕ → List (List ℕ × List ℕ) → Told
 told name fields = told_by (values_of name fields)
 
@@ -41,7 +41,7 @@ told_again absent value = once value
 told_again (once other) value = often
 told_again often value = often
 
--- what was found of a name
+-- what was found for a name
 abbrev pub found_told : Found → Told
 found_told found.Absent = absent
 found_told (found.Once value) = once value.now

@@ -15,31 +15,31 @@ head_limit = 8192
 abbrev pub field_limit : ℕ
 field_limit = 64
 
--- the bytes in which a head has room
+-- the bytes in which a head must fit
 abbrev pub head_room : List ℕ → List ℕ
 head_room bytes = take head_limit bytes
 
--- bytes begin with a head within the limits, and go on with the rest
+-- the bytes begin with a head within the limits, and this is the rest
 pub record IsHead (bytes : List ℕ) (h : RequestHead) (rest : List ℕ) : Type 0 where
   pub reads : ReadsRequest bytes h rest
   pub is_short : length (print_request h) ≤ head_limit
   pub has_room : length h.fields ≤ field_limit
 
--- they begin with none
+-- the bytes begin with no head
 abbrev pub HasNoHead : List ℕ → Type 0
 HasNoHead bytes = (h : RequestHead) (rest : List ℕ) → ¬ (IsHead bytes h rest)
 
--- nor will they, whatever follows
+-- the bytes begin with no head, and no further bytes can change that
 abbrev pub NeverHasHead : List ℕ → Type 0
 NeverHasHead bytes = (more : List ℕ) → HasNoHead (bytes ++ more)
 
--- they begin with none yet, have room for more, and are the beginning of some request
+-- the bytes begin with no head yet, are fewer than a head may have, and are the beginning of some request
 pub record AwaitsHead (bytes : List ℕ) : Type 0 where
   pub none : HasNoHead bytes
   pub room : length bytes < head_limit
   pub begins : MayBecomeRequest bytes
 
--- the spans in the room of a head are those of a head
+-- the spans in the room for a head are those of a head
 abbrev pub IsHeadAt : List ℕ → List HeaderSpan → RequestSpans → Type 0
 IsHeadAt bytes fields spans =
     (h : RequestHead) × IsHead bytes h (drop spans.len bytes) × IsRequestAt (head_room bytes) fields spans h

@@ -1,4 +1,4 @@
--- Words. What the code keeps of a decision, as the definitions have it.
+-- Words. A decision of the code, as the definitions have it.
 use Rattle.http_messages.specs.Deciding.{Decision, at_once, with_body}
 use Rattle.http_messages.specs.Meaning.{message_seen}
 use Rattle.http_messages.specs.Routing.{route_seen}

@@ -7,28 +7,28 @@ use Rattle.http_messages.specs.Heads.{IsHead, HasNoHead, AwaitsHead}
 use Rattle.http_messages.specs.declared.message.Message.{Message}
 use Rattle.http_messages.specs.declared.message.Message.TheVariants as message
 
--- where this is the operator's key, bytes ask for this: what their head and what stands behind it ask for, and where they
--- have no head they are refused
+-- Under this operator's key, the bytes ask for this. If they begin with a head, the head and the bytes after it decide. If they begin with
+-- none, they are refused.
 abbrev pub Means : List ℕ → List ℕ → Asked → Type 0
 Means key bytes asked =
     ((h : RequestHead) × (rest : List ℕ) × IsHead bytes h rest × (asked ≡ asked_with (decided key h) rest))
     ⊎ (HasNoHead bytes × (asked ≡ refused BadHttp))
 
--- they ask for it whatever follows
+-- the bytes ask for this, and no further bytes can change that
 abbrev pub IsSettled : List ℕ → List ℕ → Asked → Type 0
 IsSettled key bytes asked = (more : List ℕ) → Means key (bytes ++ more) asked
 
--- they are no whole message yet, and what follows may make them one: the head is not whole, or its body isn't
+-- the bytes are no whole message yet, and further bytes may make them one: the head is not whole, or its body is not
 abbrev pub Awaits : List ℕ → List ℕ → Type 0
 Awaits key bytes =
     AwaitsHead bytes
     ⊎ ((h : RequestHead) × (rest : List ℕ) × IsHead bytes h rest × IsTrue (is_cut (decided key h) rest))
 
--- so many bytes more have to come at the least: behind fewer they await more
+-- at least so many further bytes are needed: after fewer the bytes still await more
 abbrev pub Misses : List ℕ → List ℕ → ℕ → Type 0
 Misses key bytes count = (more : List ℕ) → length more < count → Awaits key (bytes ++ more)
 
--- and behind a whole head no more than these: with them they mean something whatever follows
+-- after a whole head so many bytes are enough: with them the bytes mean something that no further bytes can change
 abbrev pub MissesNoMore : List ℕ → List ℕ → ℕ → Type 0
 MissesNoMore key bytes count = (h : RequestHead) (rest more : List ℕ) → IsHead bytes h rest → count ≤ length more
     → (asked : Asked) × IsSettled key (bytes ++ more) asked

@@ -4,11 +4,11 @@ use Rattle.std.specs.Char.{is_ascii_digit}
 use Rattle.std.specs.List.{list_all}
 use Rattle.std.specs.Str.Parse.{digits_value}
 
--- some bytes, each a digit
+-- at least one byte, and each is a digit
 abbrev pub are_digits : List ℕ → Bool
 are_digits text = nat_lt 0 (length text) && list_all is_ascii_digit text
 
--- the number that digits say, where it is below 2^64
+-- the number that digits say, if it is below 2^64
 abbrev pub number_in : List ℕ → Option ℕ
 number_in text = if are_digits text && nat_lt (digits_value 10 text) (2 ^ 64) then Some (digits_value 10 text) else None
 
@@ -16,7 +16,7 @@ number_in text = if are_digits text && nat_lt (digits_value 10 text) (2 ^ 64) th
 abbrev pub length_in : List ℕ → Option ℕ
 length_in text = if are_digits text && nat_le (length text) 10 then Some (digits_value 10 text) else None
 
--- no zero stands in front
+-- the text does not begin with a zero
 abbrev pub begins_above_zero : List ℕ → Bool
 begins_above_zero [] = false
 begins_above_zero (digit ∷ digits) = nat_lt 48 digit

@@ -10,14 +10,14 @@ abbrev pub method_text : Method → List ℕ
 method_text Get = codes "GET"
 method_text Post = codes "POST"
 
--- the one method that it has
+-- the one method that it takes
 abbrev pub method_of : RouteKind → Method
 method_of Scheduler = Post
 method_of Import = Post
 method_of Tick = Post
 method_of Hosts = Get
 
--- it is the operator's alone
+-- only the operator may use it
 abbrev pub needs_key : RouteKind → Bool
 needs_key Scheduler = false
 needs_key Import = true

@@ -11,7 +11,7 @@ use Rattle.http_messages.specs.Routing.{Route, scheduler, tick, hosts, import_of
 use Rattle.http_messages.specs.declared.route_kind.RouteKind.{RouteKind}
 use Rattle.http_messages.specs.declared.route_kind.RouteKind.TheVariants.{Scheduler, Import, Tick, Hosts}
 
--- routes with one more, where its text is one of a route
+-- the routes with one more, if its text is that of a route
 abbrev pub with_route : Result Scan InsertError → RouteKind → RowsOf (RouteOf RouteKind) → RowsOf (RouteOf RouteKind)
 with_route (Ok scan) route_kind rows = placed (scan.pattern, route_from scan route_kind) rows
 with_route (Err e) route_kind rows = rows
@@ -27,7 +27,7 @@ the_routes =
 abbrev pub found_route_kind : List ℕ → Option RouteKind
 found_route_kind path = option_map (λ route. route.value) (first the_routes path)
 
--- the route of a kind, by what the path names
+-- the route of a kind, from what the path names
 abbrev pub route_at : RouteKind → List ℕ → Option Route
 route_at Scheduler path = Some scheduler
 route_at Import path = if starts_with nat_eq path (codes "/import/") then import_of (drop 8 path) else None

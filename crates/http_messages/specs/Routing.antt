@@ -30,7 +30,7 @@ path_of target = before_first (λ b. b == 63) target
 abbrev pub is_slash : ℕ → Bool
 is_slash b = b == 47
 
--- one part of a path: some bytes, none a slash
+-- one part of a path: at least one byte, and no slash
 abbrev pub is_part : List ℕ → Bool
 is_part text = nat_lt 0 (length text) && not (list_any is_slash text)
 

@@ -30,7 +30,7 @@ fn length_within(most: usize, length: Option<u64>) -> Result<usize, Fault>
     }
 }
 
-/// The length by what is told of Content-Length.
+/// The length, from what the fields Content-Length say.
 fn told_length(route_kind: RouteKind, found: Found<'_>) -> Result<usize, Fault>
     ensures { result ≡ spec.told_length route_kind (found_told found.entry) }
 {
@@ -41,7 +41,7 @@ fn told_length(route_kind: RouteKind, found: Found<'_>) -> Result<usize, Fault>
     }
 }
 
-/// The length of the body that the fields at `spans` in `front` tell, or the first refusal that they get.
+/// The length of the body that the fields at `spans` in `front` give, or the first refusal that they get.
 pub(crate) fn body_length(
     route_kind: RouteKind,
     front: &[u8],

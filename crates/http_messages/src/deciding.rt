@@ -1,4 +1,4 @@
-//! What a head decides, and what is asked with what stands behind it.
+//! What a head decides, and what is asked with the bytes after it.
 
 ghost use Rattle.std.specs.Prelude.{◌≡◌, length, map, All, option_map};
 ghost use Rattle.std.specs.Str.{bytes_eq};
@@ -22,14 +22,14 @@ use rpc_records::Fault;
 /// What a head decides.
 #[derive(Clone, Copy)]
 pub(crate) enum Decision<'b> {
-    /// What is asked, whatever stands behind the head.
+    /// What is asked, with any bytes after the head.
     AtOnce(Message<'b>),
     /// The route, and the length of the body.
     WithBody(Route<'b>, usize),
 }
 
 impl<'b> Decision<'b> {
-    /// How many bytes of the body do not stand behind the head.
+    /// How many bytes of the body are missing after the head.
     pub(crate) fn missing(self, rest: &[u8]) -> usize
         ensures { result ≡ spec.missing (decision_seen self.entry) rest.now }
     {
@@ -39,7 +39,7 @@ impl<'b> Decision<'b> {
         }
     }
 
-    /// What is asked with these bytes behind the head.
+    /// What is asked with these bytes after the head.
     pub(crate) fn message(self, rest: &'b [u8]) -> Message<'b>
         ensures { message_seen result ≡ spec.asked_with (decision_seen self.entry) rest.now }
     {
@@ -70,7 +70,7 @@ fn message_on<'b>(route: Route<'b>, body: &'b [u8]) -> Message<'b>
     }
 }
 
-/// Whether two texts are the same, in a time that tells their lengths alone.
+/// Whether two texts are the same. The time depends only on their lengths.
 fn is_same_text(text: &[u8], key: &[u8]) -> bool
     ensures { result ≡ bytes_eq text.now key.now }
 {
@@ -84,7 +84,7 @@ fn is_same_text(text: &[u8], key: &[u8]) -> bool
     are_same
 }
 
-/// Whether exactly one field tells a key, and it is the operator's.
+/// Whether exactly one field has a key, and it is the operator's.
 fn is_operator(key: &[u8], front: &[u8], spans: &[HeaderSpan]) -> bool
     requires { All (IsHeaderWithin (length front.now)) spans.now }
     ensures { result ≡ spec.is_operator key.now (map (header_bytes front.now) spans.now) }
@@ -129,7 +129,7 @@ fn decide_on<'b>(
     }
 }
 
-/// What the method and the fields of a head decide, where its path has this route or none.
+/// What the method and the fields of a head decide, if its path has this route or none.
 pub(crate) fn decide_for<'b>(
     key: &[u8],
     method: &[u8],

@@ -6,7 +6,7 @@ ghost use Rattle.http_messages.specs.Fields as spec;
 
 use httparse::spans::HeaderSpan;
 
-/// What the fields of one name tell.
+/// What the fields of one name say.
 #[derive(Clone, Copy)]
 pub(crate) enum Found<'b> {
     /// There is none.
@@ -18,7 +18,7 @@ pub(crate) enum Found<'b> {
 }
 
 impl<'b> Found<'b> {
-    /// With one more field of the name.
+    /// The same with one more field of the name.
     fn and(self, value: &'b [u8]) -> Found<'b>
         ensures { spec.found_told result ≡ spec.told_again (spec.found_told self.entry) value.now }
     {
@@ -43,7 +43,7 @@ fn is_same_name(name: &[u8], other: &[u8]) -> bool
     name.eq_ignore_ascii_case(other)
 }
 
-/// What the fields of `name` tell, among those at `spans` in `front`.
+/// What the fields of `name` say, among those at `spans` in `front`.
 pub(crate) fn find<'b>(front: &'b [u8], spans: &[HeaderSpan], name: &[u8]) -> Found<'b>
     requires { All (IsHeaderWithin (length front.now)) spans.now }
     ensures { spec.found_told result ≡ spec.told name.now (map (header_bytes front.now) spans.now) }

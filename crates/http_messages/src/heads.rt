@@ -12,17 +12,17 @@ const MOST_HEAD_BYTES: usize = 8_192;
 /// The most fields of a head.
 pub(crate) const MOST_FIELDS: usize = 64;
 
-/// What stands at the front of bytes.
+/// What the bytes begin with.
 pub(crate) enum HeadRead {
     /// A head, with its parts at these places.
     Whole(RequestSpans),
-    /// None yet; what follows may make one.
+    /// None yet; further bytes may make one.
     Partial,
-    /// None, whatever follows.
+    /// None, and no further bytes can change that.
     Refused,
 }
 
-/// The bytes in which a head has room.
+/// The bytes in which a head must fit.
 pub(crate) fn head_room(bytes: &[u8]) -> &[u8]
     ensures { result.now ≡ spec.head_room bytes.now }
 {
@@ -33,7 +33,7 @@ pub(crate) fn head_room(bytes: &[u8]) -> &[u8]
     }
 }
 
-/// Looks for a head at the front of `bytes`, and writes where its fields are to the front of `fields`.
+/// Looks for a head at the start of `bytes`, and writes the places of its fields to the start of `fields`.
 pub(crate) fn read_head(bytes: &[u8], fields: &mut [HeaderSpan]) -> HeadRead
     requires { length fields.old ≡ spec.field_limit }
     ensures { spec.HeadReadSays bytes.now fields.new result }

@@ -1,4 +1,4 @@
-//! The hearing of a request: what its bytes mean, as far as they came.
+//! What the bytes of a request mean, as far as they have come.
 
 ghost use Rattle.std.specs.Prelude.{◌≡◌};
 ghost use Rattle.httparse.specs.Grammar.{RequestHead};
@@ -18,7 +18,7 @@ use matchit::Router;
 use rpc_records::Fault;
 use texts::utf8_text;
 
-/// What the head in `front` decides whose parts are at these spans.
+/// What the head in `front` decides, if its parts are at these spans.
 fn decide<'b>(
     router: &Router<RouteKind>,
     key: &[u8],
@@ -44,17 +44,17 @@ fn decide<'b>(
     }
 }
 
-/// What the bytes that came so far mean, where `key` is the operator's, and how many are missing at the least before they
-/// mean something whatever follows.
+/// Returns what the bytes that came so far mean, if `key` is the operator's. Also returns how many more are needed at
+/// least before no further bytes can change that.
 ///
-/// The checks come in this order, and the first that fails tells the refusal: the head, the route, the method, the
-/// operator's key on its routes, the length of the body, and whether the body is whole. What a path names is looked at
-/// with the route, but for a host's number, which comes last.
+/// The first check that fails gives the refusal. The checks come in this order: the head, the route, the method, the
+/// operator's key on its routes, the length of the body, and whether the body is whole. What a path names is checked
+/// with the route, except a host's number, which comes last.
 ///
-/// Where none is missing they mean the same whatever follows. Where some are, they await more: as long as the peer goes on,
-/// they are to be heard again with what it sends, once that is so many bytes. Of a whole head these are the rest of its
-/// body; a head that is not whole misses one byte at the least. Once the peer has stopped they mean what is told here, which
-/// for a request that is cut short is [`Fault::BadHttp`].
+/// If none is missing, no further bytes can change the meaning. If some are missing, the bytes await more: as long as
+/// the peer sends, they must be heard again once so many more have come. If the head is whole, these are the rest of
+/// its body. If it is not, at least one byte is missing. Once the peer has stopped, the bytes mean what is returned
+/// here. For a request that is cut short, that is [`Fault::BadHttp`].
 pub fn hear<'b>(router: &Router<RouteKind>, key: &[u8], bytes: &'b [u8]) -> Heard<'b>
     requires { router.now ≡ the_routes }
     ensures meaning { Means key.now bytes.entry.now (message_seen result.message) }

@@ -1,7 +1,7 @@
 //! What the bytes of a request mean.
 //!
-//! [`hear`] takes the bytes that a peer sent so far. It tells the message that they are, and how many bytes are missing
-//! at the least before they stay that message whatever follows. `specs/` says what bytes mean, check by check in their
+//! [`hear`] takes the bytes that a peer has sent so far. It returns the message that they are, and how many more are
+//! needed at least before no further bytes can change that. `specs/` says what bytes mean, check by check in their
 //! order; [`laws`] are the theorems.
 #![tactic(auto)]
 

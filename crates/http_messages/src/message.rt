@@ -15,11 +15,11 @@ pub enum Message<'b> {
         batch: &'b str,
         text: &'b [u8],
     },
-    /// A tick: late jobs are to lapse.
+    /// A tick, at which late jobs lapse.
     Tick,
     /// The statement of the host of this number.
     Statement(u32),
-    /// The route has another method, this one.
+    /// The route takes another method, this one.
     WrongMethod(Method),
     /// A refusal for any other fault of the bytes.
     Refused(Fault),
@@ -29,6 +29,6 @@ pub enum Message<'b> {
 #[derive(Clone, Copy)]
 pub struct Heard<'b> {
     pub message: Message<'b>,
-    /// How many bytes more have to come at the least before they may mean something whatever follows: 0 where they do.
+    /// How many more bytes are needed at least before no further bytes can change the message; 0 if none can.
     pub missing: usize,
 }

@@ -17,14 +17,14 @@ fn are_all_digits(text: &[u8]) -> bool
     text.iter().all(|byte| byte.is_ascii_digit())
 }
 
-/// Whether there are some bytes, each a digit.
+/// Whether there is at least one byte, and each is a digit.
 fn are_digits(text: &[u8]) -> bool
     ensures { result ≡ spec.are_digits text.now }
 {
     0 < text.len() && are_all_digits(text)
 }
 
-/// The number that digits say, where it is below 2^64.
+/// The number that digits say, if it is below 2^64.
 fn number_in(text: &[u8]) -> Option<u64>
     ensures { result ≡ spec.number_in text.now }
 {
@@ -59,7 +59,7 @@ fn begins_above_zero(text: &[u8]) -> bool
     }
 }
 
-/// The number of a host, 1 to 2,147,483,647, that digits with no zero in front say.
+/// The number of a host, 1 to 2,147,483,647, that digits without a leading zero say.
 pub(crate) fn host_in(text: &[u8]) -> Option<u32>
     ensures { result ≡ spec.host_in text.now }
 {

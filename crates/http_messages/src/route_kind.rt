@@ -23,7 +23,7 @@ pub enum RouteKind {
 }
 
 impl RouteKind {
-    /// The one method that it has.
+    /// The one method that it takes.
     pub(crate) fn method(self) -> Method
         ensures { result ≡ spec.method_of self }
     {
@@ -33,7 +33,7 @@ impl RouteKind {
         }
     }
 
-    /// Whether it is the operator's alone.
+    /// Whether only the operator may use it.
     pub(crate) fn needs_key(self) -> bool
         ensures { result ≡ spec.needs_key self }
     {

@@ -22,7 +22,7 @@ pub(crate) enum Route<'b> {
 }
 
 impl<'b> Route<'b> {
-    /// Without what the path names.
+    /// Its kind, without what the path names.
     pub(crate) fn kind(self) -> RouteKind
         ensures { result ≡ spec.kind_of_route (spec.route_seen self.entry) }
     {
@@ -39,7 +39,7 @@ impl<'b> Route<'b> {
 ///
 /// # Errors
 ///
-/// Memory is wanting.
+/// There is no memory.
 pub fn new_router(alloc: Global) -> Result<Router<RouteKind>, InsertError>
     ensures { IfOk result (λ router. router ≡ the_routes) }
 {
@@ -88,7 +88,7 @@ fn import_with(kind: Option<Kind>, batch: &[u8]) -> Option<Route<'_>>
     }
 }
 
-/// The route of an import, by what stands behind `/import/`.
+/// The route of an import, from what follows `/import/`.
 fn import_of(text: &[u8]) -> Option<Route<'_>>
     ensures { option_map spec.route_seen result ≡ spec.import_of text.now }
 {
@@ -98,7 +98,7 @@ fn import_of(text: &[u8]) -> Option<Route<'_>>
     }
 }
 
-/// The route of a kind, by what the path names.
+/// The route of a kind, from what the path names.
 fn route_at<'b>(route_kind: RouteKind, path: &'b [u8]) -> Option<Route<'b>>
     ensures { option_map spec.route_seen result ≡ routers.route_at route_kind path.now }
 {
@@ -127,7 +127,7 @@ fn found_route<'b>(router: &Router<RouteKind>, path: &'b str) -> Option<Route<'b
     }
 }
 
-/// The route of a path, where it has one.
+/// The route of a path, if it has one.
 pub(crate) fn route_of<'b>(router: &Router<RouteKind>, path: &'b str) -> Option<Route<'b>>
     requires { router.now ≡ the_routes }
     ensures { option_map spec.route_seen result ≡ spec.route_of path.now }

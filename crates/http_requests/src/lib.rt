@@ -1,4 +1,5 @@
-//! The messages of HTTP (RFC 9112) that the program makes itself: of the lines of a replay, and of an operator's commands.
+//! The messages of HTTP (RFC 9112) that the program makes itself, for the lines of a replay and for an operator's
+//! commands.
 //!
 //! `docs/PROFILE.md` states what each of them asks for.
 #![tactic(auto)]
@@ -10,7 +11,7 @@ ghost use Rattle.http_requests.specs.Requests as spec;
 use std::alloc::Global;
 use texts::Memory;
 
-/// A head, and then a body.
+/// Joins a head and a body.
 fn with_body(head: String, body: &[u8]) -> Result<Vec<u8>, Memory>
     ensures { IfOk result (λ message. message.items ≡ string_bytes head ++ body.now) }
 {
@@ -51,14 +52,14 @@ fn statement_head(alloc: Global, key: &str, host: &str) -> Result<String, Memory
     format!(in alloc; "GET /hosts/{host} HTTP/1.1\r\nx-operator-key: {key}\r\n\r\n")
 }
 
-/// The message with this body to the scheduler.
+/// Returns the message to the scheduler with this body.
 pub fn call_request(alloc: Global, body: &[u8]) -> Result<Vec<u8>, Memory>
     ensures { IfOk result (λ message. message.items ≡ spec.call_request body.now) }
 {
     with_body(call_head(alloc, body.len())?, body)
 }
 
-/// The message that imports a batch of a kind, with the operator's key.
+/// Returns the message that imports a batch of a kind, with the operator's key.
 pub fn import_request(
     alloc: Global,
     key: &str,
@@ -71,14 +72,14 @@ pub fn import_request(
     with_body(import_head(alloc, key, kind, batch, text.len())?, text)
 }
 
-/// The message that lets time go by, with the operator's key.
+/// Returns the message of a tick, with the operator's key.
 pub fn tick_request(alloc: Global, key: &str) -> Result<Vec<u8>, Memory>
     ensures { IfOk result (λ message. message.items ≡ spec.tick_request key.now) }
 {
     Ok(tick_head(alloc, key)?.into_bytes())
 }
 
-/// The message that asks for the statement of the host of this number, with the operator's key.
+/// Returns the message that asks for the statement of the host of this number, with the operator's key.
 pub fn statement_request(alloc: Global, key: &str, host: &str) -> Result<Vec<u8>, Memory>
     ensures { IfOk result (λ message. message.items ≡ spec.statement_request key.now host.now) }
 {

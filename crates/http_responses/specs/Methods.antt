@@ -1,4 +1,4 @@
--- Rule. The methods that routes have.
+-- Rule. The methods that routes take.
 use Rattle.std.specs.Prelude.{ℕ, List, codes}
 use Rattle.http_responses.specs.declared.method.Method.{Method}
 use Rattle.http_responses.specs.declared.method.Method.TheVariants.{Get, Post}

@@ -24,17 +24,17 @@ status_line status = codes "HTTP/1.1 " ++ (code_digits status ++ (codes " " ++ (
 unfoldable pub field_line : (name value : List ℕ) → List ℕ
 field_line name value = name ++ (codes ": " ++ (value ++ codes "\r\n"))
 
--- What a body is written in. (RFC 8259, section 11, and RFC 4180, section 3.)
+-- The media type of a body. (RFC 8259, section 11, and RFC 4180, section 3.)
 abbrev pub media_type : Media → List ℕ
 media_type Json = codes "application/json"
 media_type Csv = codes "text/csv"
 
--- Which method the target allows, where another one came. (RFC 9110, section 10.2.1.)
+-- Which method the target allows, if another one came. (RFC 9110, section 10.2.1.)
 abbrev pub allow_line : Option Method → List ℕ
 allow_line None = []
 allow_line (Some allowed) = field_line (codes "allow") (method_name allowed)
 
--- All that stands before a body of this size. (RFC 9112, sections 2.1, 6.2 and 9.6.)
+-- Everything before a body of this size. (RFC 9112, sections 2.1, 6.2 and 9.6.)
 unfoldable pub head_text : (status : ℕ) (allow : Option Method) (media : Media) (size : ℕ) → List ℕ
 head_text status allow media size =
     status_line status
@@ -44,7 +44,7 @@ head_text status allow media size =
     ++ (field_line (codes "connection") (codes "close")
     ++ codes "\r\n"))))
 
--- All that stands before the body of a response.
+-- Everything before the body of a response.
 abbrev pub head_of : Response → List ℕ
 head_of response = head_text response.status response.allow response.media (length response.body)
 
@@ -66,6 +66,6 @@ statement_response body = record { status = 200; allow = None; media = Csv; body
 abbrev pub refusal_response : Fault → Response
 refusal_response fault = record { status = status_of fault; allow = None; media = Json; body = fault_text_of fault }
 
--- The refusal of a method, where the target allows another.
+-- The refusal of a method, if the target allows another.
 abbrev pub wrong_method_response : Method → Response
 wrong_method_response allowed = record (refusal_response WrongMethod) { allow = Some allowed }

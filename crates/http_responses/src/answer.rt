@@ -1,4 +1,4 @@
-//! What a message is answered with.
+//! The answer to a message.
 
 ghost use Rattle.std.specs.Prelude.{◌≡◌, IfOk};
 ghost use Rattle.http_responses.specs.Responses.{head_of};
@@ -12,10 +12,10 @@ use rpc_records::unavailable_text;
 use std::alloc::Global;
 use texts::Memory;
 
-/// What a message is answered with.
+/// The answer to a message.
 #[derive(Drop)]
 pub enum Answer {
-    /// Memory, size or disk is wanting. The response that tells it takes no memory.
+    /// There is not enough memory or disk, or a size is too large. Its response needs no memory.
     Unavailable,
     Response(Response),
 }
@@ -31,7 +31,7 @@ impl Answer {
         }
     }
 
-    /// What the body of its response is written in.
+    /// The media type of its response's body.
     pub fn media(&self) -> Media
         ensures { result ≡ (response_of self.now).media }
     {
@@ -41,7 +41,7 @@ impl Answer {
         }
     }
 
-    /// All that stands before the body of its response.
+    /// Everything before the body of its response.
     pub fn head(&self) -> Head
         ensures { result.bytes ≡ head_of (response_of self.now) }
     {
@@ -66,11 +66,11 @@ impl Answer {
         }
     }
 
-    /// All bytes of its response: its head, and its body behind it.
+    /// All bytes of its response: its head, and then its body.
     ///
     /// # Errors
     ///
-    /// Want of memory.
+    /// There is no memory.
     #[tactic(auto, unfolding(crate::specs::Responses::response_text))]
     pub fn bytes(&self, alloc: Global) -> Result<Vec<u8>, Memory>
         ensures { IfOk result (λ bytes. bytes.items ≡ answer_bytes self.now) }

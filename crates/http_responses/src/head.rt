@@ -1,4 +1,4 @@
-//! What stands before the body of a response.
+//! Everything before the body of a response.
 
 ghost use Rattle.std.specs.Prelude.{◌≡◌, ◌+◌, ◌≤◌, ◌++◌, length};
 ghost use Rattle.arrayvec.specs.ArrayString.{array_string_len};
@@ -13,7 +13,7 @@ use itoa::Buffer;
 /// The most bytes before a body.
 const MOST_HEAD_BYTES: usize = 192;
 
-/// All that stands before a body, which takes no memory.
+/// Everything before a body. It needs no memory.
 pub type Head = ArrayString<MOST_HEAD_BYTES>;
 
 /// The head of a response whose body has `size` bytes.
@@ -69,7 +69,7 @@ fn put_field(head: &mut Head, name: &str, value: &str)
     head.push_str("\r\n");
 }
 
-/// The phrase of a status code; nothing where it has none.
+/// The phrase of a status code; empty if it has none.
 fn phrase(status: StatusCode) -> &'static str
     ensures value { result.now ≡ phrase_of status }
     ensures short { length result.now ≤ 40 }

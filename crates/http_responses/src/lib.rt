@@ -1,10 +1,10 @@
 //! The answers to HTTP messages, and their bytes.
 //!
-//! A [`Response`] is a status, what its body is written in, and the body; [`Response::head`] is all that stands before
-//! the body. A status line comes first, then the fields `allow` (where another method came), `content-type`,
-//! `content-length` and `connection: close`, and an empty line. Each line ends with CR LF (RFC 9112).
+//! A [`Response`] is a status, the media type of its body, and the body; [`Response::head`] is everything before the
+//! body. A status line comes first, then the fields `allow` (if another method came), `content-type`, `content-length`
+//! and `connection: close`, and an empty line. Each line ends with CR LF (RFC 9112).
 //!
-//! An [`Answer`] can be given without memory: [`Answer::Unavailable`] is the response that tells of its want.
+//! An [`Answer`] can be given without memory: [`Answer::Unavailable`] is the response to a lack of it.
 #![tactic(auto)]
 
 pub mod answer;

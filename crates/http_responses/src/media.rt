@@ -1,9 +1,9 @@
-//! What bodies are written in.
+//! The media types of bodies.
 
 ghost use Rattle.std.specs.Prelude.{◌≡◌, ◌≤◌, length};
 ghost use Rattle.http_responses.specs.Responses.{media_type};
 
-/// What a body is written in.
+/// The media type of a body.
 #[derive(Clone, Copy)]
 pub enum Media {
     /// JSON (RFC 8259).

@@ -3,7 +3,7 @@
 ghost use Rattle.std.specs.Prelude.{◌≡◌, ◌≤◌, length};
 ghost use Rattle.http_responses.specs.Methods.{method_name};
 
-/// A method that a route has.
+/// A method that a route takes.
 #[derive(Clone, Copy)]
 pub enum Method {
     Get,

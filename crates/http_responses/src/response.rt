@@ -16,14 +16,14 @@ use texts::{Memory, Text};
 #[derive(Drop)]
 pub struct Response {
     pub status: StatusCode,
-    /// The method that the target allows, where another one came.
+    /// The method that the target allows, if another one came.
     pub allow: Option<Method>,
     pub media: Media,
     pub body: Text,
 }
 
 impl Response {
-    /// A good answer, which is JSON.
+    /// Returns a good answer, which is JSON.
     pub fn good(body: Text) -> Response
         ensures { result ≡ good_response body }
     {
@@ -35,7 +35,7 @@ impl Response {
         }
     }
 
-    /// A host's statement, which is comma-separated values.
+    /// Returns a host's statement, which is comma-separated values.
     pub fn statement(body: Text) -> Response
         ensures { result ≡ statement_response body }
     {
@@ -47,7 +47,7 @@ impl Response {
         }
     }
 
-    /// A refusal. The method that a target allows is told by [`Response::wrong_method`].
+    /// Returns a refusal. [`Response::wrong_method`] names the method that a target allows.
     pub fn refusal(alloc: Global, fault: Fault) -> Result<Response, Memory>
         ensures { IfOk result (λ response. response ≡ refusal_response fault) }
     {
@@ -60,7 +60,7 @@ impl Response {
         })
     }
 
-    /// The refusal of a method, where the target allows another.
+    /// Returns the refusal of a method, if the target allows another.
     pub fn wrong_method(alloc: Global, allowed: Method) -> Result<Response, Memory>
         ensures { IfOk result (λ response. response ≡ wrong_method_response allowed) }
     {
@@ -71,7 +71,7 @@ impl Response {
         })
     }
 
-    /// All that stands before the body.
+    /// Everything before the body.
     pub fn head(&self) -> Head
         ensures { result.bytes ≡ head_of self.now }
     {

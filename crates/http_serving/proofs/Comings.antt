@@ -9,17 +9,17 @@ use Rattle.http_serving.specs.Serving.{Comes}
 pub Comes-none : (wanting : List ℕ → Type 0) (a : Option (List ℕ)) → Comes wanting a a []
 Comes-none wanting a = (Consumes-nil a, inl refl)
 
--- one read more, which was wanted
+-- one more read, which was wanted
 pub Comes-more : (wanting : List ℕ → Type 0) (a b c : Option (List ℕ)) (front last : List ℕ)
     → Comes wanting a b front → Gives b c last → wanting front → Comes wanting a c (front ++ last)
 Comes-more wanting a b c front last came gave wanted =
     (Consumes-trans a b c front last came.0 gave.0, inr (front, last, refl, gave.1, wanted))
 
--- where some bytes are missing, something is wanting now
+-- if some bytes are missing, the bytes await more now
 pub Misses-now : (wanting : List ℕ → Type 0) (bytes : List ℕ) (count : ℕ) → Misses wanting bytes count → 0 < count → wanting bytes
 Misses-now wanting bytes count missed some = subst wanting (append-nil bytes) (missed [] some)
 
--- those that came are no longer missing
+-- bytes that came are no longer missing
 pub Misses-less : (wanting : List ℕ → Type 0) (bytes last : List ℕ) (count : ℕ)
     → Misses wanting bytes count → Misses wanting (bytes ++ last) (count - length last)
 Misses-less wanting bytes last count missed more few =

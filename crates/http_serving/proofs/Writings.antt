@@ -1,4 +1,4 @@
--- Bytes that go out in several writes.
+-- Bytes that are written in several writes.
 use Rattle.std.proofs.Common.{◌≡◌, ℕ, ◌+◌, List, [], ◌++◌, take, drop, sym, ap, ap₂, ◌∙◌, subst, append-nil, append_assoc, take-append-drop}
 use Rattle.std.proofs.KnownBytes.{Appends-trans, Appends-kept}
 use Rattle.std.proofs.Math.Seq.{take-add}
@@ -9,7 +9,7 @@ use Rattle.http_responses.specs.Responses.{head_of, response_text}
 use Rattle.http_responses.specs.declared.answer.Answer.{Answer}
 use Rattle.http_serving.specs.Streams.{WentOut}
 
--- one write more
+-- one more write
 pub Appends-more : (a b c : Option (List ℕ)) (bytes : List ℕ) (n m : ℕ)
     → Appends a b (take n bytes) → Appends b c (take m (drop n bytes)) → Appends a c (take (n + m) bytes)
 Appends-more a b c bytes n m first next =
@@ -31,12 +31,12 @@ pub answer-parts : (answer : Answer) (head body : List ℕ) → head ≡ head_of
 unfolding response_text
 answer-parts answer head body is_head is_body = ap₂ (λ (x y : List ℕ). x ++ y) (sym is_head) (sym is_body)
 
--- the head went out, and the front of the body
+-- the head was written, and a front of the body
 pub WentOut-behind : (a b c : Option (List ℕ)) (head body all : List ℕ) → all ≡ head ++ body → Appends a b head → WentOut b c body → WentOut a c all
 WentOut-behind a b c head body all is first next =
     (head ++ next.0, next.1, is ∙ ap (λ (t : List ℕ). head ++ t) next.2 ∙ sym (append_assoc head next.0 next.1), Appends-trans a b c head next.0 first next.3)
 
--- the front of the head went out
+-- a front of the head was written
 pub WentOut-within : (a b : Option (List ℕ)) (head body all : List ℕ) → all ≡ head ++ body → WentOut a b head → WentOut a b all
 WentOut-within a b head body all is first =
     (first.0, first.1 ++ body, is ∙ ap (λ (t : List ℕ). t ++ body) first.2 ∙ append_assoc first.0 first.1 body, first.3)

@@ -10,7 +10,7 @@ use Rattle.http_serving.specs.declared.streams.StreamFault.TheVariants as fault
 abbrev pub MayRead : Option (List ℕ) → Option (List ℕ) → Type 0
 MayRead before after = (bytes : List ℕ) × Consumes before after bytes
 
--- why a call of a stream gave or took nothing, by the kind of its error
+-- why a call of a stream gave or took nothing, from the kind of its error
 abbrev pub fault_of : ErrorKind → StreamFault
 fault_of Interrupted = fault.Interrupted
 fault_of _ = fault.Failed

@@ -1,12 +1,12 @@
--- Rule. What became of a stream.
+-- Rule. What happened to a stream.
 use Rattle.std.specs.Prelude.{◌≡◌, ℕ, zero, suc, List, ◌++◌, Option}
 use Rattle.std.specs.Io.KnownBytes.{Appends}
 
--- So many calls, one after another, led from one state to the other.
+-- So many calls, one after another, led from the first state to the second.
 unfoldable pub Calls : {S : Type 0} → (S → S → Type 0) → ℕ → S → S → Type 0
 Calls step zero before after = before ≡ after
 Calls step (suc n) before after = (between : _) × Calls step n before between × step between after
 
--- The front of the answer went out: all of it, or as far as the writer took it.
+-- A front of the answer was written: all of it, or as far as the writer took it.
 abbrev pub WentOut : Option (List ℕ) → Option (List ℕ) → List ℕ → Type 0
 WentOut before after answer = (front : List ℕ) × (rest : List ℕ) × (answer ≡ front ++ rest) × Appends before after front

@@ -1,7 +1,7 @@
 //! Sources and sinks of std's readers and writers: each call is one call of theirs.
 //!
-//! Of a call of `read` std's contracts say what it does to known bytes, and no more: not when it fails, nor that it was
-//! made. So these claim that, and nothing of failing.
+//! std's contracts say what a call of `read` does to known bytes, and no more: neither when it fails nor that it was
+//! made. So these promise the same, and nothing about failing.
 
 ghost use Rattle.std.specs.Prelude.{◌≡◌, ⊤};
 ghost use Rattle.std.specs.IoError.{error_kind};

@@ -8,7 +8,7 @@ use std::fmt;
 pub enum IoFault {
     /// The message was not read. Nothing was handled.
     Read,
-    /// The answer was not written, or not all of it. What was handled stands.
+    /// The answer was not written, or not all of it. What was handled stays.
     Write,
 }
 

@@ -9,17 +9,16 @@ use std::alloc::Global;
 
 /// What messages are handed to.
 pub trait Handler {
-    /// These bytes are a whole message, or will be none, whatever follows.
+    /// These bytes are a whole message, or can never be one; no further bytes change that.
     ghost settled: { Self → List ℕ → Type 0 };
 
-    /// What follows these bytes may matter.
+    /// Bytes after these may matter.
     ghost wanting: { Self → List ℕ → Type 0 };
 
     /// The state before, the moment, the message, the bytes of its answer, and the state after.
     ghost handles: { Self → ℕ → List ℕ → List ℕ → Self → Type 0 };
 
-    /// How many bytes more have to come at the least before these may be settled: 0 where they are, and no more is to be
-    /// read.
+    /// How many more bytes are needed at least before these may be settled. At 0 they are, and no more are read.
     fn missing(&self, bytes: &[u8]) -> usize
         ensures none { result ≡ 0 → settled self.now bytes.now }
         ensures some { Misses (wanting self.now) bytes.now result };

@@ -1,7 +1,7 @@
 //! One message, from the bytes of a reader to the bytes of a writer.
 //!
-//! [`serve_one`] reads as far as its [`Handler`] wants, hands the message over, and writes the answer. It knows a
-//! reader by [`Source`] and a writer by [`Sink`]; [`FromRead`] and [`FromWrite`] make them of std's.
+//! [`serve_one`] reads as far as its [`Handler`] wants, hands the message over, and writes the answer. A reader is a
+//! [`Source`] and a writer is a [`Sink`]; [`FromRead`] and [`FromWrite`] make them from std's.
 #![tactic(auto)]
 
 pub mod adapters;

@@ -1,4 +1,4 @@
-//! The reading of one message.
+//! Reading one message.
 
 ghost use Rattle.std.specs.Prelude.{◌≡◌, ◌<◌, ◌⊎◌, IfOk, OnErr};
 ghost use Rattle.http_serving.specs.Missing.{Misses};
@@ -13,7 +13,7 @@ use std::alloc::{AllocError, Global};
 /// The most bytes of one read.
 const CHUNK: usize = 4_096;
 
-/// The most turns in which one message is read. Each is one read, also where it is interrupted.
+/// The most turns in which one message is read. Each is one read, even if it is interrupted.
 const MOST_TURNS: u32 = 2_000_000;
 
 /// What was read.
@@ -24,10 +24,10 @@ pub(crate) enum Heard {
     NoRoom,
 }
 
-/// What one turn came to.
+/// The result of one turn.
 #[derive(Clone, Copy)]
 pub(crate) enum Turn {
-    /// So many bytes more; none where the read was interrupted.
+    /// So many more bytes; none if the read was interrupted.
     Gave(usize),
     End,
     /// There was no room for what it gave.
@@ -35,7 +35,8 @@ pub(crate) enum Turn {
     Failed,
 }
 
-/// Reads until the handler wants no more, or nothing follows. The handler is asked again once as many bytes came as it told.
+/// Reads until the handler wants no more, or there are no more bytes. The handler is asked again once as many bytes
+/// have come as it said.
 pub(crate) fn read_message<H: Handler, R: Source>(
     alloc: Global,
     service: &H,
@@ -63,7 +64,7 @@ pub(crate) fn read_message<H: Handler, R: Source>(
     Err(IoFault::Read)
 }
 
-/// How many bytes are missing, of which so many are known to be. Only where none is, the handler is asked.
+/// How many bytes are missing, if so many are known to be missing. The handler is asked only if none is known to be.
 fn still_missing<H: Handler>(service: &H, bytes: &[u8], known: usize) -> usize
     requires { Misses (H.wanting service.now) bytes.now known }
     ensures known { 0 < known → result ≡ known }
@@ -77,7 +78,7 @@ fn still_missing<H: Handler>(service: &H, bytes: &[u8], known: usize) -> usize
     }
 }
 
-/// One read, whose bytes are put behind the others.
+/// Makes one read, and adds its bytes after the others.
 fn read_turn<R: Source>(reader: &mut R, bytes: &mut Vec<u8>) -> Turn
     ensures says { TurnSays (R.has_failed reader.new) (R.left reader.old) (R.left reader.new) bytes.old.items bytes.new.items result }
     ensures step { R.steps reader.old reader.new }

@@ -1,4 +1,4 @@
-//! The serving of one message.
+//! Serving one message.
 
 ghost use Rattle.std.specs.Prelude.{◌≡◌, ◌⊎◌, ℕ, List, IsErrOf, OnOk, OnErr};
 ghost use Rattle.std.specs.Io.KnownBytes.{Appends};
@@ -15,10 +15,10 @@ use std::alloc::Global;
 
 /// Reads one message as far as `service` wants, hands it over, and writes the answer.
 ///
-/// Where there is no room for the message nothing is handled, and the answer says so. At [`IoFault::Read`] nothing is
-/// handled and nothing written: a read failed, or 2,000,000 reads were made, of which an interrupted one is one. At
-/// [`IoFault::Write`] a write failed, was interrupted, or took nothing: what was handled stands, and a front of the
-/// answer went out.
+/// If there is no room for the message, nothing is handled, and the answer says so. At [`IoFault::Read`] nothing is
+/// handled and nothing written: a read failed, or 2,000,000 reads were made, interrupted ones included. At
+/// [`IoFault::Write`] a write failed, was interrupted, or took nothing: what was handled stays, and a front of the
+/// answer was written.
 pub fn serve_one<H: Handler, R: Source, W: Sink>(
     alloc: Global,
     service: &mut H,

@@ -10,9 +10,9 @@ use std::fmt;
 /// Why one read gave nothing, or one write took nothing.
 #[derive(Clone, Copy, Debug, PartialEq, Eq)]
 pub enum StreamFault {
-    /// A signal came in between. Another call may do.
+    /// A signal interrupted the call. Another call may succeed.
     Interrupted,
-    /// It failed.
+    /// The call failed.
     Failed,
 }
 
@@ -29,7 +29,7 @@ impl Error for StreamFault {}
 
 /// What bytes are read from.
 pub trait Source {
-    /// The bytes that are left, where they are known.
+    /// The bytes that are left, if they are known.
     ghost left: { Self → Option (List ℕ) };
 
     /// One call may lead from the first state to the second.
@@ -38,7 +38,7 @@ pub trait Source {
     /// The last call failed.
     ghost has_failed: { Self → Type 0 };
 
-    /// Puts bytes at the start of `buf`, and says how many; none at the end alone.
+    /// Puts bytes at the start of `buf`, and returns how many; none only at the end.
     fn read_some(&mut self, buf: &mut [u8]) -> Result<usize, StreamFault>
         ensures bound { ReadsAtMost result buf.new }
         ensures bytes { ReadConsumes (left self.old) (left self.new) result buf.new }
@@ -48,13 +48,13 @@ pub trait Source {
 
 /// What bytes are written to.
 pub trait Sink {
-    /// The bytes that it holds, where they are known.
+    /// The bytes that it holds, if they are known.
     ghost held: { Self → Option (List ℕ) };
 
     /// The last call failed, was interrupted, or took none of some bytes.
     ghost has_failed: { Self → Type 0 };
 
-    /// Takes bytes from the front of `bytes`, and says how many.
+    /// Takes bytes from the front of `bytes`, and returns how many.
     fn write_some(&mut self, bytes: &[u8]) -> Result<usize, StreamFault>
         ensures bound { WritesAtMost result bytes.now }
         ensures bytes { WriteAppends (held self.old) (held self.new) result bytes.now }

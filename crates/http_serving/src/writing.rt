@@ -1,4 +1,4 @@
-//! The writing of one answer.
+//! Writing one answer.
 
 ghost use Rattle.std.specs.Prelude.{◌≡◌, ◌++◌, OnOk, OnErr, IfSome};
 ghost use Rattle.std.specs.Io.KnownBytes.{Appends};
@@ -10,10 +10,10 @@ use crate::streams::{Sink, StreamFault};
 use arrayvec::ArrayVec;
 use http_responses::Answer;
 
-/// The most bytes that a head and its body have where they go out as one.
+/// The most bytes of a head and its body that are written at once.
 const MOST_AT_ONCE: usize = 4_096;
 
-/// Writes the answer's response, its head and its body in one write where they are short.
+/// Writes the answer's response. If they are short, its head and its body are one write.
 #[tactic(auto, using(crate::proofs::Writings::answer_steps))]
 pub(crate) fn write_answer<W: Sink>(answer: &Answer, writer: &mut W) -> Result<(), IoFault>
     ensures ok { OnOk result (Appends (W.held writer.old) (W.held writer.new) (answer_bytes answer.now)) }
@@ -30,7 +30,7 @@ pub(crate) fn write_answer<W: Sink>(answer: &Answer, writer: &mut W) -> Result<(
     }
 }
 
-/// A head with its body behind it, where they are short. It takes no memory.
+/// A head and then its body, if they are short. It needs no memory.
 fn together(head: &[u8], body: &[u8]) -> Option<ArrayVec<u8, MOST_AT_ONCE>>
     ensures { IfSome result (λ bytes. bytes.items ≡ head.now ++ body.now) }
 {

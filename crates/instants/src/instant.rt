@@ -7,8 +7,8 @@ use jiff::Timestamp;
 use sched_book::Moment;
 use texts::utf8_text;
 
-/// The moment that an instant of ISO 8601 tells: `None` where the bytes are no UTF-8, where `jiff` reads no
-/// instant, where it is not on a whole second, and where it is no moment.
+/// Returns the moment of an instant of ISO 8601. It is `None` if the bytes are not UTF-8, or if `jiff` reads no
+/// instant. It is also `None` if the instant is not on a whole second, or is no moment.
 pub fn moment_of(text: &[u8]) -> Option<Moment>
     ensures { result ≡ spec.moment_of text.now }
 {
@@ -18,7 +18,7 @@ pub fn moment_of(text: &[u8]) -> Option<Moment>
     }
 }
 
-/// The same of a text.
+/// The same for a text.
 pub fn moment_told(text: &str) -> Option<Moment>
     ensures { result ≡ spec.moment_told text.now }
 {

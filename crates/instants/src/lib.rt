@@ -1,4 +1,4 @@
-//! Instants of ISO 8601, and the moments that they tell.
+//! Instants of ISO 8601, and their moments.
 #![tactic(auto)]
 
 mod instant;

@@ -1,4 +1,4 @@
--- A call over a store: what it is told, and what acting on it does.
+-- A call over a store: its answer, and what acting on it does.
 use Rattle.std.proofs.Common.{◌≡◌, ℕ, ◌≤◌, ◌<◌, Bool, true, false, cond, List, length, Option, Some, None, Result, Ok, Err, refl, sym, ◌∙◌, ap, subst}
 use Rattle.std.specs.Prelude.{is_none, option_and_then, IfOk, OnOk}
 use Rattle.std.proofs.lemmas.Bool.{and_parts, lt-ltb, le-ltb}
@@ -53,7 +53,7 @@ number_named w c r named =
 abbrev room_for : World → Caller → Bool
 room_for w c = has_host_room w.settings.max_hosts c.host (length w.hosts)
 
--- a named caller is told by its place among its host's calls, and by room
+-- the answer to a named caller follows from the place of its call among its host's kept calls, and from room
 told_named : (w : World) (c : Caller) (r : Request) (kept : List Kept) → IsNamed w c r
     → told_call w kept r ≡ told_beside (room_for w c) kept r.rpc_seqno (canonical_text r)
 told_named w c r kept named =
@@ -62,7 +62,7 @@ told_named w c r kept named =
     ∙ ap (λ (b : Bool). cond b (told_beside (room_for w c) kept r.rpc_seqno (canonical_text r)) (Some (Refusal fault.BadHost)))
     named.1
 
--- ---- beside the kept calls, with the room taken apart
+-- ---- compared with the kept calls, with the room apart
 
 heard_some : (room : Bool) (kept : List Kept) (h : Heard) (answer : Answer) → told_heard true kept h ≡ Some answer → told_heard room kept h ≡ Some answer
 heard_some room kept heard.Fresh answer is = absurd (none-some answer is)
@@ -88,14 +88,14 @@ no_room : (max count : ℕ) (number : Option ℕ) → number ≡ None → max �
 no_room max count None none full = le-ltb count max full
 no_room max count (Some number) none full = absurd (none-some number (sym none))
 
--- what a call that may act is told is for room to say
+-- if a call may act, only room decides its answer
 told_acting : (held : Held) (c : Caller) (r : Request) → MayAct held c r → told_call held.world (calls_by_number held.world held.calls (key_of r)) r ≡ told_fresh (room_for held.world c)
 told_acting held c r may =
     told_named held.world c r (calls_by_number held.world held.calls (key_of r)) may.0
     ∙ ap (λ o. told_beside (room_for held.world c) (kept_at held.calls o) r.rpc_seqno (canonical_text r)) (number_named held.world c r may.0)
     ∙ beside_fresh (room_for held.world c) (kept_at held.calls c.host) r.rpc_seqno (canonical_text r) may.1
 
--- ---- a call that is told something, of a store whose world is w
+-- ---- a call that is answered without a step, by a store whose world is w
 
 module _ (old new : Held) (w : World) (world_is : old.world ≡ w) (left : IsLeft old new) (r : Request) (now : ℕ) where
   pub account_serves : account_place w r.authenticator ≡ None → ServesCall r now (Refusal fault.BadAccount) old new
@@ -132,12 +132,12 @@ module _ (old new : Held) (w : World) (world_is : old.world ≡ w) (left : IsLef
 
 -- ---- a call that acts
 
--- a call that is told nothing beside the kept ones is above them
+-- a call that the kept ones do not answer is above them
 above_kept : (kept : List Kept) (seqno : ℕ) (text : List ℕ) → told_beside true kept seqno text ≡ None → is_above_all seqno kept ≡ true
 above_kept kept seqno text none =
     (and_parts (is_above_all seqno kept) true (sym (beside_none true kept seqno text) ∙ ap (λ (o : Option Answer). is_none o) none)).0
 
--- and one that may act is the newest of its host, also of one that is yet to be made
+-- a call that may act is the newest of its host, even if the host is still to be made
 call_newest : (held : Held) (c : Caller) (r : Request) → MayAct held c r → AreOfHosts held.world held.calls
     → is_above_all r.rpc_seqno (held.calls (host_number held.world c)) ≡ true
 call_newest held c r may of =
@@ -148,7 +148,7 @@ has_room : (max count : ℕ) (number : Option ℕ) → (number ≡ None → coun
 has_room max count None room = lt-ltb count max (room refl)
 has_room max count (Some number) room = refl
 
--- what is kept once a call is put in is what the message leaves of each key, and is kept of hosts that stand
+-- the kept calls with this one are what the message leaves of each key, and are of hosts that exist
 calls_kept : (w : World) (c : Caller) (r : Request) (now : ℕ) (delta : List Change) (reply : Reply) → Sound w
     → RpcStep w c r now (applied w delta) reply → (calls : Calls) → AreOfHosts w calls
     → AreOfHosts (applied w delta) (calls_with (entry_of_call r.rpc_seqno (canonical_text r) reply) calls)
@@ -161,7 +161,7 @@ calls_kept w c r now delta reply sound step calls of =
     ≡ kept_after this_era key (Rpc r) (reply_text_of reply) (calls_by_number w calls key)) in
     subst P (sym number) (kept_by_number w (applied w delta) (Rpc r) (call.Rpc c r) now (answered.Rpc reply) sound refl step this_era calls of)
 
--- A step was made of a call that may act, in the world of the store, and is committed with what is kept of it.
+-- A step was made for a call that may act, in the world of the store. It is committed with the call's entry.
 module _ (old new : Held) (w : World) (world_is : old.world ≡ w) (c : Caller) (r : Request) (now : ℕ) (delta : List Change) (reply : Reply) (text : List ℕ)
     (moment : now ≤ last_moment) (range : IsInRange r) (spelt : text ≡ canonical_text r)
     (made : IsStep (λ v. IsAdmitted v c r) (λ v after. RpcStep v c r now after reply) delta w) where
@@ -191,7 +191,7 @@ module _ (old new : Held) (w : World) (world_is : old.world ≡ w) (c : Caller) 
   kept_serves (Ok answer) told commits = λ may.
       subst (λ x. ServesCall r now x old new) (sym told) (acts (λ may_be soundly. commits may_be) may)
 
-  -- what a stop leaves of a commit is one call ahead
+  -- if a stop leaves the commit whole, the call was served
   pub kept_ahead : IsKeptSoundly delta (entry_of_call r.rpc_seqno text reply) old new
       → MayAct old c r → IsCallServed r now old new
   kept_ahead commits may = (Good (reply_text_of reply), acts commits may)

@@ -1,4 +1,4 @@
--- What a message does to a store: one that is told something, and one whose changes and entry are committed.
+-- What a message does to a store: one that is answered without a step, and one whose changes and entry are committed.
 use Rattle.std.proofs.Common.{◌≡◌, ℕ, List, sym, refl, ◌∙◌, subst}
 use Rattle.std.specs.Prelude.{Option, Some, None}
 use Rattle.reply_register.specs.declared.key.Key.{Key}
@@ -24,7 +24,7 @@ use Rattle.pasts.specs.declared.answer.Answer.TheVariants.{Good}
 use Rattle.message_engine.specs.Stores.{tables_by, IsSoundStore, MayBeSaid, ServesIn}
 use Rattle.message_engine.proofs.KeptStanding.{stands_with}
 
--- what is left as it was says the same
+-- what is left as it was holds the same
 pub left_same : (old new : Held) → IsLeft old new → Same (tables_by new) (tables_by old)
 left_same old new left = record {
   world = left.world_is;
@@ -36,11 +36,11 @@ left_same old new left = record {
 pub left_sound : (old new : Held) → IsLeft old new → IsSoundStore old → IsSoundStore new
 left_sound old new left = subst IsSoundStore (sym (left_is old new left))
 
--- and what may stand in a store still may
+-- and can be opened again if it could before
 pub left_stands : (old new : Held) → IsLeft old new → MayStand old → MayStand new
 left_stands old new left = subst MayStand (sym (left_is old new left))
 
--- what was committed to is sound where what was put in is
+-- what a commit makes is sound, if the changes and the entry make something sound
 committed_sound : (delta : List Change) (e : Entry) (old new : Held) → IsCommitted delta e old new
     → IsSoundStore (record { world = applied old.world delta; calls = calls_with e old.calls; batches = batches_with e old.batches }) → IsSoundStore new
 committed_sound delta e old new done = subst IsSoundStore (λ i. record {
@@ -49,7 +49,7 @@ committed_sound delta e old new done = subst IsSoundStore (λ i. record {
   batches = λ kind batch. sym (done.batches_are kind batch) i;
 })
 
--- a message that is told something leaves all as it was
+-- a message that is answered without a step leaves everything as it was
 pub told_serves : (m : Message) (answer : Answer) (old new : Held) → told_by (tables_by old) m.said ≡ Some answer → IsLeft old new → ServesIn m answer old new
 told_serves m answer old new told left sound =
     let P : Option Answer → Type 0 = λ o. ServesAs o (tables_by old) m answer (tables_by new) in
@@ -59,7 +59,7 @@ told_serves m answer old new told left sound =
       stands = λ says. left_stands old new left;
     }
 
--- A step was made of a sound world that may be asked for it: its changes fit, and leave a sound world.
+-- A step was made of a sound world in which it is allowed. Its changes fit, and leave a sound world.
 pub record IsStep (May : World → Type 0) (Steps : World → World → Type 0) (delta : List Change) (w : World) : Type 0 where
   pub step : Sound w → May w → Steps w (applied w delta)
   pub sound : Sound w → May w → Sound (applied w delta)

@@ -1,4 +1,4 @@
--- An import is served by what is kept of its batch, by a refusal, or by its step and its commit.
+-- An import is served by its kept batch, by a refusal, or by its step and its commit.
 use Rattle.std.proofs.Common.{◌≡◌, ℕ, ◌≤◌, List, sym, refl, ap, ◌∙◌, subst}
 use Rattle.std.specs.Prelude.{Option, Some, None, option_map, Result, Ok, Err, IfOk, OnOk, if◌then◌else◌}
 use Rattle.std.specs.Str.{bytes_eq}
@@ -52,13 +52,13 @@ again_serves now kind batch text name looked kept answer old new found same ther
           (ap (λ o. told_import old.world o text read) (looked_up old.batches kind batch name looked (Some kept) found same there) ∙ ap Some (sym is)) left,
     )
 
--- one that was looked for and not found
+-- a batch that was looked up and not found
 pub still_none : (batches : Batches) (kind : Kind) (batch name : List ℕ) (looked : Option KeptBatch) → looked ≡ None → name ≡ batch → looked ≡ batches kind name → batches kind batch ≡ None
 still_none batches kind batch name looked none same there = looked_up batches kind batch name looked None none same there
 
 -- ---- a refusal
 
--- a text that has a fault of its own says it
+-- a text with a fault of its own reads as that fault
 says_fault : (reading : List Record → Result Rows RowsFault) (text : List ℕ) (e : RowsFault) → (e ≡ rows_fault.Unavailable → ⊥)
     → Refuses reading text e → Says reading text (Err e)
 says_fault reading text (rows_fault.BadCsv row column) known refuses = refuses
@@ -81,7 +81,7 @@ unread_serves now kind batch text e refusal old new known is refuses left none =
 pub unforbidden : (old : Held) (w : World) → old.world ≡ w → (rows : Rows) (found : Option Fault) → fault_of_rows (shelf_of w) rows ≡ found → fault_of_rows (shelf_of old.world) rows ≡ found
 unforbidden old w world_is rows found is = ap (λ v. fault_of_rows (shelf_of v) rows) world_is ∙ is
 
--- rows that what stands forbids
+-- rows that have a fault compared with those that exist
 pub forbidden_serves : (now : ℕ) (kind : Kind) (batch text : List ℕ) (rows : Rows) (refusal : Fault) (old new : Held)
     → fault_of_rows (shelf_of old.world) rows ≡ Some refusal → IsLeft old new
     → old.batches kind batch ≡ None → ServesIn (import_of now kind batch text (Ok rows)) (Refusal refusal) old new
@@ -116,7 +116,7 @@ module _ (now count : ℕ) (kind : Kind) (batch text : List ℕ) (new_rows : Row
       subst (λ a. ServesIn (import_of now kind batch text (Ok new_rows)) a old new) (sym is) (rows_serve (λ may_be soundly. done may_be) none unrefused)
   rows_done (Err e) is done = tt
 
-  -- what a stop leaves of a commit is one import ahead
+  -- if a stop leaves the commit whole, the import was served
   pub rows_ahead : IsKeptSoundly delta (entry_of_batch kind batch text count) old new
       → old.batches kind batch ≡ None → fault_of_rows (shelf_of old.world) new_rows ≡ None → IsServed (import_of now kind batch text (Ok new_rows)) old new
   rows_ahead done none unrefused = (Good (imported_text (kind_name kind) batch count), rows_serve done none unrefused)

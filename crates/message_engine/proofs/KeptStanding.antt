@@ -1,4 +1,4 @@
--- What is kept goes on to stand beside the world that a step leaves, and so does what is kept of the step's message.
+-- What is kept may also be kept with the world that a step leaves, and so may what is kept of the step's message.
 use Rattle.std.proofs.Common.{◌≡◌, ℕ, zero, suc, ◌-◌, ◌≤◌, ◌<◌, Bool, true, false, ◌&&◌, cond, eqb, List, [], ◌∷◌, length, take, Some, None, refl, sym, ap, subst, arith, IsTrue}
 use Rattle.std.specs.Prelude.{is_some, slice_get, IfSome, All}
 use Rattle.std.specs.Str.{bytes_eq}
@@ -33,9 +33,9 @@ use Rattle.pasts.proofs.ByNumber.{call_hosts, no_host_goes}
 use Rattle.message_engine.specs.Calls.{entry_of_call}
 use Rattle.message_engine.specs.Stores.{IsSoundStore}
 
--- ---- hosts that stand
+-- ---- hosts that exist
 
--- the numbers of what stands in a list
+-- the numbers of the items of a list
 stands_within : {X : Type 0} (xs : List X) (n : ℕ) → is_some (nth xs n) ≡ true → (1 ≤ n) × (n ≤ length xs)
 stands_within {X} xs n stands = cases (eqb n 0) refl stands
   where
@@ -48,7 +48,7 @@ stands_within {X} xs n stands = cases (eqb n 0) refl stands
     cases true none is = absurd cc
     cases false some is = let less = there xs (n - 1) is in let more : 1 ≤ n = grind (arith, nat_tests, some) in (more, omega (arith, less, more))
 
--- a host that stands before a step stands behind it
+-- a host that exists before a step exists after it
 hosts_stand : (w after : World) (c : Call) (now : ℕ) (a : Answered) → Step w c now after a → (host : ℕ) → IsTrue (is_some (host_at w host)) → IsTrue (is_some (host_at after host))
 hosts_stand w after c now a step host stands =
     let bounds = stands_within w.hosts host stands in
@@ -65,7 +65,7 @@ call_may_be_kept w after c r now reply text range step =
 
 -- ---- what is kept
 
--- what may be kept beside a world may be kept beside one in which its hosts stand
+-- what may be kept with a world may be kept with any world that still has its hosts
 kept_on : (w after : World) → ((host : ℕ) → IsTrue (is_some (host_at w host)) → IsTrue (is_some (host_at after host))) → (e : Entry) → MayBeKept w e → MayBeKept after e
 kept_on w after stay (entry.Kept host k) may = (stay host may.0, may.1)
 kept_on w after stay (entry.Batch kind name b) may = may
@@ -98,7 +98,7 @@ batches_stand w (entry.Batch kind name b) batches may all = λ k n. cases k n (s
 batches_stand w (entry.Kept host k) batches may all = all
 batches_stand w entry.Nothing batches may all = all
 
--- What a step leaves, with what is kept of its message, may stand in a store.
+-- What a step leaves, with what is kept of its message, can be opened again if what it began with could.
 pub stands_with : (c : Call) (now : ℕ) (a : Answered) (delta : List Change) (e : Entry) (old new : Held) → Step old.world c now (applied old.world delta) a
     → Sound (applied old.world delta) → MayBeKept (applied old.world delta) e → IsCommitted delta e old new → MayStand old → MayStand new
 stands_with c now a delta e old new step sound may done stood =
@@ -111,7 +111,7 @@ stands_with c now a delta e old new step sound may done stood =
     } in
     subst MayStand (λ i. record { world = sym done.world_is i; calls = λ host. sym (done.calls_are host) i; batches = λ kind batch. sym (done.batches_are kind batch) i }) made
 
--- what may stand in a store is sound, with calls kept of its hosts alone
+-- what can be opened again is sound, with calls kept only of its hosts
 pub sound_where_stands : (held : Held) → MayStand held → IsSoundStore held
 sound_where_stands held stands = record { world = stands.sound; hosts = λ host beyond. none_kept host beyond (held.calls host) (stands.calls host) }
   where

@@ -35,6 +35,6 @@ module _ (now count : ℕ) (delta : List Change) (old new : Held) (w : World) (w
   tick_done (Ok answer) is done = subst (λ a. ServesIn (heard_now now Tick) a old new) (sym is) (tick_serves (λ may_be soundly. done may_be))
   tick_done (Err e) is done = tt
 
-  -- what a stop leaves of a commit is one tick ahead
+  -- if a stop leaves the commit whole, the tick was served
   pub tick_ahead : IsKeptSoundly delta entry.Nothing old new → IsServed (heard_now now Tick) old new
   tick_ahead done = (Good (lapsed_text count), tick_serves done)

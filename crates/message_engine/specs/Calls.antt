@@ -1,4 +1,4 @@
--- Words. What a call is told and does, of a caller who is admitted. (This project's own.)
+-- Words. The answer to a call of an admitted caller, and what the call does. (This project's own.)
 use Rattle.std.specs.Prelude.{◌≡◌, ℕ, true, List, Option, None}
 use Rattle.rpc_records.specs.Replies.{reply_text_of}
 use Rattle.rpc_records.specs.Spelling.{canonical_text}
@@ -17,19 +17,19 @@ use Rattle.pasts.specs.Told.{told_beside}
 use Rattle.pasts.specs.declared.answer.Answer.{Answer}
 use Rattle.message_engine.specs.Stores.{ServesIn, IsServed}
 
--- the caller is the one that the call names, and the call tells no wrong number
+-- the caller is the one that the call names, and the call names no wrong number of its host
 abbrev pub IsNamed : World → Caller → Request → Type 0
 IsNamed w c r = IsCaller w c r × (names_host r.hostid c.host ≡ true)
 
--- what a call of this number and text is told beside what is kept of its caller's calls, where there is room for its host
+-- The answer to a call of this number and text without a step. It follows from the kept calls of its caller, if there is room for its host.
 abbrev pub told_caller : Calls → Caller → ℕ → List ℕ → Option Answer
 told_caller calls c seqno text = told_beside true (kept_at calls c.host) seqno text
 
--- a call that nothing but want of room may refuse
+-- a call that only a lack of room may refuse
 abbrev pub MayAct : Held → Caller → Request → Type 0
 MayAct held c r = IsNamed held.world c r × (told_caller held.calls c r.rpc_seqno (canonical_text r) ≡ None)
 
--- what is kept of a call of this number and text, with its reply
+-- the entry of a call of this number and text, with its reply
 abbrev pub entry_of_call : ℕ → List ℕ → Reply → Entry
 entry_of_call seqno text reply = Kept reply.hostid (record { seqno = seqno; text = text; reply = reply_text_of reply })
 
@@ -37,6 +37,6 @@ entry_of_call seqno text reply = Kept reply.hostid (record { seqno = seqno; text
 abbrev pub ServesCall : Request → ℕ → Answer → Held → Held → Type 0
 ServesCall r now = ServesIn (heard_now now (Rpc r))
 
--- and that it did, with some answer
+-- the same, with some answer
 abbrev pub IsCallServed : Request → ℕ → Held → Held → Type 0
 IsCallServed r now = IsServed (heard_now now (Rpc r))

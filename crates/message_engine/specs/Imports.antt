@@ -18,19 +18,19 @@ use Rattle.pasts.specs.Messages.{Import, Message, heard_now}
 use Rattle.pasts.specs.declared.answer.Answer.{Answer}
 use Rattle.message_engine.specs.Stores.{ServesIn, IsServed}
 
--- what the records of a text say, of rows of a kind, by the formats of an era: before the second upgrade versions had no classes, and
--- workunits no marks
+-- How the records of a text are read as rows of a kind, by the formats of an era. Before the second upgrade versions had no classes, and
+-- workunits no marks.
 abbrev pub reading_in : ℕ → Kind → List Record → Result Rows RowsFault
 reading_in era Accounts = accounts_in
 reading_in era Apps = apps_in
 reading_in era Versions = if nat_lt era era_of_classes then former_versions_in else versions_in
 reading_in era Workunits = if nat_lt era era_of_classes then former_workunits_in else workunits_in
 
--- by those of this program
+-- the same, by the formats of this program
 abbrev pub reading_of : Kind → List Record → Result Rows RowsFault
 reading_of = reading_in this_era
 
--- the same, with a fault as the refusal that tells it
+-- the same, with a fault as its refusal
 abbrev pub as_refusal : Result Rows RowsFault → Result Rows Fault
 as_refusal (Ok rows) = Ok rows
 as_refusal (Err fault) = Err (refusal_of fault)
@@ -42,19 +42,19 @@ ReadsIn era kind text read = (said : Result Rows RowsFault) × Says (reading_in 
 abbrev pub Reads : Kind → List ℕ → Result Rows Fault → Type 0
 Reads = ReadsIn this_era
 
--- the import of a text of a kind, which reads as this
+-- the message of an import of a text of a kind, which reads as this
 abbrev pub import_of : ℕ → Kind → List ℕ → List ℕ → Result Rows Fault → Message
 import_of now kind batch text read = heard_now now (Import kind batch text read)
 
--- what is kept of an import of so many rows, with its answer
+-- the entry of an import of so many rows, with its answer
 abbrev pub entry_of_batch : Kind → List ℕ → List ℕ → ℕ → Entry
 entry_of_batch kind batch text count = Batch kind batch (record { text = text; answer = imported_text (kind_name kind) batch count })
 
--- what the text of an import reads as, and that it is served so
+-- the text of an import reads as something, and the import is served as that
 abbrev pub ServesImport : ℕ → Kind → List ℕ → List ℕ → Answer → Held → Held → Type 0
 ServesImport now kind batch text answer old new =
     (read : Result Rows Fault) × Reads kind text read × ServesIn (import_of now kind batch text read) answer old new
 
--- and that it was, with some answer
+-- the same, with some answer
 abbrev pub IsImportServed : ℕ → Kind → List ℕ → List ℕ → Held → Held → Type 0
 IsImportServed now kind batch text old new = (read : Result Rows Fault) × Reads kind text read × IsServed (import_of now kind batch text read) old new

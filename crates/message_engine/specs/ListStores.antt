@@ -14,7 +14,7 @@ use Rattle.message_engine.specs.declared.list_store.Batch.{Batch}
 use Rattle.message_engine.specs.declared.list_store.HostCall.{HostCall}
 use Rattle.message_engine.specs.declared.list_store.ListStore.{ListStore}
 
--- what is kept of the calls of the host of a number, where calls are listed with the latest first
+-- the kept calls of the host of a number; the list has the latest call first
 abbrev pub calls_at : List HostCall → ℕ → List Kept
 calls_at calls host = take most_kept (map (λ c. c.kept) (filter (λ c. c.host == host) calls))
 
@@ -22,11 +22,11 @@ calls_at calls host = take most_kept (map (λ c. c.kept) (filter (λ c. c.host =
 abbrev pub is_batch : Kind → List ℕ → Batch → Bool
 is_batch kind name b = same_kind b.kind kind && bytes_eq b.name name
 
--- what is kept of an import; of two of one kind and name the later counts
+-- the kept import of a kind and name: the latest one counts
 abbrev pub batch_at : List Batch → Kind → List ℕ → Option KeptBatch
 batch_at batches kind name = option_map (λ b. b.kept) (find (is_batch kind name) batches)
 
--- the world that a store holds, and all that it holds
+-- the world that a store holds, and everything that it holds
 abbrev pub world_of : ListStore → World
 world_of store = store.desk
 
@@ -41,6 +41,6 @@ stays_left_alone a b same = record {
   batches_are = λ kind batch. λ i. (held_of (sym same i)).batches kind batch;
 }
 
--- and may stand in a store where that did
+-- and can be opened again if it could before
 pub stays_standing : (a b : ListStore) → a ≡ b → MayStand (held_of a) → MayStand (held_of b)
 stays_standing a b same stands = subst (λ s. MayStand (held_of s)) same stands

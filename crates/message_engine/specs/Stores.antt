@@ -13,12 +13,12 @@ use Rattle.pasts.specs.declared.answer.Answer.{Answer}
 abbrev pub tables_by : Held → Tables
 tables_by held = record { world = held.world; calls = calls_by_number held.world held.calls; batches = held.batches }
 
--- The world is sound, and calls are kept of its hosts alone.
+-- The world is sound, and calls are kept only of its hosts.
 pub record IsSoundStore (held : Held) : Type 0 where
   pub world : Sound held.world
   pub hosts : AreOfHosts held.world held.calls
 
--- What a message says may be kept: an import has a word for its name, and is not too long.
+-- What a message says may be kept: an import has a word as its name, and its text is not too long.
 abbrev pub MayBeSaid : Said → Type 0
 MayBeSaid (Import kind batch text read) = IsTrue (is_word batch) × (length text ≤ most_import_bytes)
 MayBeSaid (Rpc request) = Unit {0}
@@ -26,7 +26,8 @@ MayBeSaid Tick = Unit {0}
 MayBeSaid (Read tells) = Unit {0}
 MayBeSaid (Refused fault) = Unit {0}
 
--- what one message does to a sound store, and that it stays sound, with what may stand in a store that can be opened again
+-- What one message does to a sound store. The store stays sound. If what the message says may be kept, a store that could be opened again
+-- still can be.
 pub record ServesSoundly (m : Message) (answer : Answer) (old new : Held) : Type 0 where
   pub serves : Serves (tables_by old) m answer (tables_by new)
   pub sound : IsSoundStore new
@@ -35,6 +36,6 @@ pub record ServesSoundly (m : Message) (answer : Answer) (old new : Held) : Type
 abbrev pub ServesIn : Message → Answer → Held → Held → Type 0
 ServesIn m answer old new = IsSoundStore old → ServesSoundly m answer old new
 
--- it was served, with some answer
+-- the message was served, with some answer
 abbrev pub IsServed : Message → Held → Held → Type 0
 IsServed m old new = (answer : Answer) × ServesIn m answer old new

@@ -14,7 +14,7 @@ fn imported_value(alloc: Global, kind: &str, batch: &str, rows: u64) -> Result<V
     json!(in alloc; {"batch": batch, "kind": kind, "rows": rows})
 }
 
-/// The body that tells how many rows a batch of this kind brought.
+/// The body of an import's answer: how many rows a batch of this kind brought.
 #[tactic(auto, unfolding(pasts::specs::Answers::imported_text))]
 pub(crate) fn imported(alloc: Global, kind: &str, batch: &str, rows: u64) -> Result<Text, Memory>
     ensures { IfOk result (λ text. text ≡ imported_text kind.now batch.now rows) }
@@ -29,7 +29,7 @@ fn lapsed_value(alloc: Global, count: u32) -> Result<Value, Memory>
     json!(in alloc; {"lapsed": count})
 }
 
-/// The body that tells how many instances lapsed at a tick.
+/// The body of a tick's answer: how many instances lapsed.
 #[tactic(auto, unfolding(pasts::specs::Answers::lapsed_text))]
 pub(crate) fn lapsed(alloc: Global, count: u32) -> Result<Text, Memory>
     ensures { IfOk result (λ text. text ≡ lapsed_text count) }

@@ -24,7 +24,7 @@ use std::alloc::Global;
 use stores::{Entry, Store, confirmed};
 use texts::{Listed, Memory, Text};
 
-/// The reply of the kept call at this place again.
+/// Returns the reply of the kept call at this place again.
 fn kept_reply(kept: &[Kept], place: usize) -> Result<Answer, Memory>
     requires { place < length kept.now }
     ensures { IfOk result (λ answer. answer ≡ Good (reply_at kept.now place)) }
@@ -32,8 +32,7 @@ fn kept_reply(kept: &[Kept], place: usize) -> Result<Answer, Memory>
     Ok(Answer::Good(kept[place].reply.clone()?))
 }
 
-/// What a call of this number and canonical text is told beside what is kept of its host's calls: nothing, where it is
-/// fresh.
+/// The answer to a call of this number and canonical text from the kept calls of its host; `None` if it is fresh.
 fn told_beside(kept: &[Kept], seqno: u32, text: &str) -> Result<Option<Answer>, Memory>
     ensures { IfOk result (λ told. told ≡ told_beside true kept.now seqno text.now) }
 {
@@ -45,7 +44,7 @@ fn told_beside(kept: &[Kept], seqno: u32, text: &str) -> Result<Option<Answer>, 
     }
 }
 
-/// What is kept of the calls of a caller's host: nothing, where it has none.
+/// The kept calls of a caller's host; none if it has no host yet.
 fn kept_of<S: Store>(
     alloc: Global,
     store: &mut S,
@@ -60,7 +59,7 @@ fn kept_of<S: Store>(
     }
 }
 
-/// What a call of this caller, number and canonical text is told beside what is kept: nothing, where it is fresh.
+/// The answer to a call of this caller, number and canonical text from what is kept; `None` if it is fresh.
 fn told_kept<S: Store>(
     alloc: Global,
     store: &mut S,
@@ -76,7 +75,7 @@ fn told_kept<S: Store>(
     Ok(told_beside(kept.as_slice(), seqno, text)?)
 }
 
-/// What is kept of a call of this host, with the body of its reply.
+/// The entry of a call of this host, with the body of its reply.
 fn call_entry(host: u32, seqno: u32, text: Text, body: &Text) -> Result<Entry, Memory>
     ensures { IfOk result (λ made. made ≡ entry.Kept host (record { seqno = seqno; text = text; reply = body.now })) }
 {
@@ -103,7 +102,7 @@ fn keep<S: Store>(
     commit_and_answer(store, delta, &entry, body)
 }
 
-/// Answers a fresh call: it is a step of the machine and is kept with its reply, where there is room for its host.
+/// Answers a fresh call. If there is room for its host, it is a step of the machine and is kept with its reply.
 fn call_fresh<S: Store>(
     alloc: Global,
     store: &mut S,
@@ -126,7 +125,7 @@ fn call_fresh<S: Store>(
     }
 }
 
-/// Answers a call of a caller who is admitted.
+/// Answers a call of an admitted caller.
 fn call_admitted<S: Store>(
     alloc: Global,
     store: &mut S,
@@ -147,13 +146,13 @@ fn call_admitted<S: Store>(
     }
 }
 
-/// Answers a call. One that is first heard is a step of the job machine, and is kept with its reply; any other is told
-/// what stands and what is kept of its host's calls say, and changes nothing. A stop at any moment leaves the store as
-/// it was, or with the call served.
+/// Answers a call. One that is first heard is a step of the job machine, and is kept with its reply. Any other is
+/// answered from the world and the kept calls of its host, and changes nothing. A stop at any moment leaves the store
+/// as it was, or with the call served.
 ///
 /// # Errors
 ///
-/// [`Unavailable`] leaves all as it was, unless a fault has shut the store.
+/// [`Unavailable`] leaves everything as it was, unless a fault has shut the store.
 pub fn call<S: Store>(
     alloc: Global,
     store: &mut S,

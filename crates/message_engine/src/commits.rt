@@ -11,8 +11,8 @@ use sched_book::{Delta, Unavailable};
 use stores::{Entry, Store};
 use texts::Text;
 
-/// Makes the changes of a message and keeps its entry, and answers with this body. No memory is asked for once they are
-/// made.
+/// Makes the changes of a message, keeps its entry, and answers with this body. Once they are made it needs no further
+/// memory.
 pub(crate) fn commit_and_answer<S: Store>(
     store: &mut S,
     delta: &Delta,

@@ -6,7 +6,7 @@ use std::alloc::Global;
 use stores::KeptBatch;
 use texts::{Listed, Memory};
 
-/// A copy of what is kept of an import, which is equal to it.
+/// Returns a copy of a kept import, which is equal to it.
 pub(crate) fn copy_batch(alloc: Global, kept: &KeptBatch) -> Result<KeptBatch, Memory>
     ensures { IfOk result (λ copy. copy ≡ kept.now) }
 {

@@ -29,7 +29,7 @@ use std::alloc::Global;
 use stores::{Entry, KeptBatch, Kind, Store, confirmed};
 use texts::{Listed, Memory, Text};
 
-/// The rows of this kind that a text says, or its first fault.
+/// Reads the rows of this kind in a text, or returns its first fault.
 fn read_rows(alloc: Global, kind: Kind, text: &[u8]) -> Result<Rows, RowsFault>
     ensures ok { IfOk result (λ rows. Says (reading_of kind) text.now (Ok rows)) }
     ensures err { IfErr result (Refuses (reading_of kind) text.now) }
@@ -43,7 +43,7 @@ fn read_rows(alloc: Global, kind: Kind, text: &[u8]) -> Result<Rows, RowsFault>
     }
 }
 
-/// What a batch that is kept is told where it comes again with these bytes.
+/// The answer to a kept batch whose name comes again with these bytes.
 fn told_again(kept: KeptBatch, text: &[u8]) -> Answer
     ensures { result ≡ (if bytes_eq kept.text text.now then answers.Good kept.answer else answers.Refusal fault.BatchReused) }
 {
@@ -54,7 +54,7 @@ fn told_again(kept: KeptBatch, text: &[u8]) -> Answer
     }
 }
 
-/// What is kept of a batch, with the body of its answer.
+/// The entry of a batch, with the body of its answer.
 fn batch_entry(
     alloc: Global,
     kind: Kind,
@@ -71,7 +71,7 @@ fn batch_entry(
     Ok(Entry::Batch(kind, batch.clone()?, kept))
 }
 
-/// Adds rows that nothing forbids, and keeps their batch with the answer, which tells how many rows it brought.
+/// Adds rows that have no fault, and keeps their batch with the answer, which says how many rows it brought.
 fn add_rows<S: Store>(
     alloc: Global,
     store: &mut S,
@@ -95,7 +95,7 @@ fn add_rows<S: Store>(
     commit_and_answer(store, &delta, &entry, body)
 }
 
-/// Imports a batch that is not kept: its rows are read, looked at beside what stands, and then added, or refused.
+/// Imports a batch that is not kept. Its rows are read, compared with the rows that exist, and then added or refused.
 fn import_new<S: Store>(
     alloc: Global,
     store: &mut S,
@@ -121,13 +121,13 @@ fn import_new<S: Store>(
     }
 }
 
-/// Imports a batch of rows. One that is kept is answered again where it has the same bytes, and refused where it has
-/// others; one that is not kept is read, its rows are looked at beside what stands, and then added and kept, or refused.
-/// A stop at any moment leaves the store as it was, or with the import served.
+/// Imports a batch of rows. If the batch is kept and has the same bytes, it is answered again; with other bytes it is
+/// refused. If it is not kept, its rows are read and compared with the rows that exist. Then they are added and the
+/// batch is kept, or it is refused. A stop at any moment leaves the store as it was, or with the import served.
 ///
 /// # Errors
 ///
-/// [`Unavailable`] leaves all as it was, unless a fault has shut the store.
+/// [`Unavailable`] leaves everything as it was, unless a fault has shut the store.
 pub fn import<S: Store>(
     alloc: Global,
     store: &mut S,

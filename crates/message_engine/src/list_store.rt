@@ -1,4 +1,4 @@
-//! The plain store, which keeps all in lists in memory.
+//! The plain store, which keeps everything in lists in memory.
 
 ghost use Rattle.std.specs.Prelude.{◌≡◌, [], length, find, Ok, ⊤, IfOk, OnOk, OnErr};
 ghost use Rattle.std.specs.Option.{option_copied};
@@ -17,7 +17,7 @@ use std::alloc::Global;
 use stores::{Entry, KeptBatch, Kind, Store};
 use texts::{Listed, Memory, Text};
 
-/// A call that is kept.
+/// A kept call.
 #[derive(Drop)]
 pub struct HostCall {
     /// The number of its host.
@@ -25,7 +25,7 @@ pub struct HostCall {
     pub kept: Kept,
 }
 
-/// An import that is kept.
+/// A kept import.
 #[derive(Drop)]
 pub struct Batch {
     pub kind: Kind,
@@ -33,8 +33,8 @@ pub struct Batch {
     pub kept: KeptBatch,
 }
 
-/// A store over lists in memory: a plain desk, and beside it each call and each import that came. What is kept of them is
-/// looked for from the latest on.
+/// A store over lists in memory: a plain desk, with each call and each import that came. A look-up goes from the latest
+/// on.
 #[derive(Drop)]
 pub struct ListStore {
     alloc: Global,
@@ -45,7 +45,7 @@ pub struct ListStore {
     batches: Vec<Batch>,
 }
 
-/// Copies of what is kept of the calls of the host of this number: of its latest four, the last one first.
+/// Returns copies of the kept calls of the host of this number: its latest four, the last one first.
 fn calls_of(alloc: Global, calls: &[HostCall], host: u32) -> Result<Listed<Kept>, Memory>
     ensures { IfOk result (λ kept. kept ≡ calls_at calls.now host) }
 {
@@ -67,7 +67,7 @@ fn find_batch<'a>(batches: &'a [Batch], kind: Kind, name: &str) -> Option<&'a Ba
 }
 
 impl ListStore {
-    /// A store with these settings, in which nothing stands and which has heard nothing.
+    /// Returns a new store with these settings, which has heard nothing.
     pub fn new(alloc: Global, settings: &Settings) -> Result<ListStore, Memory>
         ensures { IfOk result (λ store. IsNew settings.now (held_of store)) }
     {
@@ -79,7 +79,7 @@ impl ListStore {
         })
     }
 
-    /// Keeps an entry, or leaves all as it was.
+    /// Keeps an entry, or leaves everything as it was.
     fn keep(&mut self, entry: &Entry) -> Result<(), Memory>
         ensures ok { OnOk result (IsCommitted [] entry.now (held_of self.old) (held_of self.new)) }
         ensures err { OnErr result (IsLeft (held_of self.old) (held_of self.new)) }
@@ -280,7 +280,7 @@ impl Store for ListStore {
 
     ghost holds = { held_of };
 
-    // nothing below it fails, and nothing is left of lists in memory
+    // nothing it uses can fail, and nothing is left of lists in memory
     ghost clean = { λ _. ⊤ };
 
     ghost lasting = { ⊤ };

@@ -18,7 +18,7 @@ use sched_machine::step_tick;
 use std::alloc::Global;
 use stores::{Entry, Store};
 
-/// Makes the changes of a tick, and tells how many instances lapsed.
+/// Makes the changes of a tick, and answers how many instances lapsed.
 fn make_lapse<S: Store>(
     alloc: Global,
     store: &mut S,
@@ -34,12 +34,12 @@ fn make_lapse<S: Store>(
     commit_and_answer(store, delta, &Entry::Nothing, body)
 }
 
-/// Lets time go by: a step of the job machine, whose answer tells how many instances lapsed. A stop at any moment leaves
-/// the store as it was, or with the tick served.
+/// Handles a tick: one step of the job machine, whose answer says how many instances lapsed. A stop at any moment
+/// leaves the store as it was, or with the tick served.
 ///
 /// # Errors
 ///
-/// [`Unavailable`] leaves all as it was, unless a fault has shut the store.
+/// [`Unavailable`] leaves everything as it was, unless a fault has shut the store.
 pub fn tick<S: Store>(alloc: Global, store: &mut S, now: Moment) -> Result<Answer, Unavailable>
     ensures acts { ActsWhole S.Store (is_ok result) (IsServed (heard_now now Tick) (S.holds store.old)) store.old store.new }
     ensures exact { Trusted S.Units store.old store.new (IfOk result (λ answer.

@@ -1,4 +1,4 @@
--- The datetime that stands at a moment has the year, month, day and time that the moment's text tells.
+-- The date and time of a moment have the year, month, day and time that the moment's text gives.
 use Rattle.std.proofs.Common.{◌≡◌, ℕ, zero, suc, ◌+◌, ◌*◌, ◌/◌, ◌%◌, ◌<◌, ◌≤◌, inl, inr, Bool, true, false, cond, nat_lt, ◌∷◌, ◌++◌, None, refl, sym, ap, ◌∙◌, arith, ℤ, pos, negsuc, ◌≤ℤ◌, unsigned_abs}
 use Rattle.std.proofs.lemmas.Bool.{cases_order, lt-ltb, le-ltb}
 use Rattle.std.proofs.lemmas.Int.{by_lt_z}
@@ -17,7 +17,7 @@ chosen : (b : Bool) (n later y : ℕ) → (b ≡ true → n ≡ y) → (b ≡ fa
 chosen true n later y h k = h refl
 chosen false n later y h k = k refl
 
--- the first that passes is the one that does where none before it does
+-- if no number before one passes, the first that passes is that one
 first_is : (n more y : ℕ) (p : ℕ → Bool) → n ≤ y → y ≤ n + more → ((k : ℕ) → n ≤ k → k < y → p k ≡ false) → p y ≡ true → first_from n more p ≡ y
 unfolding first_from
 first_is n zero y p low high before at = omega arith
@@ -90,7 +90,7 @@ not_negative : (z : ℤ) → pos 1970 ≤ℤ z → z ≡ pos (unsigned_abs z)
 not_negative (pos n) h = refl
 not_negative (negsuc n) h = absurd (omega (arith, signed_arith))
 
--- a date of a day from 1970 on
+-- a date, for a day from 1970 on
 of_date : (d : Date) (day : ℕ) → epoch_day d ≡ pos day → date_text d ≡ date_of day
 of_date d day e =
     let count : day_count d.year d.month d.day ≡ day + 4_371_953 = omega (arith, signed_arith, days_from_civil-day_count d.year d.month d.day, e) in
@@ -103,7 +103,7 @@ of_date d day e =
     sym (date_is (unsigned_abs d.year) d.month d.day day (omega (arith, signed_arith, unsigned_abs-parts d.year)) (omega (arith, signed_arith, unsigned_abs-parts d.year, d.year_in)) in_year (rw year at count)
     ∙ rw year refl))
 
--- a time of a whole second
+-- a time at a whole second
 of_time : (t : Time) (second : ℕ) → time_nanos t ≡ second * 1_000_000_000 → time_text None t ≡ time_of second
 of_time t second e =
     let whole : t.subsec_nanosecond ≡ 0 = omega arith in

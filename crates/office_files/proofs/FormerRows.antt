@@ -18,13 +18,13 @@ use Rattle.texts.specs.Words.{word_of}
 
 -- ---- what is read next
 
--- what is read of a value is such, whatever the value
+-- what is read next has the property, for any value
 whatever : {A B : Type 0} (Q : B → Type 0) (r : Result A RowsFault) (f : A → Result B RowsFault) → ((x : A) → IfOk (f x) Q) → IfOk (and_then r f) Q
 unfolding and_then
 whatever Q (Ok x) f h = h x
 whatever Q (Err e) f h = tt
 
--- and where the value is known
+-- the same for a value that is known
 of_this : {A B : Type 0} (Q : B → Type 0) (r : Result A RowsFault) (f : A → Result B RowsFault) (x : A) → r ≡ Ok x → IfOk (f x) Q → IfOk (and_then r f) Q
 unfolding and_then
 of_this Q r f x is h = subst (λ q. IfOk (and_then q f) Q) (sym is) h
@@ -85,7 +85,7 @@ sized P reads count h row fields = cases (length fields == count) refl
     cases true is = h row fields (eqb-true (length fields) count is)
     cases false is = tt
 
--- each row of an import with the one header is such
+-- each row of an import with one header has the property
 of_import : {X : Type 0} (P : X → Type 0) (reads : ℕ → Record → Result X RowsFault) (names : Record)
     → ((row : ℕ) (fields : Record) → length fields ≡ length names → IfOk (reads row fields) P)
     → (records : List Record) → IfOk (rows_in reads (λ count. names) records) (All P)

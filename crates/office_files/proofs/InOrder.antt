@@ -1,4 +1,4 @@
--- Rows are read in order, and the first faulty one is told.
+-- Rows are read in order, and the first faulty one is named.
 use Rattle.std.proofs.Common.{◌≡◌, ℕ, ◌+◌, Bool, true, false, cond, List, [], ◌∷◌, ◌++◌, length, Option, Some, None, Result, Ok, Err, sym, refl, ap, subst, ◌∙◌, arith}
 use Rattle.std.specs.Prelude.{IfErr, ok_or, option_and_then, nat_le, ◌-◌, ◌==◌}
 use Rattle.csv.specs.Records.{field_at}
@@ -13,7 +13,7 @@ use Rattle.office_files.specs.declared.fault.RowsFault.TheVariants.{BadCsv}
 use Rattle.texts.specs.Reading.{and_then}
 use Rattle.texts.specs.Words.{word_of}
 
--- a fault tells the row that was read
+-- a fault names the row that was read
 abbrev TellsRow : {A : Type 0} → ℕ → Result A RowsFault → Type 0
 TellsRow row r = IfErr r (λ e. (column : ℕ) × (e ≡ BadCsv row column))
 
@@ -96,7 +96,7 @@ module _ {X : Type 0} (reads : ℕ → Record → Result X RowsFault) where
   all_good row (fields ∷ more) rows e =
       one_good row fields more (reads row fields) (rows_from reads (row + 1) more) rows refl (all_good (row + 1) more) e
 
-  -- the first fault of records of which the first has the number n
+  -- the first fault of records, if the first has the number n
   record IsFaultFrom (n : ℕ) (records : List Record) (row column : ℕ) : Type 0 where
     before : List Record
     rows : List X

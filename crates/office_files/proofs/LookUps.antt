@@ -1,4 +1,4 @@
--- A look-up finds a row exactly where some row passes its test.
+-- A look-up finds a row exactly if some row passes its test.
 use Rattle.std.proofs.Common.{◌≡◌, ℕ, ◌+◌, Bool, true, false, cond, List, [], ◌∷◌, length, Option, Some, None, refl, ap, ◌∙◌, add-one}
 use Rattle.std.specs.Prelude.{find, map, position, is_some, is_none, not, nat_lt, option_map, option_and_then, ◌||◌, ◌&&◌, ◌==◌}
 use Rattle.std.specs.List.{list_any, position_from, position_or_len}
@@ -48,7 +48,7 @@ is_some-find : {X : Type 0} (p : X → Bool) (xs : List X) → is_some (find p x
 is_some-find p [] = refl
 is_some-find p (x ∷ xs) = by_test (p x) x (find p xs) (list_any p xs) (is_some-find p xs)
 
--- tests that say the same find the same
+-- tests that agree find the same
 pub list_any-ext : {X : Type 0} (p q : X → Bool) → ((x : X) → p x ≡ q x) → (xs : List X) → list_any p xs ≡ list_any q xs
 list_any-ext p q same [] = refl
 list_any-ext p q same (x ∷ xs) = ap (λ b. b || list_any p xs) (same x) ∙ ap (λ b. q x || b) (list_any-ext p q same xs)

@@ -1,11 +1,11 @@
--- A text tells one settings: it is one table, and a table has one value at a key.
+-- A text has one set of settings: it is one table, and a table has one value at a key.
 use Rattle.std.proofs.Common.{◌≡◌, ℕ, ℤ, pos, negsuc, Option, Some, sym, ap, ◌∙◌, subst}
 use Rattle.std.proofs.lemmas.Option.{same_Some}
 use Rattle.toml.specs.Data.{Members}
 use Rattle.sched_book.specs.declared.settings.Settings.{Settings}
 use Rattle.office_files.specs.SettingsTexts.{AreSettingsOf, TextsTellOneSettings}
 
--- two that are told alike are the same
+-- two values that are read at one place are equal
 told_alike : {A : Type 0} {told : Option A} (x y : A) → told ≡ Some x → told ≡ Some y → x ≡ y
 told_alike x y this that = same_Some x y (sym this ∙ that)
 

@@ -1,4 +1,4 @@
--- That a table has no key but those of settings, told by its keys in turn.
+-- Whether a table has only keys of settings, found from its keys in turn.
 use Rattle.std.proofs.Common.{◌≡◌, ◌↔◌, Bool, List, [], ◌∷◌, Option, Some, IsSome, IsTrue, String, Global, Ordering, Less, Equal, Greater, nat_cmp, string_bytes, refl, subst, sym}
 use Rattle.std.proofs.lemmas.Bool.{and_parts, and_from, false≢true}
 use Rattle.std.proofs.lemmas.Cmp.{nat_list_cmp_total}
@@ -46,6 +46,6 @@ settings_are_keys (e ∷ es) only =
     (only (string_bytes e.0) (rw (tied_itself nat_list_cmp_total (string_bytes e.0))))
     (settings_are_keys es (λ key found. only key (found_later (slice_cmp nat_cmp key (string_bytes e.0)) (view e.1) (get_member key (members_view es)) found)))
 
--- where a test is whether each key of a table is that of a setting
+-- if a test is whether each key of a table is a setting's
 pub only_settings : (es : List Entry) (test : Bool) → test ≡ all_settings (keys_of es) → IsTrue test ↔ HasOnlySettings (members_view es)
 only_settings es test is = rw is (keys_are_settings es, settings_are_keys es)

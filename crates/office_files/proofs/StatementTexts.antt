@@ -1,4 +1,4 @@
--- A number of at most three digits in three, and a row more.
+-- A number of at most three digits written with three, and one more row.
 use Rattle.std.proofs.Common.{◌≡◌, ℕ, ◌+◌, ◌-◌, ◌<◌, List, [], ◌∷◌, ◌++◌, length, get_or, take, refl, sym, ap, ◌∙◌, arith, append-nil}
 use Rattle.std.specs.Prelude.{decimal, replicate}
 use Rattle.std.specs.Fmt.{char_count, format_spec, padded_integral, styled_decimal}

@@ -1,4 +1,4 @@
--- Looking through rows for a name that stands or came before, one row at a time.
+-- Looking through rows for a name that exists or was seen before, one row at a time.
 use Rattle.std.proofs.Common.{◌≡◌, ℕ, ◌+◌, ◌<◌, Bool, true, false, cond, List, [], ◌∷◌, ◌++◌, length, get_or, drop, take, Some, sym, ap, ◌∙◌, append_assoc}
 use Rattle.std.specs.Prelude.{◌||◌}
 use Rattle.std.specs.List.{list_any}
@@ -16,7 +16,7 @@ module _ {X : Type 0} (rows : List X) (i : ℕ) (x : X) (within : i < length row
   so_far = take_more rows i x within ∙ ap (λ y. take i rows ++ y ∷ []) (sym is)
 
   module _ (same : X → X → Bool) (key_of : X → Key) (by_key : (a b : X) → same a b ≡ same_key (key_of a) (key_of b)) where
-    -- a name stands, or came before with its key
+    -- a name exists, or a row before has its key
     pub taken : (shelf : List X) → list_any (same x) (shelf ++ take i rows)
         ≡ (list_any (same x) shelf || list_any (λ y. same_key (key_of x) (key_of y)) (take i rows))
     taken shelf =
@@ -31,7 +31,7 @@ module _ {X : Type 0} (rows : List X) (i : ℕ) (x : X) (within : i < length row
         ∙ ap (λ known. cond (list_any (same x) (shelf ++ take i rows)) (Some n) (first_known same (n + 1) known (drop (i + 1) rows)))
         (append_assoc shelf (take i rows) (x ∷ []) ∙ ap (λ past. shelf ++ past) (sym so_far))
 
-    -- a row whose name is taken is the first, and else what is left decides
+    -- the first row whose name is taken is this one, or it is among the rest
     pub found : list_any (same x) (shelf ++ take i rows) ≡ true → first_known same n (shelf ++ take i rows) (drop i rows) ≡ Some n
     found e = at_row ∙ ap (λ b. cond b (Some n) (first_known same (n + 1) (shelf ++ take (i + 1) rows) (drop (i + 1) rows))) e
 

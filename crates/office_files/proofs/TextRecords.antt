@@ -1,5 +1,5 @@
--- A text has one list of records. It has no second, since what comes next is a function of what is left; and it has one, since
--- each record takes some bytes.
+-- A text has exactly one list of records. It has no second, since what comes next is a function of what is left. It has one, since each
+-- record takes some bytes.
 use Rattle.std.proofs.Common.{◌≡◌, ℕ, zero, suc, ◌≤◌, Bool, true, false, cond, List, [], ◌∷◌, ◌++◌, length, Option, Some, None, sym, refl, ap, subst, ◌∙◌, arith}
 use Rattle.std.specs.Prelude.{◌==◌}
 use Rattle.csv.specs.Machine.{Read, next_record, step, in_field, start_field, start_record, is_end, ends_at_end, ends_with, after_end, fields_after, field_after}
@@ -32,7 +32,7 @@ one_list s xs (r ∷ rs) (q ∷ qs) h k =
     let rest : rs ≡ qs = one_list k.2.0.1 k.2.0.2 rs qs (h.0, h.1, more, h.3) (k.0, k.1, k.2.3, k.3) in
     cc
 
--- an action that ends a record leaves a state in which the text may end
+-- if an action ends a record, the text may end in the state that it leaves
 abbrev IsSettled : State × Action → Type 0
 IsSettled p = is_end p.1 ≡ true → ends_at_end p.0 ≡ false
 
@@ -65,7 +65,7 @@ settled st.AfterQuote c = either (c == 34) (st.InQuoted, act.Copy) (in_field def
 settled st.InComment c = either (c == 10) (st.StartRecord, act.Skip) (st.InComment, act.Skip) (λ e. cc) (λ e. cc)
 settled st.AfterCr c = either (c == 10) (st.StartRecord, act.Skip) (start_record default_config c) (λ e. cc) (record_settled c)
 
--- what a record that was read leaves: a state in which the text may end, and no more bytes than there were
+-- what is left after a record was read: the text may end there, and there are no more bytes than before
 abbrev Leaves : ℕ → Read → Type 0
 Leaves size p = (ends_at_end p.1 ≡ false) × (length p.2 ≤ size)
 

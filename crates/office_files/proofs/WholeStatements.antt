@@ -1,4 +1,4 @@
--- The lines of a host's places are as many as the places, and have its credit.
+-- There are as many lines as places of a host, and they have its credit.
 use Rattle.std.proofs.Common.{◌≡◌, ℕ, suc, ◌+◌, ◌*◌, Bool, true, false, cond, List, [], ◌∷◌, ◌++◌, length, Option, Some, sym, refl, ap, ◌∙◌, arith}
 use Rattle.std.specs.Prelude.{◌&&◌, sum_by, count_by, option_map, option_and_then, slice_get}
 use Rattle.std.specs.List.{cons_option}
@@ -23,7 +23,7 @@ share true c k = grind arith
 share false c k = grind arith
 
 module _ (w : World) (host : ℕ) where
-  -- these places have a line each, and so much credit in all
+  -- each of these places has a line, and all lines together have this credit
   abbrev Tell : List Place → ℕ → Type 0
   Tell places credit = (length (lines_at w places) ≡ length places) × (total_credit (lines_at w places) ≡ credit)
 

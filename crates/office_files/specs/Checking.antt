@@ -1,4 +1,4 @@
--- Rule. How the rows of an import are checked beside what stands.
+-- Rule. How the rows of an import are checked against the rows that exist.
 use Rattle.std.specs.Prelude.{ℕ, ◌+◌, Bool, ◌&&◌, nat_le, length, ⊤}
 use Rattle.sched_book.specs.Limits.{most_accounts, most_apps, most_versions, most_workunits}
 use Rattle.sched_book.specs.declared.desk.Counts.{Counts}
@@ -32,7 +32,7 @@ new_units (rows.Apps xs) = 0
 new_units (rows.Versions xs) = 0
 new_units (rows.Workunits xs) = length xs
 
--- beside so many rows of each table there is room for the new ones
+-- with so many rows in each table there is room for the new ones
 abbrev pub has_room_beside : Counts → Rows → Bool
 has_room_beside c new =
     nat_le (c.accounts + new_accounts new) most_accounts && nat_le (c.apps + new_apps new) most_apps

@@ -2,16 +2,16 @@
 use Rattle.std.specs.Prelude.{ℕ, zero, suc, ◌+◌, ◌-◌, ◌/◌, ◌%◌, Bool, nat_lt, if◌then◌else◌, List, [], ◌∷◌, ◌++◌, pos}
 use Rattle.jiff_core.specs.Calendar.{day_count}
 
--- the first of so many numbers, from n on, that passes, and the one behind them where none does
+-- the first number from n on that passes, among so many, and the one after them if none does
 unfoldable pub first_from : ℕ → ℕ → (ℕ → Bool) → ℕ
 first_from n zero p = n
 first_from n (suc more) p = if p n then n else first_from (n + 1) more p
 
--- the number of the day on which a month begins, 1970-01-01 being day 0
+-- the number of the day on which a month begins; 1970-01-01 is day 0
 abbrev pub month_start : ℕ → ℕ → ℕ
 month_start year month = day_count (pos year) month 1 - day_count (pos 1970) 1 1
 
--- the year of a day is the first that is followed by one that begins later than the day, and so is its month
+-- the year of a day is the first one whose next year begins later than that day; the same for its month
 abbrev pub year_of : ℕ → ℕ
 year_of day = first_from 1970 8029 (λ year. nat_lt day (month_start (year + 1) 1))
 
@@ -47,6 +47,6 @@ time_of second = time_by (second / 3600) (second / 60 % 60) (second % 60)
 unfoldable pub civil_text : ℕ → List ℕ
 civil_text moment = date_of (moment / 86400) ++ 32 ∷ time_of (moment % 86400)
 
--- the last second of which such a text is told, late in the year 9999
+-- the last second that has such a text, late in the year 9999
 abbrev pub last_civil : ℕ
 last_civil = 253402207200

@@ -1,4 +1,4 @@
--- Rule. What one field of an import says, where it is of the wanted form. The forms are this profile's.
+-- Rule. What one field of an import says, if it is of the wanted form. The forms are this profile's.
 use Rattle.std.specs.Prelude.{ℕ, Bool, false, ◌&&◌, ◌||◌, nat_eq, nat_le, if◌then◌else◌, List, [], ◌∷◌, drop, codes, Option, Some, None, option_and_then, option_map}
 use Rattle.std.specs.Char.{is_ascii_digit}
 use Rattle.std.specs.List.{list_all, starts_with}
@@ -26,7 +26,7 @@ count_in field = if is_count_text field then Some (digits_value 10 field) else N
 abbrev pub within : ℕ → ℕ → ℕ → Option ℕ
 within least most n = if nat_le least n && nat_le n most then Some n else None
 
--- the same, where it is in a range
+-- the same, if it is in a range
 abbrev pub number_in : ℕ → ℕ → List ℕ → Option ℕ
 number_in least most field = option_and_then (within least most) (count_in field)
 

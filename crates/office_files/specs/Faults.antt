@@ -6,7 +6,7 @@ use Rattle.office_files.specs.declared.fault.RowsFault.{RowsFault}
 use Rattle.office_files.specs.declared.fault.RowsFault.TheVariants.{BadCsv, DuplicateName, UnknownReference, TableFull, Unavailable}
 use Rattle.texts.specs.Reading.{GivesUnless}
 
--- the refusal that tells a fault
+-- the refusal for a fault
 abbrev pub refusal_of : RowsFault → Fault
 refusal_of (BadCsv row column) = refusal.BadCsv row column
 refusal_of (DuplicateName row) = refusal.DuplicateName row
@@ -22,6 +22,6 @@ IsOfReading (UnknownReference row) = ⊥
 IsOfReading TableFull = ⊥
 IsOfReading Unavailable = ⊤
 
--- What a call answered is what a reading says, unless memory was wanting.
+-- The result is what the reading says, unless there was no memory.
 abbrev pub Gives : {A : Type 0} → Result A RowsFault → Result A RowsFault → Type 0
 Gives result reading = IfErr result IsOfReading × GivesUnless Unavailable result reading

@@ -1,6 +1,6 @@
--- Rule. The rows that the records of an import say. The first record is the header and is row 0; data rows and columns count from 1.
--- What is told of a faulty text is its first faulty row, and in that the first faulty column: column 0 where the number of
--- fields is wrong, and row 0, column 0 where there is no record at all. The formats are this profile's.
+-- Rule. The rows that the records of an import say. The first record is the header, which is row 0. Data rows and columns count from 1. The
+-- refusal of a faulty text names its first faulty row, and in it the first faulty column. Column 0 means that the number of fields is
+-- wrong; row 0 with column 0 also means that there is no record at all. The formats are this profile's.
 use Rattle.std.specs.Prelude.{◌≡◌, ℕ, ◌+◌, ◌-◌, Bool, false, ◌==◌, nat_le, if◌then◌else◌, List, [], ◌∷◌, ◌++◌, length, codes, Option, Some, None, ok_or, option_map, option_and_then, unwrap_or, Result, Ok, Err, ⊤}
 use Rattle.std.specs.Str.{bytes_eq}
 use Rattle.csv.specs.Records.{field_at}
@@ -23,11 +23,11 @@ use Rattle.texts.specs.Words.{word_of}
 unfoldable pub column_of : {A : Type 0} → ℕ → ℕ → (List ℕ → Option A) → Record → Result A RowsFault
 column_of row column reads fields = ok_or (option_and_then reads (field_at fields (column - 1))) (BadCsv row column)
 
--- what a column says that a row may be too short for: then it says this
+-- what a column says; if the row is too short for it, this value
 unfoldable pub column_or : {A : Type 0} → ℕ → ℕ → (List ℕ → Option A) → A → Record → Result A RowsFault
 column_or row column reads other fields = if nat_le column (length fields) then column_of row column reads fields else Ok other
 
--- The header of an import is told by how many fields its first record has, since some have a shorter header and a longer one.
+-- The number of fields of the first record decides which header an import has, since some kinds have a shorter header and a longer one.
 abbrev pub account_header : ℕ → Record
 account_header count = codes "authenticator" ∷ codes "name" ∷ []
 
@@ -52,7 +52,7 @@ former_version_header count = codes "app" ∷ codes "platform" ∷ codes "versio
 abbrev pub version_header : ℕ → Record
 version_header count = if count == 4 then former_version_header count ++ codes "version_class" ∷ [] else former_version_header count
 
--- a version of no class of its own has its platform's word for one
+-- a version without a class of its own has its platform's word as its class
 unfoldable pub version_of : ℕ → Record → Result Version RowsFault
 version_of row fields = do
   app ← column_of row 1 word_of fields
@@ -70,7 +70,7 @@ former_workunit_header count =
 abbrev pub workunit_header : ℕ → Record
 workunit_header count = if count == 13 then former_workunit_header count ++ codes "marked" ∷ [] else former_workunit_header count
 
--- the target is read against a good quorum, and the most instances against a good target
+-- the target must be at least the quorum, and the most instances at least the target
 unfoldable pub workunit_of : ℕ → Record → Result Workunit RowsFault
 workunit_of row fields = do
   name ← column_of row 1 word_of fields
@@ -106,12 +106,12 @@ workunit_of row fields = do
 abbrev pub is_field : Record → ℕ → List ℕ → Bool
 is_field fields index name = unwrap_or (option_map (λ field. bytes_eq field name) (field_at fields index)) false
 
--- the first column, the names being those from an index on, whose field is not the name
+-- the first column whose field is not the name, if the names begin at an index
 abbrev pub first_other : Record → ℕ → List (List ℕ) → Option ℕ
 first_other fields index [] = None
 first_other fields index (name ∷ names) = if is_field fields index name then first_other fields (index + 1) names else Some (index + 1)
 
--- the column to tell of a faulty header
+-- the column named for a faulty header
 abbrev pub header_fault : List (List ℕ) → Record → Option ℕ
 header_fault names fields = if length fields == length names then first_other fields 0 names else Some 0
 
@@ -132,8 +132,8 @@ abbrev pub rows_under : {X : Type 0} → (ℕ → Record → Result X RowsFault)
 rows_under reads header records None = rows_from (row_of reads (length header)) 1 records
 rows_under reads header records (Some column) = Err (BadCsv 0 column)
 
--- the rows of an import with such headers: the number of fields of the first record decides which one is meant, and each
--- row has as many
+-- The rows of an import with such headers. The number of fields of the first record decides which header it has, and each row must have as
+-- many.
 abbrev pub rows_in : {X : Type 0} → (ℕ → Record → Result X RowsFault) → (ℕ → Record) → List Record → Result (List X) RowsFault
 rows_in reads header [] = Err (BadCsv 0 0)
 rows_in reads header (fields ∷ records) = rows_under reads (header (length fields)) records (header_fault (header (length fields)) fields)
@@ -165,7 +165,7 @@ versions_in = versions_under version_header
 abbrev pub workunits_in : List Record → Result Rows RowsFault
 workunits_in = workunits_under workunit_header
 
--- and what they said before versions had classes, when there was the shorter header alone
+-- the same before versions had classes, when there was only the shorter header
 abbrev pub former_versions_in : List Record → Result Rows RowsFault
 former_versions_in = versions_under former_version_header
 
@@ -176,7 +176,7 @@ former_workunits_in = workunits_under former_workunit_header
 abbrev pub Says : {A : Type 0} → (List Record → Result A RowsFault) → List ℕ → Result A RowsFault → Type 0
 Says reading text said = (records : List Record) × AreRecordsOf text records × (reading records ≡ said)
 
--- a text is refused: what its records say is told, unless memory was wanting
+-- a text is refused with what its records say, or because there was no memory
 abbrev pub Refuses : {A : Type 0} → (List Record → Result A RowsFault) → List ℕ → RowsFault → Type 0
 Refuses reading text (BadCsv row column) = Says reading text (Err (BadCsv row column))
 Refuses reading text Unavailable = ⊤

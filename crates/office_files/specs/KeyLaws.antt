@@ -1,4 +1,4 @@
--- Words. Versions are the same where their keys are.
+-- Words. Versions are the same exactly if their keys are.
 use Rattle.std.specs.Prelude.{◌≡◌, Bool, true, false, ◌&&◌, ◌==◌, refl}
 use Rattle.std.specs.Str.{bytes_eq}
 use Rattle.sched_book.specs.Imports.{same_version}

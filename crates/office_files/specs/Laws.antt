@@ -10,14 +10,14 @@ abbrev pub TextHasOneList : Type 0
 TextHasOneList = (text : List ℕ)
     → (records : List Record) × AreRecordsOf text records × ((others : List Record) → AreRecordsOf text others → others ≡ records)
 
--- each record is read as the row beside it, the first one's number being `row`
+-- each record is read as the row at the same place; the first one's number is `row`
 abbrev pub AllRead : {X : Type 0} → (ℕ → Record → Result X RowsFault) → ℕ → List Record → List X → Type 0
 AllRead reads row [] [] = ⊤
 AllRead reads row [] (x ∷ xs) = ⊥
 AllRead reads row (fields ∷ more) [] = ⊥
 AllRead reads row (fields ∷ more) (x ∷ xs) = (reads row fields ≡ Ok x) × AllRead reads (row + 1) more xs
 
--- the row of this number, of which the column is faulty, is the first faulty one of the records
+-- the row with this number is the first faulty one of the records, and this column of it is faulty
 pub record IsFirstFault {X : Type 0} (reads : ℕ → Record → Result X RowsFault) (records : List Record) (row column : ℕ) : Type 0 where
   pub before : List Record
   pub rows : List X
@@ -28,7 +28,7 @@ pub record IsFirstFault {X : Type 0} (reads : ℕ → Record → Result X RowsFa
   pub split : records ≡ before ++ fields ∷ after
   pub number : row ≡ length before + 1
 
--- under a good header, rows are told where every record is read as one, and else the first faulty one
+-- under a good header, either every record is read as a row, or the first faulty one is named
 pub record ReadsInOrder {X : Type 0} (reads : ℕ → Record → Result X RowsFault) (header : ℕ → Record) : Type 0 where
   pub good : (first : Record) (records : List Record) (rows : List X) → header_fault (header (length first)) first ≡ None
       → rows_in reads header (first ∷ records) ≡ Ok rows → AllRead (row_of reads (length (header (length first)))) 1 records rows

@@ -1,5 +1,5 @@
--- Rule. The records of a text of comma-separated values (RFC 4180), as the crate `csv` reads them with its default settings.
--- A byte order mark at the start is passed over; CR, LF and CR LF each end a record; an empty line is no record.
+-- Rule. The records of a text of comma-separated values (RFC 4180), as the crate `csv` reads them with its default settings. A byte order
+-- mark at the start is ignored. CR, LF and CR LF each end a record. An empty line is no record.
 use Rattle.std.specs.Prelude.{ℕ, List}
 use Rattle.csv.specs.Reading.{AreRecords, default_config, strip_bom}
 use Rattle.csv.specs.declared.parser.State.TheVariants as state

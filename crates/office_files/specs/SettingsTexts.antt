@@ -1,4 +1,4 @@
--- Rule. The settings of a project as a TOML text. The keys are this profile's; what a text is as a table is TOML's.
+-- Rule. The settings of a project as a TOML text. The keys are this profile's; how a text is read as a table is TOML's.
 use Rattle.std.specs.Prelude.{◌≡◌, ◌≤◌, ℕ, ℤ, pos, Bool, ◌||◌, List, length, codes, Option, Some, option_and_then, IsSome, IsTrue}
 use Rattle.std.specs.Str.{bytes_eq}
 use Rattle.toml.specs.Data.{Members, get_member, as_integer, as_str, as_bool}
@@ -24,7 +24,7 @@ is_setting key =
     || bytes_eq key (codes "max_wus_to_send") || bytes_eq key (codes "operator_key") || bytes_eq key (codes "request_delay")
     || bytes_eq key (codes "resend_lost_results")
 
--- a table has no key but those of settings
+-- a table has only keys of settings
 abbrev pub HasOnlySettings : Members → Type 0
 HasOnlySettings table = (key : List ℕ) → IsSome (get_member key table) → IsTrue (is_setting key)
 
@@ -32,13 +32,13 @@ HasOnlySettings table = (key : List ℕ) → IsSome (get_member key table) → I
 abbrev pub IsNumberAt : List ℕ → ℕ → ℕ → Members → ℕ → Type 0
 IsNumberAt key least most table n = (integer_at key table ≡ Some (pos n)) × (least ≤ n) × (n ≤ most)
 
--- a table has this word for the operator, of enough bytes
+-- a table has this word as the operator's key, and it has enough bytes
 pub record IsOperatorKey (table : Members) (key : List ℕ) : Type 0 where
   pub told : string_at (codes "operator_key") table ≡ Some key
   pub word : IsWord key
   pub enough : least_key ≤ length key
 
--- a table is that of these settings: each stands at its key, in range, and nothing else is there
+-- a table has these settings: each is at its key and in range, and there is nothing else
 pub record AreSettingsOf (table : Members) (s : Settings) : Type 0 where
   pub daily_result_quota : integer_at (codes "daily_result_quota") table ≡ Some (pos s.daily_result_quota)
   pub max_hosts : integer_at (codes "max_hosts") table ≡ Some (pos s.max_hosts)
@@ -50,10 +50,10 @@ pub record AreSettingsOf (table : Members) (s : Settings) : Type 0 where
   pub no_other : HasOnlySettings table
   pub in_limits : AreSettingsInLimits s
 
--- a text tells these settings: as TOML it is a table of them
+-- a text has these settings: as TOML it is a table of them
 abbrev pub TellsSettings : List ℕ → Settings → Type 0
 TellsSettings text s = (table : Members) × (parse_document text ≡ Some table) × AreSettingsOf table s
 
--- a text tells no two settings
+-- a text has at most one set of settings
 abbrev pub TextsTellOneSettings : Type 0
 TextsTellOneSettings = (text : List ℕ) (s t : Settings) → TellsSettings text s → TellsSettings text t → s ≡ t

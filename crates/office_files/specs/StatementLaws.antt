@@ -17,14 +17,14 @@ pub record IsWhole (w : World) (host : ℕ) : Type 0 where
 abbrev pub StatementsAreWhole : Type 0
 StatementsAreWhole = (w : World) (host : ℕ) → IsWhole w host
 
--- in a sound world each of its moments has a text, so that none is refused
+-- in a sound world each moment of a line has a text, so no statement is refused
 abbrev pub HaveTexts : Line → Type 0
 HaveTexts line = (line.sent ≤ last_civil) × (line.deadline ≤ last_civil)
 
 abbrev pub MomentsHaveTexts : Type 0
 MomentsHaveTexts = (w : World) (host : ℕ) → Sound w → All HaveTexts (lines_at w (owned_by w host))
 
--- the text of a moment is that of the date and time that stand at it
+-- the text of a moment is that of its date and time
 abbrev pub CivilTextsAreDates : Type 0
 CivilTextsAreDates =
     (civil : DateTime) (moment : ℕ) → civil_nanos civil ≡ pos (moment * 1_000_000_000)

@@ -21,11 +21,11 @@ use Rattle.office_files.specs.declared.statement.line.Line.{Line}
 
 -- The numbers of the three states are BOINC's.
 
--- 5 is over, by a report or a lapse, and 4 in progress
+-- 5 means over, by a report or a lapse, and 4 in progress
 abbrev pub server_state : Instance → ℕ
 server_state x = if is_some x.report || is_some x.lapse then 5 else 4
 
--- 1 is a success and 3 a client error; without a report 4 is no reply, whether late or dropped, and 0 not known yet
+-- 1 means a success and 3 a client error; without a report 4 means no reply, whether late or dropped, and 0 not known yet
 abbrev pub outcome_by : Option Outcome → Option Lapse → ℕ
 outcome_by (Some report) lapse = if report.success then 1 else 3
 outcome_by None lapse = if is_some lapse then 4 else 0
@@ -33,13 +33,13 @@ outcome_by None lapse = if is_some lapse then 4 else 0
 abbrev pub outcome : Instance → ℕ
 outcome x = outcome_by x.report x.lapse
 
--- 1 is valid, 2 invalid, 3 a report that was not judged, and 0 anything else
+-- 1 means valid, 2 invalid, 3 a report that was not judged, and 0 anything else
 abbrev pub validate_state_by : Option Verdict → Instance → ℕ
 validate_state_by (Some Valid) x = 1
 validate_state_by (Some Invalid) x = 2
 validate_state_by None x = if is_some x.report && not (is_judged x) then 3 else 0
 
--- the moment at which it was sent to the host, and 0 of what was given to none
+-- the moment at which it was sent to its host; 0 if it has no owner
 abbrev pub sent_of : Option Owner → ℕ
 sent_of None = 0
 sent_of (Some owner) = owner.sent
@@ -48,7 +48,7 @@ sent_of (Some owner) = owner.sent
 abbrev pub credit_by : Option Verdict → Workunit → ℕ
 credit_by v unit = if is_valid v then unit.credit else 0
 
--- what a line says of an instance, by the verdict on it
+-- what a line says of an instance with this verdict
 abbrev pub line_by : Option Verdict → Workunit → ℕ → Instance → Line
 line_by v unit number x = record {
   result = instance_name unit.name number;
@@ -61,18 +61,18 @@ line_by v unit number x = record {
   credit = credit_by v unit;
 }
 
--- the line of the instance of a number of a workunit, where one has it
+-- the line of the instance with a number of a workunit, if there is one
 abbrev pub line_in : Agreement → Workunit → List Instance → ℕ → Option Line
 line_in a unit xs number = option_map (λ x. line_by (verdict a unit xs x) unit number x) (slice_get xs number)
 
 abbrev pub line_at : World → Place → Option Line
 line_at w p = option_and_then (λ b. line_in (agreement_of w b) b.unit b.instances p.number) (unit_at w p.unit)
 
--- the lines of these places, in order; one where no instance stands has none
+-- the lines of these places, in order; a place with no instance has none
 abbrev pub lines_at : World → List Place → List Line
 lines_at w places = filter_map (line_at w) places
 
--- a number in three digits, with zeros before it, and millicredits as credits: 5000 is `5.000`
+-- a number in three digits, with zeros in front, and millicredits as credits: 5000 is `5.000`
 abbrev pub three_digits : ℕ → List ℕ
 three_digits n = replicate (3 - length (decimal n)) 48 ++ decimal n
 
@@ -108,6 +108,6 @@ abbrev pub text_of_lines : List Line → List ℕ
 text_of_lines lines =
     row_text default_writer header ++ flat_map line_text lines ++ row_text default_writer (total_fields (total_credit lines))
 
--- the statement of the host of a number, where one stands
+-- the statement of the host of a number, if there is such a host
 abbrev pub statement_of : World → ℕ → Option (List ℕ)
 statement_of w host = option_map (λ (h : HostRow). text_of_lines (lines_at w (owned_by w host))) (host_at w host)

@@ -1,4 +1,4 @@
-//! The rows of an import beside what stands at a desk.
+//! The rows of an import, checked against the rows at a desk.
 
 ghost use Rattle.std.specs.Prelude.{◌≡◌, ◌≢◌, ◌≤◌, ◌+◌, ◌||◌, not, nat_le, None, Some, IfOk, IfErr, OnOk};
 ghost use Rattle.std.specs.List.{list_any};
@@ -17,7 +17,7 @@ use sched_book::{Counts, Desk, Rows, Unavailable};
 use std::alloc::Global;
 use texts::SeenSet;
 
-/// Whether the name of a row stands or came by; it has come by then.
+/// Whether the name of a row exists or was seen in a row before it. The name is then seen.
 fn is_taken<'a, D: Desk, R: NamedRow>(
     alloc: Global,
     desk: &mut D,
@@ -34,7 +34,7 @@ fn is_taken<'a, D: Desk, R: NamedRow>(
     Ok(is_known || !is_first)
 }
 
-/// The first row whose name stands, or has come by in a row before it.
+/// The first row whose name exists, or was seen in a row before it.
 fn first_taken<D: Desk, R: NamedRow>(
     alloc: Global,
     desk: &mut D,
@@ -79,7 +79,7 @@ fn lacks_app<D: Desk>(alloc: Global, desk: &mut D, app: &str) -> Result<bool, Un
     Ok(desk.app_by_name(alloc, app)?.is_none())
 }
 
-/// The first row whose application does not stand.
+/// The first row whose application does not exist.
 fn first_without_app<D: Desk, R: AppRow>(
     alloc: Global,
     desk: &mut D,
@@ -109,7 +109,7 @@ fn unknown_in<D: Desk>(alloc: Global, desk: &mut D, rows: &Rows) -> Result<Optio
     }
 }
 
-/// Whether a table with so many rows may have more.
+/// Whether a table with so many rows has room for the new ones.
 fn fits(count: u32, new: usize, most: usize) -> bool
     requires { most ≤ MOST_WORKUNITS }
     ensures { result ≡ nat_le (count + new) most }
@@ -141,12 +141,12 @@ fn has_room<D: Desk>(desk: &mut D, rows: &Rows) -> Result<bool, Unavailable>
     Ok(has_room_beside(counts, rows))
 }
 
-/// Checks the rows of an import beside what stands.
+/// Checks the rows of an import against the rows that exist.
 ///
-/// All rows are looked through for a name that stands or came before ([`RowsFault::DuplicateName`]), then for an
-/// application that does not stand ([`RowsFault::UnknownReference`]); then no table may have too many rows
-/// ([`RowsFault::TableFull`]). The first row with such a fault is told. [`RowsFault::Unavailable`] is want of
-/// memory, or the desk's.
+/// It first looks through all rows for a name that exists or was seen before ([`RowsFault::DuplicateName`]). Then it
+/// looks for an application that does not exist ([`RowsFault::UnknownReference`]). Then no table may get too many rows
+/// ([`RowsFault::TableFull`]). The fault names the first such row. [`RowsFault::Unavailable`] means that there is no
+/// memory, or that the desk is unavailable.
 pub fn check_rows<D: Desk>(alloc: Global, desk: &mut D, rows: &Rows) -> Result<(), RowsFault>
     ensures reads { D.reads desk.old desk.new }
     ensures ok { Trusted D.Units desk.old desk.new (

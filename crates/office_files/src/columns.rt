@@ -1,4 +1,4 @@
-//! What one field says, where it is of the wanted form.
+//! What one field says, if it is of the wanted form.
 
 ghost use Rattle.std.specs.Prelude.{◌≡◌, ◌≤◌, ◌^◌, IsTrue, IfSome, Some, None, nat_lt, option_map, if◌then◌else◌};
 ghost use Rattle.std.specs.Char.{is_ascii_digit};
@@ -42,7 +42,7 @@ fn is_count_text(field: &[u8]) -> bool
     field == b"0".as_slice() || (b'1' <= *first && are_digits(field))
 }
 
-/// What a count text says, where it is below 2^64.
+/// The value of a count text, if it is below 2^64.
 fn value_of_count(field: &[u8]) -> Option<u64>
     requires { IsTrue (spec.is_count_text field.now) }
     ensures { result ≡ (if nat_lt (digits_value 10 field.now) (2 ^ 64) then Some (digits_value 10 field.now) else None) }
@@ -56,7 +56,7 @@ fn value_of_count(field: &[u8]) -> Option<u64>
     }
 }
 
-/// The number from `least` to `most` that a count text says.
+/// The number of a count text, if it is from `least` to `most`.
 pub(crate) fn number_in(field: &[u8], least: u64, most: u64) -> Option<u64>
     ensures value { result ≡ spec.number_in least most field.now }
     ensures range { IfSome result (λ n. (least ≤ n) × (n ≤ most)) }
@@ -87,7 +87,7 @@ pub(crate) fn agreement_in(field: &[u8]) -> Option<Agreement>
     }
 }
 
-/// The mark of a workunit: `0`, or `1` for one that is to keep to the class of its first version.
+/// The mark of a workunit: `0`, or `1` for one that keeps to the class of its first version.
 pub(crate) fn rule_in(field: &[u8]) -> Option<ClassRule>
     ensures value { result ≡ spec.rule_in field.now }
     ensures first { IfSome result (λ rule. (class_of rule ≡ None) × (first_rule rule ≡ rule)) }

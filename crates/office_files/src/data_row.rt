@@ -51,7 +51,7 @@ impl<'a> DataRow<'a> {
         Ok(Text::copied(alloc, word)?)
     }
 
-    /// The word in a column, or this one where the row is too short for it.
+    /// The word in a column, or this one if the row is too short for it.
     #[tactic(auto, unfolding(crate::specs::Importing::column_or))]
     pub(crate) fn word_or(
         &self,
@@ -85,7 +85,7 @@ impl<'a> DataRow<'a> {
         Ok(Text::copied(alloc, name)?)
     }
 
-    /// How outputs are compared, by a column.
+    /// How outputs are compared, as a column says.
     #[tactic(auto, unfolding(crate::specs::Importing::column_of))]
     pub(crate) fn agreement(&self, column: usize) -> Result<Agreement, RowsFault>
         requires { 1 ≤ column }
@@ -98,7 +98,8 @@ impl<'a> DataRow<'a> {
             .ok_or(self.fault(column))
     }
 
-    /// Which versions may do a workunit, by a mark in a column. A row that is too short for it is not marked.
+    /// Which versions may do a workunit, as the mark in a column says. If the row is too short for it, the workunit is
+    /// not marked.
     #[tactic(auto, unfolding(crate::specs::Importing::column_of, crate::specs::Importing::column_or))]
     pub(crate) fn rule(&self, column: usize) -> Result<ClassRule, RowsFault>
         requires { 1 ≤ column }
@@ -127,7 +128,7 @@ impl<'a> DataRow<'a> {
             .ok_or(self.fault(column))
     }
 
-    /// The same of 32 bits.
+    /// The same for a number of 32 bits.
     pub(crate) fn small(&self, column: usize, least: u32, most: u32) -> Result<u32, RowsFault>
         requires { 1 ≤ column }
         ensures said { Gives result (column_of self.now.number column (number_in least most) (fields_of self.now.record.now)) }

@@ -15,18 +15,18 @@ pub enum RowsFault {
     /// The first faulty row of the text, and in it the first faulty column. Both count from 1; row 0 is the header,
     /// and column 0 the whole row.
     BadCsv { row: u64, column: u64 },
-    /// The name in this row stands already, or in a row before it.
+    /// The name in this row exists already, or is in a row before it.
     DuplicateName(u64),
-    /// This row names an application that does not stand.
+    /// This row names an application that does not exist.
     UnknownReference(u64),
     /// More rows than a table may have.
     TableFull,
-    /// Memory, size or disk is wanting.
+    /// There is not enough memory or disk, or a size is too large.
     Unavailable,
 }
 
 impl RowsFault {
-    /// The refusal that tells it.
+    /// Returns its refusal.
     pub fn fault(self) -> Fault
         ensures { result ≡ refusal_of self }
     {

@@ -13,7 +13,7 @@ use sched_book::limits::{MOST_AMOUNT, MOST_CREDIT, MOST_DELAY, MOST_INSTANCES, M
 use sched_book::{Account, App, Version, Workunit};
 use std::alloc::Global;
 
-/// The most that any count of a workunit may ask for.
+/// The greatest value of any count of a workunit.
 const MOST_IN_UNIT: u32 = MOST_INSTANCES as u32;
 
 /// The columns of workunits. An import may lack the last.
@@ -37,7 +37,7 @@ const WORKUNIT_COLUMNS: [&str; 13] = [
 pub(crate) trait ImportRow: Drop {
     ghost use Rattle.office_files.specs.declared.fault.RowsFault.{RowsFault};
 
-    /// The fields of its header, where the first record has so many.
+    /// The fields of its header, if the first record has so many.
     ghost header: { ℕ → List (List ℕ) };
 
     /// What a data row of so many fields says.
@@ -46,7 +46,7 @@ pub(crate) trait ImportRow: Drop {
     /// The ranges of its values.
     ghost is_in_limits: { Self → Type 0 };
 
-    /// The column to tell of a faulty header: the first whose field is another, or 0 where their number is wrong.
+    /// The column named for a faulty header: the first whose field is another, or 0 if their number is wrong.
     fn header_fault(fields: &ByteRecord) -> Option<u64>
         ensures { result ≡ spec.header_fault (header (length (fields_of fields.now))) (fields_of fields.now) };
 

@@ -9,12 +9,12 @@ pub fn a_text_has_one_list_of_records()
     ensures { TextHasOneList }
 {}
 
-/// Under a good header, rows are told where every record is one, in order; and else the first record that is none.
+/// Under a good header, either every record is read as a row, in order, or the first record that is none is named.
 pub fn the_first_faulty_row_is_told()
     ensures { ImportsReadInOrder }
 {}
 
-/// A TOML text tells no two settings.
+/// A TOML text has at most one set of settings.
 pub fn a_text_tells_one_settings()
     ensures { TextsTellOneSettings }
 {}
@@ -29,7 +29,7 @@ pub fn moments_have_texts()
     ensures { MomentsHaveTexts }
 {}
 
-/// The civil text of a moment is that of the date and time that `jiff` tells of it.
+/// The civil text of a moment is that of the date and time that `jiff` gives for it.
 pub fn civil_texts_are_dates()
     ensures { CivilTextsAreDates }
 {}

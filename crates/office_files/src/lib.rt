@@ -1,12 +1,12 @@
-//! The files of a project's office: imports and statements by CSV, and settings by TOML.
+//! The files of a project's office: imports and statements as CSV, and settings as TOML.
 //!
-//! An operator brings accounts, applications, versions and workunits as texts of comma-separated values (RFC 4180),
-//! one kind a text. [`read_accounts`], [`read_apps`], [`read_versions`] and [`read_workunits`] read them, and
-//! [`check_rows`] checks what they say beside what stands at a desk.
+//! An operator brings accounts, applications, versions and workunits as texts of comma-separated values (RFC 4180), one
+//! kind in each text. [`read_accounts`], [`read_apps`], [`read_versions`] and [`read_workunits`] read them, and
+//! [`check_rows`] checks the rows against those that exist at a desk.
 //!
-//! The first record is the header, row 0; each further one is a data row of as many fields. A byte order mark and
-//! empty lines are passed over; CR, LF and CR LF end a record. Numbers are count texts: `0`, or a digit 1 to 9
-//! followed by digits.
+//! The first record is the header, row 0. Each further one is a data row of as many fields. A byte order mark and empty
+//! lines are ignored; CR, LF and CR LF end a record. Numbers are count texts: `0`, or a digit 1 to 9 followed by
+//! digits.
 //!
 //! | Kind | Header | What the columns hold |
 //! |---|---|---|
@@ -26,11 +26,11 @@
 //! | | `credit` | 0 to 100,000,000 millicredits |
 //! | | and, in a longer header, `marked` | `0`, or `1` for one that keeps to the class of its first version |
 //!
-//! The number of fields of the first record decides which header is meant. Under the shorter one a version has its
-//! platform's word for a class, and no workunit is marked.
+//! The number of fields of the first record decides which header it is. Under the shorter one a version has its
+//! platform's word as its class, and no workunit is marked.
 //!
-//! When the tables of a project are made, its settings are a TOML text, which [`settings_of`] reads: a table of just
-//! these keys, all of them, in any order.
+//! When the tables of a project are made, its settings are a TOML text, which [`settings_of`] reads. It is a table of
+//! exactly these keys, in any order.
 //!
 //! | Key | What it holds |
 //! |---|---|
@@ -42,7 +42,7 @@
 //! | `request_delay` | 0 to 2,592,000 seconds |
 //! | `resend_lost_results` | `true` or `false` |
 //!
-//! [`host_statement`] tells what became of each instance that a host was given; [`statement`] has its format.
+//! [`host_statement`] returns what became of each instance that a host was given; [`statement`] has its format.
 #![tactic(auto)]
 
 pub mod checks;

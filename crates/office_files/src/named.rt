@@ -1,4 +1,4 @@
-//! Rows that have names: which names stand already, and which applications a row needs.
+//! Rows that have names: which names exist already, and which applications a row needs.
 
 ghost use Rattle.std.specs.Prelude.{◌≡◌, Bool, List, ℕ, map, IfOk, refl};
 ghost use Rattle.std.specs.List.{list_any};
@@ -11,22 +11,22 @@ ghost use Rattle.sched_book.specs.declared.instance.UnitBook.{UnitBook};
 use sched_book::{Account, App, Desk, Keyed, Unavailable, Version, Workunit};
 use std::alloc::Global;
 
-/// A row whose name may stand once.
+/// A row whose name may exist only once.
 pub(crate) trait NamedRow: Keyed {
     ghost use Rattle.sched_book.specs.declared.world.World.{World};
 
     /// Two rows have the same name.
     ghost same: { Self → Self → Bool };
 
-    /// The rows of its kind that stand.
+    /// The rows of its kind that exist.
     ghost shelf: { World → List Self };
 
-    /// Whether its name stands.
+    /// Whether its name exists.
     fn is_known<D: Desk>(&self, alloc: Global, desk: &mut D) -> Result<bool, Unavailable>
         ensures reads { D.reads desk.old desk.new }
         ensures answer { Trusted D.Units desk.old desk.new (IfOk result (λ known. known ≡ list_any (same self.now) (shelf (D.world desk.old)))) };
 
-    // Names are the same where keys are.
+    // Names are the same exactly if keys are.
     ghost same_by_key: { (x y : Self) → same x y ≡ same_key (Self.key_of x) (Self.key_of y) };
 }
 

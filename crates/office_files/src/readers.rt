@@ -74,8 +74,8 @@ fn read_text<R: ImportRow>(alloc: Global, text: &[u8]) -> Result<Listed<R>, Rows
 
 /// Reads an import of accounts, under the header `authenticator,name`.
 ///
-/// [`RowsFault::BadCsv`] tells the first faulty row, and in it the first faulty column;
-/// [`RowsFault::Unavailable`] is want of memory.
+/// [`RowsFault::BadCsv`] names the first faulty row, and in it the first faulty column. [`RowsFault::Unavailable`]
+/// means that there is no memory.
 #[tactic(auto, unfolding(crate::specs::Importing::accounts_in, texts::specs::Reading::and_then))]
 pub fn read_accounts(alloc: Global, text: &[u8]) -> Result<Rows, RowsFault>
     ensures ok { IfOk result (λ rows. Says accounts_in text.now (Ok rows)) }
@@ -95,8 +95,9 @@ pub fn read_apps(alloc: Global, text: &[u8]) -> Result<Rows, RowsFault>
     Ok(Rows::Apps(read_text(alloc, text)?))
 }
 
-/// Reads an import of versions, under the header `app,platform,version_num` or `app,platform,version_num,version_class`.
-/// Under the shorter one the class of a version is its platform's word. The faults are those of [`read_accounts`].
+/// Reads an import of versions, under the header `app,platform,version_num` or
+/// `app,platform,version_num,version_class`. Under the shorter one the class of a version is its platform's word. The
+/// faults are those of [`read_accounts`].
 #[tactic(auto, unfolding(crate::specs::Importing::versions_under, texts::specs::Reading::and_then))]
 pub fn read_versions(alloc: Global, text: &[u8]) -> Result<Rows, RowsFault>
     ensures ok { IfOk result (λ rows. Says versions_in text.now (Ok rows)) }
@@ -106,7 +107,7 @@ pub fn read_versions(alloc: Global, text: &[u8]) -> Result<Rows, RowsFault>
     Ok(Rows::Versions(read_text(alloc, text)?))
 }
 
-/// Reads an import of workunits, under a header of twelve columns, which have BOINC's names, or of these and `marked`. Under
+/// Reads an import of workunits. The header has twelve columns, which have BOINC's names, or these and `marked`. Under
 /// the shorter one no workunit is marked. The faults are those of [`read_accounts`].
 #[tactic(auto, unfolding(crate::specs::Importing::workunits_under, texts::specs::Reading::and_then))]
 pub fn read_workunits(alloc: Global, text: &[u8]) -> Result<Rows, RowsFault>

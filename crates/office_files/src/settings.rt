@@ -20,12 +20,12 @@ use std::fmt;
 use texts::{Memory, Text, is_word};
 use toml::Table;
 
-/// Why a text is not that of settings.
+/// Why a text is no text of settings.
 #[derive(Clone, Copy, Debug, PartialEq, Eq)]
 pub enum SettingsFault {
-    /// It is no TOML text, or no table of just the seven settings, each of its kind and in its range.
+    /// It is no TOML text, or not a table of exactly the seven settings, each of its kind and in its range.
     Bad,
-    /// Memory is wanting.
+    /// There is no memory.
     Memory,
 }
 
@@ -64,8 +64,8 @@ impl From<toml::de::Error> for SettingsFault {
     }
 }
 
-/// The settings that a TOML text tells: a table of just the seven keys, each with a value of its kind and in its range.
-/// A text that tells none is [`SettingsFault::Bad`].
+/// Reads the settings of a TOML text: a table of exactly the seven keys, each with a value of its kind and in its
+/// range. Any other text is [`SettingsFault::Bad`].
 pub fn settings_of(alloc: Global, text: &str) -> Result<Settings, SettingsFault>
     ensures ok { IfOk result (spec.TellsSettings text.now) }
     ensures range { IfOk result AreSettingsInLimits }
@@ -94,7 +94,7 @@ fn settings_in(alloc: Global, table: &Table) -> Result<Settings, SettingsFault>
     })
 }
 
-/// The operator's word.
+/// The operator's key.
 fn operator_key(alloc: Global, table: &Table) -> Result<Text, SettingsFault>
     ensures told { IfOk result (spec.IsOperatorKey (table_view table.now)) }
     ensures bad { IfErr result (λ e. e ≡ SettingsFault.Bad → (key : List ℕ) → ¬ spec.IsOperatorKey (table_view table.now) key) }
@@ -107,7 +107,7 @@ fn operator_key(alloc: Global, table: &Table) -> Result<Text, SettingsFault>
     }
 }
 
-/// Whether a table has no key but those of settings.
+/// Whether a table has only keys of settings.
 fn has_only_settings(table: &Table) -> bool
     ensures { result ≡ list_all (λ key. spec.is_setting (string_bytes key)) (keys table.now) }
 {

@@ -1,18 +1,18 @@
 //! The statement of a host: what became of each instance that it was ever given, as comma-separated values.
 //!
 //! The rows are those that `csv` writes, each ended by a line feed. Under the header there is a row for each instance
-//! that the host owns, in the order of their places, and behind these a row `total`, whose other columns are empty
-//! but for the last.
+//! that the host owns, in the order of their places. The last row is `total`; its other columns are empty, except the
+//! last.
 //!
 //! | Column | What it holds |
 //! |---|---|
 //! | `result` | the instance's name |
 //! | `app` | the application of its workunit |
 //! | `sent`, `deadline` | `YYYY-MM-DD HH:MM:SS`, in UTC |
-//! | `server_state` | 5 where the instance is over, by a report or a lapse, and else 4 |
+//! | `server_state` | 5 if the instance is over, by a report or a lapse, and else 4 |
 //! | `outcome` | 1 for a success, 3 for a client error; without a report 4 for a lapse, and else 0 |
 //! | `validate_state` | 1 for a valid result, 2 for an invalid one, 3 for a report that was not judged, and else 0 |
-//! | `credit` | the workunit's for a valid result, and else none, in credits of three places; in the last row all together |
+//! | `credit` | the workunit's for a valid result, and else none, in credits of three places; in the last row the sum |
 
 ghost use Rattle.std.specs.Prelude.{◌≡◌, IfOk};
 ghost use Rattle.sched_book.specs.Trusted.{Trusted};
@@ -41,10 +41,10 @@ fn text_at<D: Desk>(alloc: Global, desk: &mut D, places: &[Place]) -> Result<Tex
     text_of_lines(alloc, lines.as_slice())
 }
 
-/// The statement of the host of this number, or none where no such host stands.
+/// Returns the statement of the host of this number, or `None` if there is no such host.
 ///
-/// It is refused as unavailable where memory is wanting, and where a deadline is too late for a year of four digits,
-/// which none of a sound world is.
+/// It is unavailable if there is no memory, or if a deadline is too late for a year of four digits. In a sound world
+/// none is.
 pub fn host_statement<D: Desk>(
     alloc: Global,
     desk: &mut D,

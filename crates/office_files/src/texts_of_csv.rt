@@ -1,4 +1,4 @@
-//! The records of a text of comma-separated values (RFC 4180), by `csv`.
+//! The records of a text of comma-separated values (RFC 4180), read by `csv`.
 
 ghost use Rattle.std.specs.Prelude.{IfOk, map};
 ghost use Rattle.csv.specs.Records.{fields_of};
@@ -8,10 +8,11 @@ use csv::{ByteRecord, ReaderBuilder};
 use std::alloc::{AllocError, Global};
 use texts::Memory;
 
-/// The records of a text of comma-separated values, of any number of fields each.
+/// The records of a text of comma-separated values, with any number of fields each.
 ///
-/// Of the errors that `csv` may give, one of the reader below it can't come of a slice, though no contract rules it
-/// out, and of records of any length in bytes none but want of memory is left. So each is told as that.
+/// `csv` can return several errors. A fault of its reader can't occur, since a slice never fails, though no contract
+/// says so. Records of bytes may have any length, so the only other error is a lack of memory. Each error is returned
+/// as that.
 pub(crate) fn records_of(alloc: Global, text: &[u8]) -> Result<Vec<ByteRecord>, Memory>
     ensures { IfOk result (λ records. AreRecordsOf text.now (map fields_of records.items)) }
 {

@@ -27,7 +27,7 @@ use Rattle.sched_machine.proofs.Runs.Lasting.{owners_stay_in_step}
 use Rattle.past_laws.specs.Laws.{IsSentAgainBy, DeadlinesMoveByResendsAlone, IsSentAgainBySome, DeadlinesMoveByResendsOverMessages, IsInSight, NoHeldJobDropsFromSight}
 use Rattle.past_laws.proofs.Sounds.{what_stands_is_sound}
 
--- what is said by a message that says a call
+-- if a message says a call, this is what it says
 pub said_by : (said : Said) (caller : Caller) (r : Request) → SaysCall said (call.Rpc caller r) → said ≡ Rpc r
 said_by (Rpc request) caller r is = ap Rpc (sym is)
 said_by (Import kind batch text read) caller r is = absurd is
@@ -71,7 +71,7 @@ owner_stays old new m answer serves = cases (told_by old m.said) serves
     cases (Some told) quiet = λ p o owned. (o, ap (λ w. owner_at w p) quiet.1.world ∙ owned, refl, refl)
     cases None c = owners_stay_in_step old.world new.world c.call m.now c.answered c.step
 
--- what is said of an owner is said of one with the same host
+-- what is sent again for one owner is sent again for another with the same host
 pub same_host : (w : World) (m : Message) (p : Place) (n o : Owner) → n.host ≡ o.host → IsSentAgainBy w m p n → IsSentAgainBy w m p o
 same_host w m p n o same by = record {
   caller = by.caller;

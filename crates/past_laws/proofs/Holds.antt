@@ -25,7 +25,7 @@ use Rattle.sched_machine.proofs.Moves.Sound.{the_empty_world_is_sound}
 use Rattle.past_laws.specs.Laws.{HaveStood, HoldsWhereTablesStand, HoldsOfMessages}
 use Rattle.past_laws.proofs.Sounds.{calls_in_limits, last_after, what_stands_is_sound}
 
--- the first world of a run and its last
+-- R holds between the first world of a run and its last
 to_the_last : (R : World → World → Type 0) → HoldsInRuns R → ((w : World) → R w w) → (w : World) (calls : List (Call × ℕ)) (turns : List (Answered × World))
     → Sound w → AreCallsInLimits calls → Trace w calls turns → R w (last_world w turns)
 to_the_last R holds self w calls [] sound limits trace = self w
@@ -45,7 +45,7 @@ between R holds self old new more stood all =
     subst (R old.world) runs.2.last
     (to_the_last R holds self old.world runs.0 runs.1 sound (calls_in_limits runs.0 runs.2.limits) runs.2.trace)
 
--- the settings stay over a run, so that what stands after many messages stands for a longer past
+-- a run keeps the settings, so the tables after many messages agree with a longer past
 settings_stay : (w : World) (calls : List (Call × ℕ)) (turns : List (Answered × World)) → Trace w calls turns → (last_world w turns).settings ≡ w.settings
 settings_stay w calls [] trace = refl
 settings_stay w [] (t ∷ ts) trace = absurd trace
@@ -71,7 +71,7 @@ of_messages R holds self = (
     same : (t : Tables) → Same t t
     same t = record { world = refl; calls = λ key. refl; batches = λ kind batch. refl }
 
--- what stands is the last world of a run from the world of new tables
+-- the stored world is the last one of a run from the world of new tables
 where_tables_stand : (P : World → Type 0) → HoldsAlways P → HoldsWhereTablesStand P
 where_tables_stand P holds t stood =
     let s : Settings = t.world.settings in

@@ -61,7 +61,7 @@ owners_are_of_classes_at_a_message old new m answer stood serves p o owned = cas
 
 -- ---- many messages
 
--- what was given stays of its class while classes stay, and of one whose host and moment are the same
+-- an instance that was given is still given in a later world, while classes stay and the owner has the same host and moment
 pub given_on : (w later next : World) (m : Message) (p : Place) (n o : Owner) → ClassesStay later next → n.host ≡ o.host → n.sent ≡ o.sent
     → IsGivenByMessage w later m p n → IsGivenByMessage w next m p o
 given_on w later next m p n o stay host sent by = record {
@@ -84,7 +84,7 @@ owners_are_of_classes_over_messages old new (h ∷ more) all stood p o owned =
       ]
     ]
 
--- ---- what stands
+-- ---- what is stored
 
 -- a run leaves a sound world
 run_sound : (s : Settings) (turns : List Turn) → AreSettingsInLimits s → IsRun s turns → Sound (world_of s turns)

@@ -1,4 +1,4 @@
--- What stands for a past is sound, and so is what stands after messages.
+-- Tables that agree with a past are sound, and so are tables after messages.
 use Rattle.std.proofs.Common.{ℕ, List, [], ◌∷◌, subst}
 use Rattle.sched_book.specs.Sound.{Sound}
 use Rattle.sched_book.specs.Step.{empty_world}

@@ -1,4 +1,4 @@
--- Rule. What holds of tables that stand for a past, and through messages. (This project's own: BOINC's rules are in the machine's step.)
+-- Rule. What holds of tables that agree with a past, and through messages. (This project's own: BOINC's rules are in the machine's step.)
 use Rattle.std.specs.Prelude.{◌≡◌, ◌⊎◌, ℕ, true, List, [], ◌∷◌, Some, None}
 use Rattle.rpc_records.specs.Replies.{reply_text_of}
 use Rattle.rpc_records.specs.declared.reply.Reply.{Reply}
@@ -19,7 +19,7 @@ use Rattle.pasts.specs.declared.answer.Answer.TheVariants.{Good}
 use Rattle.sched_machine.specs.Held.{IsHeldByName}
 use Rattle.sched_machine.specs.Runs.{owner_at, IsSentAgain}
 
--- The tables stand for a past, and their settings are within limits.
+-- The tables agree with a past, and their settings are within limits.
 pub record HaveStood (t : Tables) : Type 0 where
   pub settings : AreSettingsInLimits t.world.settings
   pub past : Past
@@ -28,15 +28,15 @@ pub record HaveStood (t : Tables) : Type 0 where
 abbrev pub StandsIsSound : Type 0
 StandsIsSound = (t : Tables) → HaveStood t → Sound t.world
 
--- something holds of what stands
+-- P holds of the world of such tables
 abbrev pub HoldsWhereTablesStand : (World → Type 0) → Type 0
 HoldsWhereTablesStand P = (t : Tables) → HaveStood t → P t.world
 
--- R holds between what stands before a message and after it
+-- R holds between the world before a message and the world after it
 abbrev pub HoldsAtAMessage : (World → World → Type 0) → Type 0
 HoldsAtAMessage R = (old new : Tables) (m : Message) (answer : Answer) → HaveStood old → Serves old m answer new → R old.world new.world
 
--- and between any two worlds of many messages, the earlier first: what stands after some of them, and after more
+-- R holds between any two worlds of many messages, the earlier first: the one after some of them, and the one after more
 abbrev pub HoldsOverMessages : (World → World → Type 0) → Type 0
 HoldsOverMessages R =
     (old mid new : Tables) (some more : List Heard) → HaveStood old → ServesAll old some mid → ServesAll mid more new → R mid.world new.world
@@ -52,18 +52,18 @@ pub record IsSentAgainBy (w : World) (m : Message) (p : Place) (o : Owner) : Typ
   pub is_caller : IsCaller w caller request
   pub again : IsSentAgain w (call.Rpc caller request) p o
 
--- through a message the deadline of an instance that was given to a host stays, or its host's call has it sent again
+-- through a message the deadline of an instance with an owner stays, or its host's call has the instance sent again
 abbrev pub DeadlinesMoveByResendsAlone : Type 0
 DeadlinesMoveByResendsAlone =
     (old new : Tables) (m : Message) (answer : Answer) → Serves old m answer new → (p : Place) (o : Owner) → owner_at old.world p ≡ Some o
     → (deadline_at new.world p ≡ deadline_at old.world p) ⊎ IsSentAgainBy old.world m p o
 
--- some message of these is a call of a host, which has the instance at a place sent again
+-- one of these messages is a call of a host, which has the instance at a place sent again
 abbrev pub IsSentAgainBySome : (old : Tables) (more : List Heard) (new : Tables) → ServesAll old more new → Place → Owner → Type 0
 IsSentAgainBySome old [] new all p o = ⊥
 IsSentAgainBySome old (h ∷ more) new all p o = IsSentAgainBy old.world h.message p o ⊎ IsSentAgainBySome all.0 more new all.2 p o
 
--- through many messages, whatever stands before them, the deadline stays, or a call of its host among them has it sent again
+-- through many messages, from any tables, the deadline stays, or a call of its host among them has the instance sent again
 abbrev pub DeadlinesMoveByResendsOverMessages : Type 0
 DeadlinesMoveByResendsOverMessages =
     (old new : Tables) (more : List Heard) (all : ServesAll old more new) (p : Place) (o : Owner) → owner_at old.world p ≡ Some o

@@ -1,5 +1,5 @@
 //! Laws of tables. Each function does nothing; its contract is the law. In each the settings are within their limits,
-//! and the tables before stand for some past.
+//! and the tables before agree with some past.
 
 ghost use Rattle.past_laws.specs.Classes.{OwnersAreOfClassesAtAMessage, OwnersAreOfClassesOverMessages, OwnersWereGiven};
 ghost use Rattle.past_laws.specs.Laws.{StandsIsSound, HoldsOfMessages, HoldsWhereTablesStand, DeadlinesMoveByResendsAlone, DeadlinesMoveByResendsOverMessages, NoHeldJobDropsFromSight};
@@ -7,22 +7,22 @@ ghost use Rattle.sched_machine.specs.Classes.{ClassesStay};
 ghost use Rattle.sched_machine.specs.Decisions.{CanonicalsStay, VerdictsStay, StatusesStay, CreditsStay, CreditsAddUp};
 ghost use Rattle.sched_machine.specs.Runs.{OwnersStay, ReportsStay, LapsesStay, OneForEachUser};
 
-/// Tables that stand for a past are sound.
+/// Tables that agree with a past are sound.
 pub fn what_stands_is_sound()
     ensures { StandsIsSound }
 {}
 
-/// Whatever messages come, an instance that was given to a host stays that host's, with its moment of sending.
+/// For any messages, an instance that was given to a host stays that host's, with its moment of sending.
 pub fn owners_stay()
     ensures { HoldsOfMessages OwnersStay }
 {}
 
-/// A deadline moves only where a call of the instance's host has it sent again.
+/// A deadline moves only if a call of the instance's host has the instance sent again.
 pub fn deadlines_move_by_resends_alone()
     ensures { DeadlinesMoveByResendsAlone }
 {}
 
-/// So it is over many messages, and so between any two of them.
+/// The same over many messages, and so between any two of them.
 pub fn deadlines_move_by_resends_over_messages()
     ensures { DeadlinesMoveByResendsOverMessages }
 {}
@@ -67,30 +67,31 @@ pub fn one_for_each_user()
     ensures { HoldsWhereTablesStand OneForEachUser }
 {}
 
-/// After a first-heard call that lists what its client has, where lost jobs are sent again, its host holds just what
-/// it held, lists and did not report, and what the reply names.
+/// Suppose that a first-heard call lists what its client has, and that lost jobs are sent again. Then its host holds
+/// just what it held, lists and did not report, and what the reply names.
 pub fn no_held_job_drops_from_sight()
     ensures { NoHeldJobDropsFromSight }
 {}
 
-/// A workunit that keeps to a class keeps to it for ever, and one that is not marked is never marked.
+/// A workunit that keeps to a class keeps to it for ever. One that is not marked is never marked.
 pub fn classes_stay()
     ensures { HoldsOfMessages ClassesStay }
 {}
 
-/// Who owns an instance after a message owned it before, or the message is its call, which gives it the instance with a version
-/// of the class that the workunit then keeps to, if it is marked.
+/// If a host owns an instance after a message, it owned it before, or the message is its call. That call gives it the
+/// instance with a version of the class that the workunit then keeps to, if the workunit is marked.
 pub fn owners_are_of_classes_at_a_message()
     ensures { OwnersAreOfClassesAtAMessage }
 {}
 
-/// So it is over many messages: some call among them gave it, with a version of the class that the workunit keeps to at their end.
+/// The same over many messages: some call among them gave it, with a version of the class that the workunit keeps to at
+/// their end.
 pub fn owners_are_of_classes_over_messages()
     ensures { OwnersAreOfClassesOverMessages }
 {}
 
-/// So each owner in tables that stand for a past got its instance by a call of its host in the run by which they stand, with a
-/// version of the class that the workunit keeps to.
+/// If tables agree with a past, each owner got its instance by a call of its host in their run. The version was of the
+/// class that the workunit keeps to.
 pub fn owners_were_given()
     ensures { OwnersWereGiven }
 {}

@@ -42,7 +42,7 @@ use Rattle.pasts.proofs.StepLeaves.{step_leaves}
 
 -- ---- names in a list
 
--- the name that passes is the one that is asked for
+-- the name that passes the test is the one that is asked for
 is_name-is : (asked name : ℕ × List ℕ) → is_name asked.0 asked.1 name ≡ true → name ≡ asked
 is_name-is asked name passes =
     let parts = and_parts (name.0 == asked.0) (bytes_eq name.1 asked.1) passes in
@@ -59,7 +59,7 @@ is_name-self name =
 abbrev place_of : ℕ × List ℕ → List (ℕ × List ℕ) → Option ℕ
 place_of name names = place_where (is_name name.0 name.1) names
 
--- two names at one place are one
+-- two names at one place are equal
 one_name : (names : List (ℕ × List ℕ)) (a b : ℕ × List ℕ) (n : ℕ) → place_of a names ≡ Some n → place_of b names ≡ Some n → a ≡ b
 one_name names a b n first second =
     let x : FoundFrom (is_name a.0 a.1) 1 names n = found (is_name a.0 a.1) names n first in
@@ -80,7 +80,7 @@ unless : (test : Bool) (x y : List Kept) → (test ≡ true → ⊥) → cond te
 unless true x y never = absurd (never refl)
 unless false x y never = refl
 
--- What is put at the number of a name is what is kept of it, and of no other.
+-- What is put at the number of a name is kept of that name and of no other.
 put_kept : (names : List (ℕ × List ℕ)) (mine asked : ℕ × List ℕ) (o : Option ℕ) (kept : ℕ → List Kept) (new : List Kept) (same : Bool)
     → place_of mine names ≡ o → is_name asked.0 asked.1 mine ≡ same
     → kept_at (put_at (unwrap_or o (length names + 1)) new kept) (place_of asked (names_after mine o names))
@@ -123,7 +123,7 @@ put_kept names mine asked (Some n) kept new false here other = cases (place_of a
 
 -- ---- a call
 
--- the number of a key's host, by the frame alone
+-- the number of a key's host, from the frame alone
 abbrev host_in : Shelf → List (ℕ × List ℕ) → Key → Option ℕ
 host_in shelf names key = option_and_then (λ account. place_of (account, key.host_cpid) names) (account_on shelf key.authenticator)
 
@@ -134,7 +134,7 @@ host_in-frame w key = λ i. option_and_then (λ account. known account i) (accou
     known account =
         known-place w.hosts account key.host_cpid ∙ sym (place_where-is (is_name account key.host_cpid) (map host_name w.hosts))
 
--- what is kept at the number of a caller's host, also of one that is yet to be made
+-- what is kept at the number of a caller's host, even if the host is still to be made
 pub at_number : (w : World) (host : Option ℕ) (kept : ℕ → List Kept) → AreOfHosts w kept → kept (unwrap_or host (length w.hosts + 1)) ≡ kept_at kept host
 at_number w None kept of = of (length w.hosts + 1) (omega arith)
 at_number w (Some n) kept of = refl
@@ -169,7 +169,7 @@ call_kept era w after c r now answer caller step body kept of key =
     next : unwrap_or c.host (length names + 1) ≡ host_number w c
     next = ap (λ n. unwrap_or c.host (n + 1)) (length-map w.hosts host_name)
 
-    -- what is kept before the call is the same, by number and by key, where the key is the caller's
+    -- if the key is the caller's, what is kept before the call is the same by number and by key
     before : (account : ℕ) (same : Bool) → is_name account key.host_cpid mine ≡ same
         → (if same then new (kept_at kept c.host) else kept_at kept (place_of (account, key.host_cpid) names))
         ≡ (if same then new (kept_at kept (place_of (account, key.host_cpid) names)) else kept_at kept (place_of (account, key.host_cpid) names))
@@ -197,7 +197,7 @@ call_kept era w after c r now answer caller step body kept of key =
 
 -- ---- an import, and a tick
 
--- behind those that do not pass
+-- after items that do not pass
 position_behind : {X : Type 0} (p : X → Bool) (m : ℕ) (xs ys : List X) (n : ℕ) → position_from p m xs ≡ None → position_from p m (xs ++ ys) ≡ Some n
     → m + length xs ≤ n
 position_behind p m [] ys n none is = let at = found_from p m ys n is in omega (arith, at.2)
@@ -208,7 +208,7 @@ position_behind p m (x ∷ xs) ys n none is = cases (p x) none is (position_behi
     cases true none is later = absurd cc
     cases false none is later = let far : m + 1 + length xs ≤ n = later none is in omega (arith, far)
 
--- a host's account stands
+-- a host's account exists
 account_stands : (w : World) (account host : ℕ) (cpid : List ℕ) → Sound w → known_host w account cpid ≡ Some host → account ≤ length w.accounts
 account_stands w account host cpid sound is =
     let x : FoundFrom (is_host_of account cpid) 1 w.hosts host = found (is_host_of account cpid) w.hosts host is in
@@ -255,9 +255,9 @@ tick_kept w after now answer step key =
     ∙ ap (λ (f : Frame). host_in f.shelf f.hosts key) (step_leaves w after call.Tick now answer step)
     ∙ sym (host_in-frame w key)
 
--- ---- hosts that stand
+-- ---- hosts that exist
 
--- no number is put at that is beyond the hosts
+-- nothing is put at a number beyond the hosts
 put_of : (m n : ℕ) (number : ℕ) (new : List Kept) (kept : ℕ → List Kept) → ((host : ℕ) → m < host → kept host ≡ []) → m ≤ n → number ≤ n
     → (host : ℕ) → n < host → put_at number new kept host ≡ []
 put_of m n number new kept of more within host beyond =
@@ -268,7 +268,7 @@ put_of m n number new kept of more within host beyond =
 some_place : (names : List (ℕ × List ℕ)) (a : ℕ × List ℕ) (n : ℕ) → place_of a names ≡ Some n → 1 ≤ n
 some_place names a n is = let x : FoundFrom (is_name a.0 a.1) 1 names n = found (is_name a.0 a.1) names n is in omega (arith, x.2)
 
--- a call puts at the number of a host that stands after it
+-- a call puts at the number of a host that exists after it
 names_stand : (names : List (ℕ × List ℕ)) (mine : ℕ × List ℕ) (o : Option ℕ) → place_of mine names ≡ o
     → (length names ≤ length (names_after mine o names)) × (1 ≤ unwrap_or o (length names + 1)) × (unwrap_or o (length names + 1) ≤ length (names_after mine o names))
 names_stand names mine None here =
@@ -276,7 +276,7 @@ names_stand names mine None here =
     (omega (arith, one_more), omega arith, omega (arith, one_more))
 names_stand names mine (Some n) here = (omega arith, some_place names mine n here, within names mine n here)
 
--- the hosts behind a call: no fewer than before, and the caller's is one of them
+-- the hosts after a call: no fewer than before, and the caller's is one of them
 pub call_hosts : (w after : World) (c : Caller) (r : Request) (now : ℕ) (answer : Answered) → IsCaller w c r → Step w (call.Rpc c r) now after answer
     → (length w.hosts ≤ length after.hosts) × (1 ≤ host_number w c) × (host_number w c ≤ length after.hosts)
 call_hosts w after c r now answer caller step =
@@ -342,7 +342,7 @@ kept_by_number w after Tick (call.Import new) now answer sound is step era kept 
 kept_by_number w after (Read tells) c now answer sound is step era kept of = absurd is
 kept_by_number w after (Refused fault) c now answer sound is step era kept of = absurd is
 
--- no host goes
+-- no host is removed
 pub no_host_goes : (w after : World) (c : Call) (now : ℕ) (answer : Answered) → Step w c now after answer → length w.hosts ≤ length after.hosts
 no_host_goes w after (call.Rpc c r) now answer step = (call_hosts w after c r now answer (caller_of w after c r now answer step) step).0
 no_host_goes w after (call.Import new) now answer step = let same = import_hosts w after new now answer step in omega (arith, same)

@@ -1,4 +1,4 @@
--- Tables that serve a message stand for the past and that message.
+-- Tables that agree with a past and serve a message agree with both.
 use Rattle.std.proofs.Common.{◌≡◌, ℕ, List, [], ◌∷◌, true, refl, sym, ◌∙◌, ap, subst, inl, inr}
 use Rattle.std.specs.Prelude.{if◌then◌else◌, Option, Some, None, is_none}
 use Rattle.sched_book.specs.Step.{Step}
@@ -22,7 +22,7 @@ use Rattle.pasts.proofs.RunLeaves.{IsRun, run_leaves}
 use Rattle.pasts.proofs.StepLeaves.{step_leaves}
 use Rattle.pasts.proofs.ToldNone.{told_none}
 
--- ---- a run that answers a past is over its first-heard messages
+-- ---- if a run answers a past, it is over its first-heard messages
 
 abbrev pub IsRunOf : Settings → List Message → List Turn → Type 0
 IsRunOf s messages turns = (messages_of turns ≡ messages) × IsRun s turns
@@ -47,7 +47,7 @@ run_of s (h ∷ past) turns answers =
 pub runs_the_first_heard : RunsTheFirstHeard
 runs_the_first_heard t past turns by = (run_of t.world.settings past turns by.answers).0
 
--- ---- tables that say the same
+-- ---- tables that hold the same
 
 pub same_itself : (t : Tables) → Same t t
 same_itself t = record { world = refl; calls = λ key. refl; batches = λ kind batch. refl }
@@ -69,7 +69,7 @@ new_tables_stand s t same =
 
 -- ---- one message
 
--- what a message is told by the run that tables stand by
+-- the answer to a message without a step, from the run that tables agree with
 pub told_by_run : (t : Tables) (past : Past) (turns : List Turn) → StandsBy t past turns → (said : Said)
     → told_by t said ≡ told (world_of t.world.settings turns) (kept_of turns) (batch_of turns) said
 told_by_run t past turns by said = λ i. told (by.world i) (λ key. by.calls key i) (λ kind batch. by.batches kind batch i) said
@@ -146,7 +146,7 @@ stands_is_carried old new m answer serves past stands = cases (told_by old m.sai
     )
     cases None is c = (turn_of old m answer new c ∷ stands.0, commit_stands old new m answer past stands.0 stands.1 is c)
 
--- ---- what stands is of the first-heard messages
+-- ---- the stored rows are those of the first-heard messages
 
 pub rows_are_of_first_heard : RowsAreOfFirstHeard
 rows_are_of_first_heard t past stands =

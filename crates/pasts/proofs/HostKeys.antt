@@ -1,4 +1,4 @@
--- The hosts of a run are those of its calls' keys: their names beside the keys, and the number of a key's host.
+-- The hosts of a run are those of its calls' keys: their names and the keys in one order, and the number of a key's host.
 use Rattle.std.proofs.Common.{◌≡◌, ℕ, suc, ◌+◌, Bool, true, false, cond, List, [], ◌∷◌, ◌++◌, map, length, Option, Some, None, slice_get, sym, refl, ap, ◌∙◌, subst, arith}
 use Rattle.std.specs.Prelude.{◌&&◌, ◌==◌, option_and_then}
 use Rattle.std.specs.List.{position_from}
@@ -34,12 +34,12 @@ pub known-place : (hosts : List HostRow) (account : ℕ) (cpid : List ℕ)
 known-place hosts account cpid =
     place_where-is (is_host_of account cpid) hosts ∙ position-map host_name (is_host_of account cpid) (is_name account cpid) (λ h. refl) 1 hosts
 
--- the names with this one behind them where it has no number
+-- the names, with this one at the end if it has no number
 abbrev pub names_after : ℕ × List ℕ → Option ℕ → List (ℕ × List ℕ) → List (ℕ × List ℕ)
 names_after name None names = names ++ name ∷ []
 names_after name (Some number) names = names
 
--- a call leaves each host its name, or makes one
+-- a call keeps the names of all hosts, or adds one
 pub names_entered : (w : World) (c : Caller) (r : Request) → IsCaller w c r
     → map host_name (hosts_at_entry w c r c.host) ≡ names_after (c.account, r.host.host_cpid) c.host (map host_name w.hosts)
 names_entered w c r caller = cases c.host caller.host
@@ -57,16 +57,16 @@ names_entered w c r caller = cases c.host caller.host
     cases (Some number) is =
         map-changed_found host_name (λ (h : HostRow). row_of_call c r h.quota) (is_host_of c.account r.host.host_cpid) is_named w.hosts number is
 
--- ---- names and keys side by side
+-- ---- names and keys in one order
 
--- each name's account says its key's word, and the host's own name is the key's
+-- each name's account has the word of its key, and the host's own name is the key's
 abbrev pub AreKeys : Shelf → List (ℕ × List ℕ) → List Key → Type 0
 AreKeys shelf [] [] = Unit {0}
 AreKeys shelf [] (k ∷ keys) = ⊥
 AreKeys shelf (n ∷ names) [] = ⊥
 AreKeys shelf (n ∷ names) (k ∷ keys) = (account_on shelf k.authenticator ≡ Some n.0) × (n.1 ≡ k.host_cpid) × AreKeys shelf names keys
 
--- two words that find one account are one
+-- two words that find one account are equal
 one_word : (shelf : Shelf) (u v : List ℕ) (account : ℕ) → account_on shelf u ≡ Some account → account_on shelf v ≡ Some account → u ≡ v
 one_word shelf u v account first second =
     let a : FoundFrom (λ (x : Account). bytes_eq x.authenticator u) 1 shelf.accounts account = found (λ (x : Account). bytes_eq x.authenticator u) shelf.accounts account first in
@@ -76,13 +76,13 @@ one_word shelf u v account first second =
     let same : a.1 ≡ b.1 = cc in
     sym ((bytes_eq-Decides a.1.authenticator u).0 a.4) ∙ ap (λ (x : Account). x.authenticator) same ∙ (bytes_eq-Decides b.1.authenticator v).0 b.4
 
--- two tests that pass together are one
+-- two tests that pass together are equal
 same_tests : (a b : Bool) → (a ≡ true → b ≡ true) → (b ≡ true → a ≡ true) → a ≡ b
 same_tests true b so back = sym (so refl)
 same_tests false true so back = back refl
 same_tests false false so back = refl
 
--- a key is another just where its account and name are
+-- two keys are equal exactly if their account and name are
 pub same_test : (shelf : Shelf) (key k : Key) (name : ℕ × List ℕ) (account : ℕ) → account_on shelf key.authenticator ≡ Some account
     → account_on shelf k.authenticator ≡ Some name.0 → name.1 ≡ k.host_cpid → same_key key k ≡ is_name account key.host_cpid name
 same_test shelf key k name account here there named =
@@ -105,7 +105,7 @@ same_position shelf key account m (n ∷ names) [] here are = absurd are
 same_position shelf key account m (n ∷ names) (k ∷ keys) here are =
     λ i. cond (same_test shelf key k n account here are.0 are.1 i) (Some m) (same_position shelf key account (m + 1) names keys here are.2 i)
 
--- an unknown word is no key's
+-- no key has an unknown word
 no_position : (shelf : Shelf) (key : Key) (m : ℕ) (names : List (ℕ × List ℕ)) (keys : List Key) → account_on shelf key.authenticator ≡ None
     → AreKeys shelf names keys → position_from (same_key key) m keys ≡ None
 no_position shelf key m [] [] none are = refl
@@ -133,7 +133,7 @@ host_of_key-place w keys key are = cases (account_place w key.authenticator) ref
         known-place w.hosts account key.host_cpid
         ∙ sym (place_where-is (same_key key) keys ∙ same_position (shelf_of w) key account 1 (map host_name w.hosts) keys here are)
 
--- as many of the one as of the other
+-- there are as many names as keys
 same_length : (shelf : Shelf) (names : List (ℕ × List ℕ)) (keys : List Key) → AreKeys shelf names keys → length names ≡ length keys
 same_length shelf [] [] are = refl
 same_length shelf [] (k ∷ keys) are = absurd are
@@ -145,7 +145,7 @@ host_count w keys are = sym (length-map w.hosts host_name) ∙ same_length (shel
 
 -- ---- one call more
 
--- the keys with this one behind them where it has no place
+-- the keys, with this one at the end if it has no place
 abbrev pub keys_after : Key → Option ℕ → List Key → List Key
 keys_after key None keys = keys ++ key ∷ []
 keys_after key (Some place) keys = keys

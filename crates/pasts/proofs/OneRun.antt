@@ -1,4 +1,4 @@
--- What stands, and what many messages do, is one run of the machine.
+-- What is stored, and what many messages do, is one run of the machine.
 use Rattle.std.proofs.Common.{◌≡◌, ℕ, List, [], ◌∷◌, ◌++◌, refl, sym, subst}
 use Rattle.std.specs.Prelude.{Option, Some, None}
 use Rattle.sched_book.specs.Step.{Step, Trace, empty_world}

@@ -1,4 +1,4 @@
--- What messages are told that come again: calls beside those of their key that are kept, and imports beside the newest of their name.
+-- The answer to a message that comes again. For a call it follows from the kept ones of its key, for an import from the newest of its name.
 use Rattle.std.proofs.Common.{◌≡◌, ◌≢◌, ℕ, zero, suc, ◌+◌, ◌<◌, List, [], ◌∷◌, ◌++◌, length, take, Bool, true, false, cond, get_or, nat_lt, slice_get, refl, sym, ◌∙◌, ap, subst, inl, inr, arith}
 use Rattle.std.specs.Prelude.{◌&&◌, ◌||◌, ◌==◌, if◌then◌else◌, position, All, Contains, Option, Some, None, option_and_then, option_map, unwrap_or, is_some, Result, Ok, Err}
 use Rattle.std.specs.Option.{option_or}
@@ -44,7 +44,7 @@ use Rattle.pasts.proofs.ToldNone.{above_run, call_rises}
 
 -- ---- down a past, to the newest first-heard message that passes
 
--- what holds where that message acted, and is kept by later ones that do not pass, holds of the run
+-- what holds once that message acted, and is kept by later ones that do not pass, holds of the run
 module _ (s : Settings) (passes : Said → Bool) (h : Heard) (K : List Turn → List Message → Type 0)
     (here : (turn : Turn) (older : List Turn) (heard : List Message) → is_first_heard s heard h.message.said ≡ true → passes h.message.said ≡ true
     → Acts s h turn older → K (turn ∷ older) (h.message ∷ heard))
@@ -83,9 +83,9 @@ module _ (s : Settings) (passes : Said → Bool) (h : Heard) (K : List Turn → 
             subst L (sym quiet.0) (down past turns quiet.2 found_it)
       ]
 
--- ---- a call that was let in is let in for good
+-- ---- a call that was let in once is let in for good
 
--- the account of a call stands, its key has a number, and the call tells that or none
+-- the account of a call exists, its key has a number, and the call names that number or none
 record IsLetIn (shelf : Shelf) (keys : List Key) (r : Request) : Type 0 where
   account : ℕ
   stands : account_on shelf r.authenticator ≡ Some account
@@ -179,7 +179,7 @@ first_let_in s older r first = cases (account_on (rows_of older) r.authenticator
 
 -- ---- the calls that are kept of a key
 
--- what is kept of a call that was heard so, and let in
+-- what is kept of a heard call that was let in
 record IsKeptCall (shelf : Shelf) (keys : List Key) (key : Key) (h : Heard) (k : Kept) : Type 0 where
   request : Request
   says : h.message.said ≡ Rpc request
@@ -189,14 +189,14 @@ record IsKeptCall (shelf : Shelf) (keys : List Key) (key : Key) (h : Heard) (k :
   answer : h.answer ≡ Good body
   let_in : IsLetIn shelf keys request
 
--- each of the calls that were heard is kept, and each of these is above the later ones of the list
+-- each of the heard calls is kept, and each is above the later ones of the list
 abbrev AreKept : Shelf → List Key → Key → List Heard → List Kept → Type 0
 AreKept shelf keys key [] [] = Unit {0}
 AreKept shelf keys key [] (k ∷ ks) = ⊥
 AreKept shelf keys key (h ∷ hs) [] = ⊥
 AreKept shelf keys key (h ∷ hs) (k ∷ ks) = IsKeptCall shelf keys key h k × (is_above_all k.seqno ks ≡ true) × AreKept shelf keys key hs ks
 
--- they are so after a message more
+-- they still are after one message more
 kept_more : (shelf : Shelf) (keys : List Key) (key : Key) (said : Said) (h : Heard) (k : Kept) → IsKeptCall shelf keys key h k
     → IsKeptCall (shelf_said said shelf) (keys_said said keys) key h k
 kept_more shelf keys key said h k was = record {
@@ -216,7 +216,7 @@ are_more shelf keys key said [] (k ∷ ks) are = absurd are
 are_more shelf keys key said (h ∷ hs) [] are = absurd are
 are_more shelf keys key said (h ∷ hs) (k ∷ ks) are = (kept_more shelf keys key said h k are.0, are.1, are_more shelf keys key said hs ks are.2)
 
--- and so are the first of them
+-- so are the first ones of them
 are_taken : (n : ℕ) (shelf : Shelf) (keys : List Key) (key : Key) (hs : List Heard) (ks : List Kept) → AreKept shelf keys key hs ks
     → AreKept shelf keys key (take n hs) (take n ks)
 are_taken zero shelf keys key hs ks are = tt
@@ -225,7 +225,7 @@ are_taken (suc n) shelf keys key [] (k ∷ ks) are = absurd are
 are_taken (suc n) shelf keys key (h ∷ hs) [] are = absurd are
 are_taken (suc n) shelf keys key (h ∷ hs) (k ∷ ks) are = (are.0, above_taken n ks k.seqno are.1, are_taken n shelf keys key hs ks are.2)
 
--- a message that acted is kept before the others where it is a call of the key
+-- a message that acted is kept in front of the others if it is a call of the key
 acted_are : (s : Settings) (key : Key) (era : ℕ) (heard : List Message) (h : Heard) (body : List ℕ) (said : Said) (hs : List Heard) (ks : List Kept)
     → h.message.said ≡ said → is_first_heard s heard said ≡ true → h.answer ≡ Good body
     → ((seqno : ℕ) → is_above key seqno heard ≡ is_above_all seqno ks)
@@ -260,7 +260,7 @@ acted_are s key era heard h body Tick hs ks says first answer above are = are
 acted_are s key era heard h body (Read tells) hs ks says first answer above are = are
 acted_are s key era heard h body (Refused fault) hs ks says first answer above are = are
 
--- the calls that are kept by the past are those that the run keeps
+-- the kept calls of the past are those that the run keeps
 kept_are : (s : Settings) (key : Key) (past : Past) (turns : List Turn) → Answers s past turns
     → AreKept (rows_of (first_heard s (messages_in past))) (keys_of (first_heard s (messages_in past))) key (kept_calls s key past) (kept_of turns key)
 kept_are s key [] turns none =
@@ -293,9 +293,9 @@ kept_are s key (h ∷ past) turns answers =
           subst L (sym quiet.0) (kept_are s key past turns quiet.2)
     ]
 
--- ---- where a kept call stands in the list
+-- ---- the place of a kept call in the list
 
--- the kept call of a place, which is the first of its number
+-- the kept call at a place, which is the first of its number
 record IsKeptAt (shelf : Shelf) (keys : List Key) (key : Key) (h : Heard) (ks : List Kept) (place : ℕ) : Type 0 where
   kept : Kept
   is : IsKeptCall shelf keys key h kept
@@ -324,7 +324,7 @@ found_among : (shelf : Shelf) (keys : List Key) (key : Key) (hs : List Heard) (k
 found_among shelf keys key hs ks h are among =
     found_at shelf keys key hs ks h among.0 are (slice_get_read hs (length hs) among.0 h refl among.1 (sym among.2))
 
--- a number that no heard call has is that of no kept one
+-- a number that no heard call has is no kept call's
 found_nowhere : (shelf : Shelf) (keys : List Key) (key : Key) (hs : List Heard) (ks : List Kept) (seqno : ℕ) → AreKept shelf keys key hs ks
     → ((i : ℕ) (h : Heard) (r : Request) → slice_get hs i ≡ Some h → h.message.said ≡ Rpc r → seqno ≢ r.rpc_seqno)
     → All (λ (k : Kept). k.seqno ≢ seqno) ks
@@ -335,7 +335,7 @@ found_nowhere shelf keys key (h ∷ hs) (k ∷ ks) seqno are apart zero d less =
 found_nowhere shelf keys key (h ∷ hs) (k ∷ ks) seqno are apart (suc i) d less =
     found_nowhere shelf keys key hs ks seqno are.2 (λ j g r there says. apart (suc j) g r there says) i d (omega (arith, less))
 
--- ---- what calls are told beside them
+-- ---- the answers to calls, compared with the kept ones
 
 module _ (t : Tables) (shelf : Shelf) (keys : List Key) (key : Key) (rows : shelf_of t.world ≡ shelf)
     (host : host_of_key t.world key ≡ place_where (same_key key) keys) (h : Heard) (hs : List Heard) (k : Kept) (ks : List Kept)
@@ -344,7 +344,7 @@ module _ (t : Tables) (shelf : Shelf) (keys : List Key) (key : Key) (rows : shel
   host_is : (r : Request) → key_of r ≡ key → (was : IsLetIn shelf keys r) → host_of_key t.world key ≡ Some was.number
   host_is r mine was = host ∙ ap (λ k. place_where (same_key k) keys) (sym mine) ∙ was.place
 
-  -- a call of the key, which tells no wrong number
+  -- a call of the key that names no wrong number
   beside : (r : Request) → key_of r ≡ key → (was : IsLetIn shelf keys r) → (q : Request) → key_of q ≡ key → names_host q.hostid (Some was.number) ≡ true
       → told_by t (Rpc q) ≡ told_heard true (k ∷ ks) (heard (k ∷ ks) q.rpc_seqno (canonical_text q))
   beside r mine was q same names =

@@ -11,7 +11,7 @@ use Rattle.pasts.specs.Laws.{NumbersRise}
 use Rattle.pasts.specs.Messages.{Rpc, Message, key_of}
 use Rattle.pasts.proofs.ToldNone.{call_rises}
 
--- what heads a part of the first-heard messages is first heard after the rest
+-- the head of a part of the first-heard messages is first heard after the rest
 abbrev HeadIsFirst : Settings → List Message → Type 0
 HeadIsFirst s heard =
     (newer : List Message) (m : Message) (older : List Message) → heard ≡ newer ++ m ∷ older → is_first_heard s older m.said ≡ true

@@ -65,7 +65,7 @@ shelf_with_rows w (rows.Workunits xs) limits =
     ap (λ us. record { accounts = w.accounts; apps = w.apps; versions = w.versions; units = us })
     (map-append unit_of w.units (map new_unit xs) ∙ ap (λ vs. map unit_of w.units ++ vs) (new_units xs limits))
 
--- an account that stands keeps its place
+-- an account that exists keeps its place
 pub account-more : (shelf : Shelf) (new : Rows) (word : List ℕ) (account : ℕ) → account_on shelf word ≡ Some account → account_on (shelved shelf new) word ≡ Some account
 account-more shelf (rows.Accounts xs) word account here = place-more (λ (a : Account). bytes_eq a.authenticator word) shelf.accounts xs account here
 account-more shelf (rows.Apps xs) word account here = here

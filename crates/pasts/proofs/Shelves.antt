@@ -1,4 +1,4 @@
--- What is said of the rows of each import of a past is said of the rows that stand.
+-- What holds of the rows of each import of a past holds of the stored rows.
 use Rattle.std.proofs.Common.{Bool, true, false, List, [], ◌∷◌, Ok, Err, sym, subst}
 use Rattle.std.specs.Prelude.{if◌then◌else◌}
 use Rattle.std.specs.List.{AllByRecursion}
@@ -10,7 +10,7 @@ use Rattle.pasts.specs.Messages.{Said, Rpc, Import, Tick, Read, Refused, Message
 use Rattle.pasts.specs.Stands.{Past, Tables, Stands, messages_in}
 use Rattle.pasts.proofs.Carried.{rows_are_of_first_heard}
 
--- What is said of rows is said of those that this message imports, where it does.
+-- P holds of the rows that this message imports, if it imports any.
 abbrev pub IfImports : (Rows → Type 0) → Said → Type 0
 IfImports P (Import kind batch text (Ok rows)) = P rows
 IfImports P (Import kind batch text (Err fault)) = Unit {0}
@@ -19,7 +19,7 @@ IfImports P Tick = Unit {0}
 IfImports P (Read tells) = Unit {0}
 IfImports P (Refused fault) = Unit {0}
 
--- Q is said of a shelf that is empty, and goes on to be said of it with rows of which P is said.
+-- Q holds of an empty shelf, and still holds of a shelf once rows are added of which P holds.
 module _ (P : Rows → Type 0) (Q : Shelf → Type 0) (none : Q empty_shelf) (more : (s : Shelf) (new : Rows) → Q s → P new → Q (shelved s new)) where
   said_on : (said : Said) (shelf : Shelf) → IfImports P said → Q shelf → Q (shelf_said said shelf)
   said_on (Import kind batch text (Ok rows)) shelf new old = more shelf rows old new
@@ -45,7 +45,7 @@ module _ (P : Rows → Type 0) (Q : Shelf → Type 0) (none : Q empty_shelf) (mo
       let heard : List Message = first_heard s (messages_in past) in
       kept (is_first_heard s heard h.message.said) h.message heard all.0 (of_first_heard s past all.1)
 
-  -- so it is said of what stands
+  -- so Q holds of the stored rows
   pub shelf_stands : (t : Tables) (past : Past) → Stands t past → AllByRecursion (λ h. IfImports P h.message.said) past → Q (shelf_of t.world)
   shelf_stands t past stands all =
       subst Q (sym (rows_are_of_first_heard t past stands).rows)

@@ -43,7 +43,7 @@ changed_stays : (f : Instance → Instance) (w : World) (p : Place) → frame (w
 changed_stays f w p =
     ap (λ us. frame_with w us (map host_name w.hosts)) (map_changed_nth unit_of (with_number f p.number) (λ b. refl) w.units p.unit)
 
--- the frame stays where each step of a fold leaves it
+-- a fold leaves the frame as it is if each step does
 fold_stays : {X : Type 0} (f : World → X → World) → ((w : World) (x : X) → frame (f w x) ≡ frame w) → (xs : List X) (w : World) → frame (fold f w xs) ≡ frame w
 fold_stays f stays [] w = refl
 fold_stays f stays (x ∷ xs) w = fold_stays f stays xs (f w x) ∙ stays w x
@@ -84,7 +84,7 @@ grants_stay : (w : World) (host now : ℕ) (jobs : List Place) → frame (grante
 grants_stay w host now jobs =
     fold_stays (grant_one host now) (λ v p. changed_stays (with_owner (record { host = host; sent = now; deadline = now + delay_at v p })) v p) jobs w
 
--- a workunit that takes a class was imported as it was
+-- if a workunit takes a class, it is still as it was imported
 classes_stay : (entry : World) (h : HostRow) (jobs : List Place) (w : World) → frame (classed entry h w jobs) ≡ frame w
 classes_stay entry h jobs w = fold_stays (class_one entry h) (λ v p. one v p (version_at_unit entry h p.unit)) jobs w
   where
@@ -100,7 +100,7 @@ classes_stay entry h jobs w = fold_stays (class_one entry h) (λ v p. one v p (v
     one v p None = refl
     one v p (Some x) = ap (λ us. frame_with v us (map host_name v.hosts)) (map_changed_nth unit_of (with_class x.class) (row_stays x.class) v.units p.unit)
 
--- settlement changes instances and quotas
+-- a settlement changes instances and quotas
 settlement_stays : (old changed : World) → frame (settled old changed) ≡ frame changed
 settlement_stays old changed = λ i. frame_with changed (units changed.units i) (hosts 1 changed.hosts i)
   where

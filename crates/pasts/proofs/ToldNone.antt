@@ -1,4 +1,4 @@
--- After the messages of a run, a message is first heard just where the run's world and what it kept tell it nothing.
+-- After the messages of a run, a message is first heard exactly if the run's world and what it kept have no answer for it.
 use Rattle.std.proofs.Common.{◌≡◌, ℕ, List, [], ◌∷◌, take, length, Bool, true, false, refl, sym, ◌∙◌, ap, nat_lt}
 use Rattle.std.specs.Prelude.{◌&&◌, ◌||◌, not, if◌then◌else◌, position, Option, Some, None, option_map, option_and_then, is_none, is_some, Ok, Err}
 use Rattle.std.specs.Str.{bytes_eq}
@@ -37,7 +37,7 @@ both_alike : (a b c : Bool) → (a ≡ true → b ≡ true) → (a ≡ true → 
 both_alike true b c left right = left refl ∙ sym (right refl)
 both_alike false b c left right = refl
 
--- above the newest of the key's calls is above each of them
+-- a number above the newest of the key's calls is above each of them
 above_call : (same : Bool) (era : ℕ) (kept : List Kept) (newest : Kept) (seqno : ℕ) → (same ≡ true → is_above_all newest.seqno kept ≡ true)
     → ((if same then nat_lt newest.seqno seqno else true) && is_above_all seqno kept)
     ≡ is_above_all seqno (if same then newest ∷ take (kept_beside era) kept else kept)
@@ -74,7 +74,7 @@ above_step s era Tick body older kept first above key seqno = above key seqno
 above_step s era (Read tells) body older kept first above key seqno = above key seqno
 above_step s era (Refused fault) body older kept first above key seqno = above key seqno
 
--- a number is above the first-heard calls of a key just where it is above those that are kept
+-- a number is above the first-heard calls of a key exactly if it is above the kept ones
 pub above_run : (s : Settings) (turns : List Turn) → IsRun s turns
     → (key : Key) (seqno : ℕ) → is_above key seqno (messages_of turns) ≡ is_above_all seqno (kept_of turns key)
 above_run s [] run = λ key seqno. refl
@@ -99,7 +99,7 @@ batch_run : (turns : List Turn) (kind : Kind) (batch : List ℕ) → has_batch k
 batch_run [] kind batch = refl
 batch_run (turn ∷ older) kind batch = batch_step kind batch turn.message.said (turn_body turn) _ _ (batch_run older kind batch)
 
--- ---- first heard, and told nothing
+-- ---- first heard, and not answered without a step
 
 fresh_none : (room : Bool) → is_none (told_fresh room) ≡ room
 fresh_none true = refl
@@ -150,7 +150,7 @@ bad_import_told : (w : World) (kept : Option KeptBatch) (text : List ℕ) (fault
 bad_import_told w (Some kept) text fault = refl
 bad_import_told w None text fault = refl
 
--- The whole law between the two definitions.
+-- The whole law that connects the two definitions.
 pub told_none : (s : Settings) (turns : List Turn) → IsRun s turns → (said : Said)
     → is_first_heard s (messages_of turns) said ≡ is_none (told (world_of s turns) (kept_of turns) (batch_of turns) said)
 told_none s turns run (Rpc request) =

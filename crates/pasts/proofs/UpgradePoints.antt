@@ -1,4 +1,4 @@
--- The eras of a past by its upgrade points, and what is kept by them.
+-- The eras of a past, from its upgrade points, and what is kept according to them.
 use Rattle.std.proofs.Common.{◌≡◌, ℕ, zero, suc, ◌+◌, ◌<◌, ◌≤◌, List, [], ◌∷◌, ◌++◌, length, take, Bool, true, false, refl, sym, ◌∙◌, ap, arith}
 use Rattle.std.specs.Prelude.{nat_le, if◌then◌else◌, replicate}
 use Rattle.std.specs.List.{AllByRecursion}
@@ -13,7 +13,7 @@ use Rattle.pasts.specs.Stands.{Heard, Past}
 
 -- ---- the era of a place
 
--- a point that came is counted, and one that is yet to come is not
+-- a point that was reached is counted, and one that is yet to come is not
 upgrade_came : (point : ℕ) (points : List ℕ) (n : ℕ) → point ≤ n → era_at (point ∷ points) n ≡ suc (era_at points n)
 upgrade_came point points n most = ap (λ (b : Bool). if b then suc (era_at points n) else era_at points n) (le-leb point n most)
 
@@ -28,7 +28,7 @@ none_came : (points : List ℕ) (point n : ℕ) → AllByRecursion (λ later. po
 none_came [] point n later less = refl
 none_came (m ∷ points) point n later less = upgrade_comes m points n (omega (arith, later.0, less)) ∙ none_came points point n later.1 less
 
--- an era is of as many upgrades as came
+-- an era counts at most as many upgrades as there are
 counted : (b : Bool) (era most : ℕ) → era ≤ most → (if b then suc era else era) ≤ suc most
 counted true era most at = omega (arith, at)
 counted false era most at = omega (arith, at)
@@ -37,7 +37,7 @@ pub era_most : (points : List ℕ) (n : ℕ) → era_at points n ≤ length poin
 era_most [] n = omega arith
 era_most (point ∷ points) n = counted (nat_le point n) (era_at points n) (length points) (era_most points n)
 
--- a point after a place leaves its era
+-- a point after a place does not change its era
 era_before : (points : List ℕ) (point n : ℕ) → n < point → era_at (points ++ point ∷ []) n ≡ era_at points n
 era_before [] point n less = upgrade_comes point [] n less
 era_before (m ∷ points) point n less = ap (λ era. if nat_le m n then suc era else era) (era_before points point n less)
@@ -93,7 +93,7 @@ take_fewer (suc m) zero xs most = absurd (omega (arith, most))
 take_fewer (suc m) (suc n) [] most = refl
 take_fewer (suc m) (suc n) (x ∷ xs) most = ap (λ rest. x ∷ rest) (take_fewer m n xs (omega (arith, most)))
 
--- of the first era the last call is kept
+-- in the first era only the last call is kept
 one_kept : (s : Settings) (key : Key) (past : Past) → AllByRecursion (λ h. h.message.era ≡ 0) past → kept_calls s key past ≡ take 1 (calls_heard s key past)
 one_kept s key [] first = refl
 one_kept s key (h ∷ past) first = cases (is_first_of s key past h) (one_kept s key past first.1)
@@ -136,7 +136,7 @@ kept_are_the_latest_four s key (h ∷ newer) older later first =
     )
     cases false rest = rest
 
--- ---- by the points
+-- ---- with the upgrade points
 
 eras_of_older : (point : ℕ) (points : List ℕ) (past : Past) → AllByRecursion (λ later. point ≤ later) points → length past ≤ point → AreOfEras (point ∷ points) past
     → AllByRecursion (λ h. h.message.era ≡ 0) past

@@ -18,7 +18,7 @@ use Rattle.pasts.specs.Messages.{Said, Rpc, Import, key_of}
 use Rattle.stores.specs.declared.batch.KeptBatch.{KeptBatch}
 use Rattle.stores.specs.declared.kind.Kind.{Kind}
 
--- the answer to an import: its batch, its kind and how many rows it brought
+-- the answer to an import: its batch, its kind, and how many rows it brought
 abbrev pub imported_json : List ℕ → List ℕ → ℕ → Data
 imported_json kind batch rows = object (
     member (codes "batch") (string batch) (
@@ -36,7 +36,7 @@ lapsed_json count = object (member (codes "lapsed") (whole count) no_members)
 unfoldable pub lapsed_text : ℕ → List ℕ
 lapsed_text count = compact_text (lapsed_json count)
 
--- the body that tells what the machine answered to a message
+-- the body of the machine's answer to a message
 abbrev pub body_of : Answered → Said → List ℕ
 body_of (answered.Rpc reply) said = reply_text_of reply
 body_of (answered.Lapsed count) said = lapsed_text count
@@ -51,7 +51,7 @@ abbrev pub kept_after : ℕ → Key → Said → List ℕ → List Kept → List
 kept_after era key (Rpc request) body older = if same_key key (key_of request) then kept_call request body ∷ take (kept_beside era) older else older
 kept_after era key said body older = older
 
--- what is kept of a batch
+-- what is kept of a batch after a first-heard message with this body
 abbrev pub batch_after : Kind → List ℕ → Said → List ℕ → Option KeptBatch → Option KeptBatch
 batch_after kind batch (Import k b text read) body older =
     if is_batch kind batch (Import k b text read) then Some (record { text = text; answer = body }) else older

@@ -1,6 +1,6 @@
--- Promise. Which messages are first heard: from the messages and the settings alone, with no look at what stands. Lists of messages have the
--- newest first. (The names rpc_seqno and hostid are BOINC's; what a repeated, an older or a wrong number means is this profile's, and
--- so is that a batch counts once.)
+-- Promise. Which messages are first heard: this follows from the messages and the settings alone, not from what is stored. Lists of messages
+-- have the newest first. (The names rpc_seqno and hostid are BOINC's. What a repeated, an older or a wrong number means is this profile's,
+-- and so is that a batch counts once.)
 use Rattle.std.specs.Prelude.{ℕ, Bool, true, false, not, ◌&&◌, ◌||◌, nat_lt, if◌then◌else◌, List, [], ◌∷◌, length, Option, is_none, is_some, Ok, Err}
 use Rattle.std.specs.Str.{bytes_eq}
 use Rattle.reply_register.specs.Keys.{same_key}
@@ -24,7 +24,7 @@ abbrev pub rows_of : List Message → Shelf
 rows_of [] = empty_shelf
 rows_of (m ∷ older) = shelf_said m.said (rows_of older)
 
--- the keys with this one behind them, unless it is among them
+-- the keys, with this one at the end if it is not among them
 abbrev pub with_key : Key → List Key → List Key
 with_key key [] = key ∷ []
 with_key key (k ∷ keys) = if same_key key k then k ∷ keys else k ∷ with_key key keys
@@ -38,7 +38,8 @@ abbrev pub keys_of : List Message → List Key
 keys_of [] = []
 keys_of (m ∷ older) = keys_said m.said (keys_of older)
 
--- room for the host of a call: it has a number, or fewer hosts stand than may. It decides the HasRoom of a step.
+-- Whether there is room for the host of a call: it has a number, or there are fewer hosts than the settings allow. This decides the HasRoom
+-- of a step.
 abbrev pub has_host_room : ℕ → Option ℕ → ℕ → Bool
 has_host_room max_hosts number count = is_some number || nat_lt count max_hosts
 
@@ -60,18 +61,18 @@ abbrev pub has_batch : Kind → List ℕ → List Message → Bool
 has_batch kind batch [] = false
 has_batch kind batch (m ∷ older) = is_batch kind batch m.said || has_batch kind batch older
 
--- the place of the account that says this word among these rows
+-- the place of the account with this word among these rows
 abbrev pub account_on : Shelf → List ℕ → Option ℕ
 account_on shelf authenticator = place_where (λ (a : Account). bytes_eq a.authenticator authenticator) shelf.accounts
 
--- whether a call is first heard, of what is asked of the older messages
+-- whether a call is first heard, from what it needs of the older messages
 abbrev pub is_first_call : Settings → Request → Option ℕ → Option ℕ → Bool → ℕ → Bool
 is_first_call s request account number above count =
     is_some account && names_host request.hostid number && above && has_host_room s.max_hosts number count
 
--- Whether a message is first heard after these, which are: a call of an account that stands, with the number of its host if it tells
--- one, a number above the earlier ones of its key, and room for its host; an import whose name is new, and whose rows are good and
--- beside those that stand have no fault; a tick.
+-- Whether a message is first heard after these first-heard messages. A call must be of an existing account, and name its host's number or
+-- none. Its number must be above the earlier ones of its key, and there must be room for its host. An import must have a new name and good
+-- rows, and its rows no fault with those that exist. A tick always is.
 abbrev pub is_first_heard : Settings → List Message → Said → Bool
 is_first_heard s older (Rpc request) =
     is_first_call s request (account_on (rows_of older) request.authenticator) (place_where (same_key (key_of request)) (keys_of older))

@@ -20,23 +20,23 @@ use Rattle.pasts.specs.declared.answer.Answer.{Answer}
 
 -- ---- the theorem
 
--- new tables stand for the empty past
+-- new tables agree with the empty past
 abbrev pub NewTablesStand : Type 0
 NewTablesStand = (s : Settings) (t : Tables) → Same t (new_tables s) → Stands t []
 
--- tables that stand for a past go on to stand for it and one message more
+-- tables that agree with a past agree with it and one message more, once they served that message
 abbrev pub StandsCarried : Type 0
 StandsCarried =
     (old new : Tables) (m : Message) (answer : Answer) → Serves old m answer new → (past : Past) → Stands old past → Stands new (then_heard past m answer)
 
--- and for it and many messages more
+-- the same for many messages
 abbrev pub StandsCarriedByAll : Type 0
 StandsCarriedByAll =
     (old new : Tables) (more : List Heard) → ServesAll old more new → (past : Past) → Stands old past → Stands new (followed past more)
 
--- ---- what standing for a past says
+-- ---- what agreeing with a past says
 
--- a message is told nothing just where it is first heard after the past
+-- a message is first heard after the past exactly if the tables have no answer for it without a step
 abbrev pub FirstHeardIsToldNothing : Type 0
 FirstHeardIsToldNothing =
     (t : Tables) (past : Past) → Stands t past → (said : Said)
@@ -47,8 +47,8 @@ abbrev pub RunsTheFirstHeard : Type 0
 RunsTheFirstHeard =
     (t : Tables) (past : Past) (turns : List Turn) → StandsBy t past turns → messages_of turns ≡ first_heard t.world.settings (messages_in past)
 
--- The imported rows are those of the first-heard imports, in their order, and the number of a host is the place of its key among the
--- keys of the first-heard calls.
+-- The imported rows are those of the first-heard imports, in their order. The number of a host is the place of its key among the keys of
+-- the first-heard calls.
 pub record IsOfFirstHeard (w : World) (messages : List Message) : Type 0 where
   pub rows : shelf_of w ≡ rows_of messages
   pub hosts : (key : Key) → host_of_key w key ≡ place_where (same_key key) (keys_of messages)
@@ -87,18 +87,18 @@ abbrev pub AreInLimits : List (Call × ℕ) → Type 0
 AreInLimits [] = Unit {0}
 AreInLimits (e ∷ es) = IsInLimits e.0 e.1 × AreInLimits es
 
--- the world that a run from a world ends with
+-- the world at the end of a run from a world
 abbrev pub last_world : World → List (Answered × World) → World
 last_world w [] = w
 last_world w (t ∷ ts) = last_world t.1 ts
 
--- These calls are a run from one world to another, and within limits.
+-- These calls are a run from one world to another, and are within limits.
 pub record IsRunTo (old : World) (calls : List (Call × ℕ)) (worlds : List (Answered × World)) (new : World) : Type 0 where
   pub trace : Trace old calls worlds
   pub limits : AreInLimits calls
   pub last : last_world old worlds ≡ new
 
--- the run by which tables stand is one run of the job machine, from the world of new tables to what stands
+-- the run of tables that agree with a past is one run of the job machine, from the world of new tables to the stored one
 abbrev pub IsOneRun : Type 0
 IsOneRun =
     (t : Tables) (past : Past) (turns : List Turn) → StandsBy t past turns
@@ -108,6 +108,6 @@ IsOneRun =
 abbrev pub RunsTo : World → World → Type 0
 RunsTo old new = (calls : List (Call × ℕ)) × (worlds : List (Answered × World)) × IsRunTo old calls worlds new
 
--- many messages are one run from what stood before to what stands after
+-- many messages are one run from the world before them to the world after them
 abbrev pub ServesByOneRun : Type 0
 ServesByOneRun = (old new : Tables) (more : List Heard) → ServesAll old more new → RunsTo old.world new.world

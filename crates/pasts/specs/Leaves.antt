@@ -1,5 +1,5 @@
--- Rule. What a step leaves as it was: the settings, the imported rows, and whose host each number is. (That workunits and hosts are kept apart
--- by these is BOINC's; that nothing is ever deleted is this project's.)
+-- Rule. What a step leaves as it was: the settings, the imported rows, and whose host each number is. (That these distinguish workunits and
+-- hosts is BOINC's; that nothing is ever deleted is this project's.)
 use Rattle.std.specs.Prelude.{◌≡◌, ℕ, List, map, Option, option_and_then}
 use Rattle.reply_register.specs.declared.key.Key.{Key}
 use Rattle.sched_book.specs.Imports.{Shelf, shelf_of, with_rows}
@@ -25,7 +25,7 @@ pub record Frame : Type 0 where
 abbrev pub frame : World → Frame
 frame w = record { settings = w.settings; shelf = shelf_of w; hosts = map host_name w.hosts }
 
--- what a step may change of it: a call may make its host, an import adds its rows
+-- what a step may change of these: a call may add its host, an import adds its rows
 abbrev pub frame_after : World → Call → Frame
 frame_after w (call.Rpc c r) = frame (at_entry w c r)
 frame_after w (call.Import new) = frame (with_rows w new)

@@ -1,5 +1,5 @@
--- Rule. What messages say, without the bytes in which they come. (The call is BOINC's scheduler request; imports, ticks and reads are this
--- profile's.)
+-- Rule. What messages say, apart from the bytes in which they come. (The call is BOINC's scheduler request; imports, ticks and reads are
+-- this profile's.)
 use Rattle.std.specs.Prelude.{ℕ, List, Result}
 use Rattle.reply_register.specs.declared.key.Key.{Key}
 use Rattle.rpc_records.specs.declared.fault.Fault.{Fault}
@@ -10,8 +10,8 @@ use Rattle.stores.specs.Eras.{this_era}
 use Rattle.pasts.specs.declared.answer.Answer.{Answer}
 use Rattle.stores.specs.declared.kind.Kind.{Kind}
 
--- A call of a host; an import with its bytes, and the rows that they say or their first fault; a tick; a read of what stands; or a
--- message that is refused for its bytes alone.
+-- What a message can be. It is a call of a host; an import with its bytes, and the rows that they say or their first fault; a tick; a read
+-- of what is stored. Or it is refused for its bytes alone.
 pub data Said : Type 0 where
   Rpc : (request : Request) → Said
   Import : (kind : Kind) (batch text : List ℕ) (read : Result Rows Fault) → Said

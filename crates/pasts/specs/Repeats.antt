@@ -1,5 +1,5 @@
--- Rule. What a message is told that comes again, or says something of its kind: in terms of the past alone. (This profile's; that a lost reply
--- is asked for again is BOINC's.)
+-- Rule. The answer to a message that comes again, or resembles one that came. It follows from the past alone. (This profile's; that a lost
+-- reply is asked for again is BOINC's.)
 use Rattle.std.specs.Prelude.{◌≡◌, ◌≢◌, ℕ, ◌<◌, ◌≤◌, Bool, true, false, ◌&&◌, if◌then◌else◌, List, [], ◌∷◌, ◌++◌, take, Contains, Option, Some, None, Result}
 use Rattle.std.specs.List.{AllByRecursion}
 use Rattle.reply_register.specs.Keys.{same_key}
@@ -29,7 +29,7 @@ newest s passes [] = None
 newest s passes (h ∷ past) =
     if is_first_heard s (first_heard s (messages_in past)) h.message.said && passes h.message.said then Some h else newest s passes past
 
--- the message of this, after this past, is a first-heard call of the key
+-- this message, after this past, is a first-heard call of the key
 abbrev pub is_first_of : Settings → Key → Past → Heard → Bool
 is_first_of s key past h = is_first_heard s (first_heard s (messages_in past)) h.message.said && is_call_of key h.message.said
 
@@ -38,13 +38,13 @@ abbrev pub calls_heard : Settings → Key → Past → List Heard
 calls_heard s key [] = []
 calls_heard s key (h ∷ past) = if is_first_of s key past h then h ∷ calls_heard s key past else calls_heard s key past
 
--- those of them that are kept: at each one that comes, it and the latest of those that were kept
+-- the kept ones of them: at each one, that call and the latest of those that were kept
 abbrev pub kept_calls : Settings → Key → Past → List Heard
 kept_calls s key [] = []
 kept_calls s key (h ∷ past) = if is_first_of s key past h then h ∷ take (kept_beside h.message.era) (kept_calls s key past) else kept_calls s key past
 
--- Where all messages are of later eras than the first, the kept calls are the latest four; where those of the first era come before, the
--- latest four counted from the last call of that era on.
+-- If all messages are of later eras than the first, the kept calls are the latest four. If messages of the first era come before, they are the
+-- latest four, counted from the last call of that era on.
 abbrev pub KeptAreTheLatestFour : Type 0
 KeptAreTheLatestFour =
     (s : Settings) (key : Key) (newer older : Past)
@@ -52,16 +52,17 @@ KeptAreTheLatestFour =
     → (since : List Heard) × (calls_heard s key (newer ++ older) ≡ since ++ calls_heard s key older)
     × (kept_calls s key (newer ++ older) ≡ take 4 (since ++ take 1 (calls_heard s key older)))
 
--- a call of this key, which tells the number of its host or none
+-- a call of this key that names its host's number or none
 abbrev pub IsCallOf : Tables → Key → Request → Type 0
 IsCallOf t key q = (key_of q ≡ key) × (names_host q.hostid (host_of_key t.world key) ≡ true)
 
--- this call was heard so
+-- this message is among the kept calls, and says this request
 abbrev pub IsHeardAs : List Heard → Heard → Request → Type 0
 IsHeardAs kept h r = Contains kept h × (h.message.said ≡ Rpc r)
 
--- What a key's calls are told whose kept calls are these, the last one of this number: one of the kept calls again its very answer; another
--- text of its number, and any other number below the last one, a refusal; and a greater number nothing, since it is first heard.
+-- The answers to calls of a key that has these kept calls, the last with this number. A repeat of a kept call gets the same answer. Another
+-- text with its number is refused, and so is any other number below the last one. A greater number has no such answer, since it is first
+-- heard.
 pub record AreToldBeside (t : Tables) (key : Key) (kept : List Heard) (last : ℕ) : Type 0 where
   pub repeat : (h : Heard) (r : Request) → IsHeardAs kept h r → told_by t (Rpc r) ≡ Some h.answer
   pub reused : (h : Heard) (r q : Request) → IsHeardAs kept h r → IsCallOf t key q → q.rpc_seqno ≡ r.rpc_seqno
@@ -75,7 +76,7 @@ CallsAreToldBesideTheKept =
     (t : Tables) (past : Past) (h : Heard) (older : List Heard) (r : Request) → Stands t past
     → kept_calls t.world.settings (key_of r) past ≡ h ∷ older → h.message.said ≡ Rpc r → AreToldBeside t (key_of r) (h ∷ older) r.rpc_seqno
 
--- What an import is told whose name was heard and answered so: the same bytes its very answer, and other bytes a refusal.
+-- What follows if the name of an import was heard, with this answer: the same bytes get that answer again, and other bytes are refused.
 pub record IsBatchTold (t : Tables) (h : Heard) (kind : Kind) (batch text : List ℕ) : Type 0 where
   pub again : (read : Result Rows Fault) → told_by t (Import kind batch text read) ≡ Some h.answer
   pub reused : (other : List ℕ) (read : Result Rows Fault) → other ≢ text → told_by t (Import kind batch other read) ≡ Some (Refusal fault.BatchReused)

@@ -16,7 +16,7 @@ use Rattle.pasts.specs.Messages.{Said, Rpc, Import, Tick, Message}
 use Rattle.stores.specs.declared.batch.KeptBatch.{KeptBatch}
 use Rattle.stores.specs.declared.kind.Kind.{Kind}
 
--- a message says this call of the machine; who calls is for the step to say
+-- a message says this call of the machine; the step decides who calls
 abbrev pub SaysCall : Said → Call → Type 0
 SaysCall (Rpc request) (call.Rpc caller r) = r ≡ request
 SaysCall (Import kind batch text read) (call.Import new) = read ≡ Ok new
@@ -58,7 +58,7 @@ abbrev pub kept_of : List Turn → Key → List Kept
 kept_of [] key = []
 kept_of (turn ∷ older) key = kept_after turn.message.era key turn.message.said (turn_body turn) (kept_of older key)
 
--- and of a batch
+-- what is kept of a batch
 abbrev pub batch_of : List Turn → Kind → List ℕ → Option KeptBatch
 batch_of [] kind batch = None
 batch_of (turn ∷ older) kind batch = batch_after kind batch turn.message.said (turn_body turn) (batch_of older kind batch)

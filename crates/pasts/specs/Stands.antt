@@ -1,5 +1,5 @@
--- Promise. What tables stand for: a past, and the one run of the machine over its first-heard messages; and what one message does to tables.
--- (This project's own.)
+-- Promise. What it means that tables agree with a past, and with the one run of the machine over its first-heard messages. What one message
+-- does to tables. (This project's own.)
 use Rattle.std.specs.Prelude.{◌≡◌, ◌⊎◌, ℕ, true, false, List, [], ◌∷◌, map, Option, Some, None}
 use Rattle.reply_register.specs.declared.kept.Kept.{Kept}
 use Rattle.reply_register.specs.declared.key.Key.{Key}
@@ -18,7 +18,8 @@ use Rattle.pasts.specs.declared.answer.Answer.TheVariants.{Good}
 use Rattle.stores.specs.declared.batch.KeptBatch.{KeptBatch}
 use Rattle.stores.specs.declared.kind.Kind.{Kind}
 
--- A message with its answer. A past has the newest first. A message that was lost, or found no memory, changed nothing and is not in it.
+-- A message with its answer. A past has the newest first. A message that was lost, or that was unavailable for lack of memory, changed
+-- nothing and is not in it.
 pub record Heard : Type 0 where
   pub message : Message
   pub answer : Answer
@@ -32,32 +33,32 @@ then_heard past message answer = record { message = message; answer = answer } �
 abbrev pub messages_in : Past → List Message
 messages_in past = map (λ (h : Heard). h.message) past
 
--- What tables say: the rows, the kept calls of each key, and the kept imports.
+-- What tables hold: the world, the kept calls of each key, and the kept imports.
 pub record Tables : Type 0 where
   pub world : World
   pub calls : Key → List Kept
   pub batches : Kind → List ℕ → Option KeptBatch
 
--- two tables say the same
+-- two tables hold the same
 pub record Same (a b : Tables) : Type 0 where
   pub world : a.world ≡ b.world
   pub calls : (key : Key) → a.calls key ≡ b.calls key
   pub batches : (kind : Kind) (batch : List ℕ) → a.batches kind batch ≡ b.batches kind batch
 
--- tables with these settings, in which nothing stands
+-- new tables with these settings
 abbrev pub new_tables : Settings → Tables
 new_tables s = record { world = empty_world s; calls = λ key. []; batches = λ kind batch. None }
 
 -- ---- a past
 
--- A first-heard message makes one turn after the older ones, and is answered by it.
+-- A first-heard message makes one turn after the older ones, and its answer is that turn's.
 pub record Acts (s : Settings) (h : Heard) (turn : Turn) (older : List Turn) : Type 0 where
   pub message : turn.message ≡ h.message
   pub step : IsTurn s turn older
   pub answer : h.answer ≡ Good (turn_body turn)
 
--- A run answers a past. The newest message is first heard, and then the newest turn is its own; or it is not, and then it was told
--- what the world of the run and what it kept say.
+-- A run answers a past. If the newest message is first heard, the newest turn is its own. If not, its answer follows from the world of the
+-- run and what is kept.
 abbrev pub Answers : Settings → Past → List Turn → Type 0
 Answers s [] turns = turns ≡ []
 Answers s (h ∷ past) turns =
@@ -65,20 +66,21 @@ Answers s (h ∷ past) turns =
     ((first ≡ true) × (turn : Turn) × (older : List Turn) × (turns ≡ turn ∷ older) × Acts s h turn older × Answers s past older)
     ⊎ ((first ≡ false) × (told (world_of s turns) (kept_of turns) (batch_of turns) h.message.said ≡ Some h.answer) × Answers s past turns)
 
--- Tables stand for a past by a run that answers it: what stands is what the run leaves, and of each key and batch what it kept.
+-- Tables agree with a past, with a run that answers it. Their world is the one that the run leaves, and for each key and batch they keep
+-- what it kept.
 pub record StandsBy (t : Tables) (past : Past) (turns : List Turn) : Type 0 where
   pub answers : Answers t.world.settings past turns
   pub world : t.world ≡ world_of t.world.settings turns
   pub calls : (key : Key) → t.calls key ≡ kept_of turns key
   pub batches : (kind : Kind) (batch : List ℕ) → t.batches kind batch ≡ batch_of turns kind batch
 
--- some run does
+-- the same with some run
 abbrev pub Stands : Tables → Past → Type 0
 Stands t past = (turns : List Turn) × StandsBy t past turns
 
 -- ---- one message
 
--- the answer to a message that changes nothing; none to a first-heard one
+-- the answer to a message that changes nothing; none for a first-heard one
 abbrev pub told_by : Tables → Said → Option Answer
 told_by t said = told t.world t.calls t.batches said
 
@@ -93,11 +95,11 @@ pub record Commits (old : Tables) (m : Message) (answer : Answer) (new : Tables)
   pub calls : (key : Key) → new.calls key ≡ kept_after m.era key m.said (body_of answered m.said) (old.calls key)
   pub batches : (kind : Kind) (batch : List ℕ) → new.batches kind batch ≡ batch_after kind batch m.said (body_of answered m.said) (old.batches kind batch)
 
--- one that is told something changes nothing
+-- a message with such an answer changes nothing
 abbrev pub ServesAs : Option Answer → Tables → Message → Answer → Tables → Type 0
 ServesAs (Some told) old m answer new = (answer ≡ told) × Same new old
 ServesAs None old m answer new = Commits old m answer new
 
--- what one message does, whatever stands
+-- what one message does, for any tables
 abbrev pub Serves : Tables → Message → Answer → Tables → Type 0
 Serves old m answer new = ServesAs (told_by old m.said) old m answer new

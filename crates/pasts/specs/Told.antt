@@ -1,5 +1,5 @@
--- Promise. The answers that change nothing: from the world, the kept calls and the kept batches, with no look at the messages before. (The
--- refusals and their order are this profile's.)
+-- Promise. The answers that change nothing: they follow from the world, the kept calls and the kept batches, not from the messages before.
+-- (The refusals and their order are this profile's.)
 use Rattle.std.specs.Prelude.{ℕ, Bool, if◌then◌else◌, List, length, Option, Some, None, option_map, Result, Ok, Err}
 use Rattle.std.specs.Str.{bytes_eq}
 use Rattle.reply_register.specs.Calls.{heard, reply_at}
@@ -22,22 +22,22 @@ use Rattle.pasts.specs.declared.answer.Answer.TheVariants.{Good, Refusal}
 use Rattle.stores.specs.declared.batch.KeptBatch.{KeptBatch}
 use Rattle.stores.specs.declared.kind.Kind.{Kind}
 
--- a fresh call is told nothing where there is room for its host
+-- a fresh call has no such answer if there is room for its host
 abbrev pub told_fresh : Bool → Option Answer
 told_fresh room = if room then None else Some (Refusal fault.HostsFull)
 
--- a repeat gets the reply of its kept call again, its very bytes
+-- a repeat gets the reply of its kept call again, the same bytes
 abbrev pub told_heard : Bool → List Kept → Heard → Option Answer
 told_heard room kept call.Fresh = told_fresh room
 told_heard room kept (call.Repeat place) = Some (Good (reply_at kept place))
 told_heard room kept (call.Reused last) = Some (Refusal (fault.Reused last))
 told_heard room kept (call.Stale last) = Some (Refusal (fault.Stale last))
 
--- a call of this number and canonical text beside the kept calls of its key
+-- a call of this number and canonical text, compared with the kept calls of its key
 abbrev pub told_beside : Bool → List Kept → ℕ → List ℕ → Option Answer
 told_beside room kept seqno text = told_heard room kept (heard kept seqno text)
 
--- a call of an account that stands, whose host has this number or none
+-- a call of an account that exists, whose host has this number or none
 abbrev pub told_number : World → List Kept → Request → Option ℕ → Option Answer
 told_number w kept r number =
     if names_host r.hostid number
@@ -48,18 +48,18 @@ abbrev pub told_account : World → List Kept → Request → Option ℕ → Opt
 told_account w kept r None = Some (Refusal fault.BadAccount)
 told_account w kept r (Some account) = told_number w kept r (known_host w account r.host.host_cpid)
 
--- what a call is told without a step: the first that fails of account, number, place among the host's calls, and room
+-- the answer to a call without a step; the first of these that fails decides: account, number, place among the host's calls, room
 abbrev pub told_call : World → List Kept → Request → Option Answer
 told_call w kept r = told_account w kept r (account_place w r.authenticator)
 
--- A kept batch with the same bytes gets its answer again. Another batch is told the first fault of its bytes, or else of its rows
--- beside those that stand.
+-- A kept batch with the same bytes gets its answer again. Another batch gets the first fault of its bytes, or else that of its rows with
+-- those that exist.
 abbrev pub told_import : World → Option KeptBatch → List ℕ → Result Rows Fault → Option Answer
 told_import w (Some kept) text read = Some (if bytes_eq kept.text text then Good kept.answer else Refusal fault.BatchReused)
 told_import w None text (Err fault) = Some (Refusal fault)
 told_import w None text (Ok rows) = option_map Refusal (fault_of_rows (shelf_of w) rows)
 
--- the answer to a message that is not first heard; none to one that is
+-- the answer to a message that is not first heard; none for one that is
 abbrev pub told : World → (Key → List Kept) → (Kind → List ℕ → Option KeptBatch) → Said → Option Answer
 told w calls batches (Rpc request) = told_call w (calls (key_of request)) request
 told w calls batches (Import kind batch text read) = told_import w (batches kind batch) text read

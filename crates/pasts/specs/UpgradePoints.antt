@@ -1,4 +1,4 @@
--- Promise. The points at which upgrades came in the course of a past, and the eras of its messages by them. (This project's own.)
+-- Promise. The points of a past at which upgrades came, and the eras of its messages that follow from them. (This project's own.)
 use Rattle.std.specs.Prelude.{◌≡◌, ℕ, suc, ◌≤◌, List, [], ◌∷◌, ◌++◌, length, take}
 use Rattle.std.specs.List.{AllByRecursion}
 use Rattle.reply_register.specs.declared.key.Key.{Key}
@@ -14,13 +14,14 @@ abbrev pub AreOfEras : List ℕ → Past → Type 0
 AreOfEras upgrade_points [] = Unit {0}
 AreOfEras upgrade_points (h ∷ past) = (h.message.era ≡ era_at upgrade_points (length past)) × AreOfEras upgrade_points past
 
--- A past is in an era by its upgrade points: as many upgrades came, none later than its last message, and each message is of the era of its place.
+-- A past is in an era, with its upgrade points. There were as many upgrades, none later than its last message. Each message is of the era of its
+-- place.
 pub record IsInEra (era : ℕ) (upgrade_points : List ℕ) (past : Past) : Type 0 where
   pub upgrades : length upgrade_points ≡ era
   pub came : AllByRecursion (λ upgrade_point. upgrade_point ≤ length past) upgrade_points
   pub eras : AreOfEras upgrade_points past
 
--- the empty past is in any era, by upgrade points of new tables
+-- the empty past is in any era, with the upgrade points of new tables
 abbrev pub NewPastsAreInEra : Type 0
 NewPastsAreInEra = (era : ℕ) → IsInEra era (new_upgrade_points era) []
 
@@ -30,18 +31,18 @@ ErasGoOn =
     (era : ℕ) (upgrade_points : List ℕ) (past : Past) (m : Message) (answer : Answer) → IsInEra era upgrade_points past → m.era ≡ era
     → IsInEra era upgrade_points (then_heard past m answer)
 
--- An upgrade leads to the next era, with the length of the past as its upgrade point: no message of the past changes its era.
+-- An upgrade leads to the next era. Its upgrade point is the length of the past. No message of the past changes its era.
 abbrev pub UpgradesLeadOn : Type 0
 UpgradesLeadOn =
     (era : ℕ) (upgrade_points : List ℕ) (past : Past) → IsInEra era upgrade_points past → IsInEra (suc era) (upgrade_points ++ length past ∷ []) past
 
--- by the upgrade points of new tables all messages are of that era
+-- with the upgrade points of new tables all messages are of that era
 abbrev pub NewTablesHaveOneEra : Type 0
 NewTablesHaveOneEra =
     (era : ℕ) (past : Past) → IsInEra era (new_upgrade_points era) past → AllByRecursion (λ h. h.message.era ≡ era) past
 
--- What is kept of a key by the upgrade point of the first upgrade, none of the others being earlier: its latest four calls, counted from its last call
--- before the upgrade point on. By the upgrade points of new tables nothing is before it.
+-- What is kept of a key, if no upgrade point is earlier than the first upgrade's. It is its latest four calls, counted from its last call before that
+-- point on. With the upgrade points of new tables there is no call before it.
 abbrev pub KeptSinceTheFirstUpgrade : Type 0
 KeptSinceTheFirstUpgrade =
     (s : Settings) (key : Key) (era upgrade_point : ℕ) (upgrade_points : List ℕ) (newer older : Past)

@@ -1,14 +1,14 @@
-//! What a message is answered, before it is written as a response.
+//! The answer to a message, before it is written as a response.
 
 use rpc_records::Fault;
 use texts::Text;
 
-/// What a message is answered, before it is written as a response.
+/// The answer to a message, before it is written as a response.
 #[derive(Drop)]
 pub enum Answer {
     /// A good answer with this body: a reply, or what an import or a tick did.
     Good(Text),
-    /// A text of what stands.
+    /// A text about what is stored.
     Statement(Text),
     /// A refusal.
     Refusal(Fault),

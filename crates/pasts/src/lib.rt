@@ -1,8 +1,8 @@
-//! What tables stand for: a past of messages with their answers, and the one run of the job machine over its
-//! first-heard messages.
+//! Pasts: lists of messages with their answers. When tables agree with a past, they agree with the one run of the job
+//! machine over its first-heard messages.
 //!
-//! There is hardly any code here. `specs/` says which messages are first heard, what the others are told, what one
-//! message does to tables, and what it is to stand for a past; [`laws`] are the theorems.
+//! There is hardly any code here. `specs/` says which messages are first heard, how the others are answered, and what
+//! one message does to tables. It also says what it means to agree with a past. [`laws`] are the theorems.
 #![tactic(auto)]
 
 mod answer;

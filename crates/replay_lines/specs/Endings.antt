@@ -3,7 +3,7 @@ use Rattle.std.specs.Prelude.{ℕ}
 use Rattle.replay_lines.specs.declared.Ended.{Ended}
 use Rattle.replay_lines.specs.declared.Ended.TheVariants.{Good, Line, File, Unavailable}
 
--- 1 is a fault of input, 2 want of memory
+-- 1 means a fault of the input or output, 2 that there was no memory
 abbrev pub exit_status : Ended → ℕ
 exit_status Good = 0
 exit_status (Line number) = 1

@@ -1,4 +1,4 @@
-//! A replay: the messages of a run, a line each, and their answers by a service.
+//! A replay: the messages of a run, one on each line, and a service's answers to them.
 //!
 //! `docs/PROFILE.md` states the form of a line.
 #![tactic(auto)]
@@ -20,7 +20,7 @@ use stores::Store;
 /// The most lines of a replay.
 pub const MOST_LINES: u32 = 1_000_000;
 
-/// The most bytes of a line, its line feed not counted.
+/// The most bytes of a line, without its line feed.
 pub const MOST_LINE_BYTES: usize = 1_100_000;
 
 /// How a replay ended.
@@ -28,17 +28,17 @@ pub const MOST_LINE_BYTES: usize = 1_100_000;
 pub enum Ended {
     /// Each line was answered.
     Good,
-    /// The line of this number, from 1, has not the form of a line or is beyond a bound. The lines before
-    /// it were answered.
+    /// The line of this number, from 1, does not have the form of a line or is over a limit. The lines before it were
+    /// answered.
     Line(u32),
     /// The input or the output failed.
     File,
-    /// Memory was wanting, for an answer or for reading on.
+    /// There was no memory for an answer, or for reading on.
     Unavailable,
 }
 
 impl Ended {
-    /// The exit status of a program that ends so.
+    /// The exit status of a program that ends in this way.
     pub fn status(self) -> u8
         ensures { result ≡ exit_status self }
     {
@@ -61,9 +61,9 @@ impl fmt::Display for Ended {
     }
 }
 
-/// Answers the lines of `reader` by a service, each by a line of `writer`: its status, a space and its body; the body of a
-/// statement as one JSON string. The first line that is none ends it. An answer that finds no memory is the refusal
-/// `unavailable`, and the lines behind it are answered all the same.
+/// Answers the lines of `reader` by a service. Each answer is a line of `writer`: its status, a space and its body. The
+/// body of a statement is one JSON string. The first line that does not have the form of one ends the replay. If there
+/// is no memory for an answer, it is the refusal `unavailable`, and the lines after it are still answered.
 pub fn replay<S: Store, R: BufRead + Drop, W: Write + Drop>(
     alloc: Global,
     service: &mut Service<S>,
@@ -111,7 +111,7 @@ fn answer_lines<S: Store, R: BufRead, W: Write>(
     Ok(ended)
 }
 
-/// Reads a line with its line feed, or as much of it as tells that it is too long. False at the end of the
+/// Reads a line with its line feed, or as much of it as shows that it is too long. Returns false at the end of the
 /// input.
 fn read_line<R: BufRead>(reader: &mut R, line: &mut Vec<u8>) -> io::Result<bool> {
     line.clear();
@@ -119,7 +119,7 @@ fn read_line<R: BufRead>(reader: &mut R, line: &mut Vec<u8>) -> io::Result<bool>
     Ok(read != 0)
 }
 
-/// The line without its line feed, or `None` where it is too long.
+/// The line without its line feed, or `None` if it is too long.
 fn text_of(line: &[u8]) -> Option<&[u8]> {
     let text = line.strip_suffix(b"\n".as_slice()).unwrap_or(line);
     if text.len() > MOST_LINE_BYTES {
@@ -132,9 +132,9 @@ fn text_of(line: &[u8]) -> Option<&[u8]> {
 #[derive(Clone, Copy)]
 enum Printed {
     Answer,
-    /// The refusal for want of memory.
+    /// The refusal for lack of memory.
     Unavailable,
-    /// Nothing, since the line has not the form of one.
+    /// Nothing, since the line does not have the form of one.
     NoLine,
 }
 
@@ -158,7 +158,7 @@ fn print_answer<S: Store, W: Write>(
     }
 }
 
-/// Prints an answer; of a statement the body as a JSON string, where there is memory for it.
+/// Prints an answer. The body of a statement is printed as a JSON string, if there is memory for it.
 fn print_told<W: Write>(alloc: Global, writer: &mut W, answer: &Answer) -> io::Result<Printed> {
     match answer.media() {
         Media::Json => print(writer, answer),

@@ -21,10 +21,10 @@ pub struct Line {
     pub message: Listed<u8>,
 }
 
-/// What comes by a line of a replay, `INSTANT WORD BODY` without its line feed, or `None` where the line has not that
-/// form. The words are `account`, whose body is a word; `import/KIND/BATCH`, whose body is a JSON string; `scheduler`,
-/// whose body is a request's bytes, none where it is left out; and `tick` and `hosts/ID`, which have no body. An
-/// operator's message has the key.
+/// Reads a line of a replay, `INSTANT WORD BODY` without its line feed; `None` if the line does not have that form. The
+/// words are `account`, whose body is a word; `import/KIND/BATCH`, whose body is a JSON string; and `scheduler`, whose
+/// body is a request's bytes, or none if it is left out. `tick` and `hosts/ID` have no body. An operator's message has
+/// the key.
 pub fn line_of(alloc: Global, key: &str, text: &[u8]) -> Result<Option<Line>, Memory>
     ensures { IfOk result (λ line. line ≡ spec.line_of key.now text.now) }
 {
@@ -131,7 +131,7 @@ fn account_rows(alloc: Global, name: &str) -> Result<String, Memory>
     format!(in alloc; "authenticator,name\n{name},{name}\n")
 }
 
-/// The import of a batch, whose kind and name the path tells.
+/// The import of a batch, whose kind and name are in the path.
 fn import_line(
     alloc: Global,
     key: &str,
@@ -150,7 +150,7 @@ fn import_line(
     import_by(alloc, key, kind, batch, text)
 }
 
-/// The import of this kind, name and text, where all three are there.
+/// The import of this kind, name and text, if all three are given.
 fn import_by(
     alloc: Global,
     key: &str,
@@ -168,7 +168,7 @@ fn import_by(
     Ok(Some(Listed::of(message)))
 }
 
-/// The text that a JSON string tells (RFC 8259), where it is there and is one.
+/// The text of a JSON string (RFC 8259), if there is a body and it is one.
 fn text_in(alloc: Global, body: Option<&[u8]>) -> Result<Option<String>, Memory>
     ensures { IfOk result (λ text.
         option_map string_bytes text ≡ option_and_then spec.text_told (option_map (λ b. b.now) body.entry)) }
@@ -197,7 +197,7 @@ fn text_of(value: Value) -> Option<String>
     }
 }
 
-/// What stands before the first separator, or all of it.
+/// What comes before the first separator, or all of it.
 fn first_part(text: &[u8], separator: u8) -> &[u8]
     ensures { result.now ≡ spec.first_part separator text.now }
 {
@@ -207,7 +207,7 @@ fn first_part(text: &[u8], separator: u8) -> &[u8]
     }
 }
 
-/// What stands behind the first separator, where there is one.
+/// What comes after the first separator, if there is one.
 fn second_part(text: &[u8], separator: u8) -> Option<&[u8]>
     ensures { option_map (λ part. part.now) result ≡ spec.second_part separator text.now }
 {

@@ -20,7 +20,7 @@ use Rattle.reply_register.specs.declared.key.Key.{Key}
 use Rattle.reply_register.specs.Keeping.{calls_of}
 use Rattle.reply_register.specs.Keys.{key_cmp, same_key}
 
--- keys that compare alike are one
+-- keys that compare as equal are equal
 exact_keys : CmpEqualImpliesEq key_cmp
 exact_keys a b alike =
     ap (λ (texts : List ℕ × List ℕ). record { authenticator = texts.0; host_cpid = texts.1 })
@@ -34,14 +34,14 @@ level_both Less s = refl
 level_both Equal s = refl
 level_both Greater s = refl
 
--- the keys that compare alike are those of the same texts
+-- keys compare as equal exactly if their texts are the same
 pub eq_by_cmp-keys : (a b : Key) → eq_by_cmp key_cmp a b ≡ same_key a b
 eq_by_cmp-keys a b =
     level_both (slice_cmp nat_cmp a.authenticator b.authenticator) (slice_cmp nat_cmp a.host_cpid b.host_cpid)
     ∙ ap (λ level. level && is_eq (slice_cmp nat_cmp a.host_cpid b.host_cpid)) (is_eq-slice_cmp a.authenticator b.authenticator)
     ∙ ap (λ level. bytes_eq a.authenticator b.authenticator && level) (is_eq-slice_cmp a.host_cpid b.host_cpid)
 
--- keys of the same texts are one
+-- keys with the same texts are equal
 pub same_key-is : (a b : Key) → same_key a b ≡ true → a ≡ b
 same_key-is a b same = tells_apart exact_keys a b (eq_by_cmp-keys a b ∙ same)
 

@@ -12,7 +12,7 @@ fall_taken zero kept fall = tt
 fall_taken (suc n) [] fall = tt
 fall_taken (suc n) (k ∷ kept) fall = (above_taken n kept k.seqno fall.0, fall_taken n kept fall.1)
 
--- of falling numbers the last is the least
+-- if numbers fall, the last is the least
 least_last : (kept : List Kept) (place : ℕ) → DoFall kept → IsLeastAt kept place → suc place ≡ length kept
 least_last [] place fall least = absurd (omega (arith, least.0))
 least_last (k ∷ []) place fall least = omega (arith, least.0)

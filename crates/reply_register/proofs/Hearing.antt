@@ -1,4 +1,4 @@
--- What a call is beside the kept calls, case by case.
+-- What a call is, compared with the kept calls, case by case.
 use Rattle.std.proofs.Common.{◌≡◌, ◌≢◌, ℕ, zero, suc, ◌+◌, ◌<◌, ◌≤◌, List, [], ◌∷◌, length, Bool, true, false, cond, get_or, nat_lt, slice_get, refl, sym, ap, ◌∙◌, arith}
 use Rattle.std.specs.Prelude.{if◌then◌else◌, position, All, Option, Some, None, option_map, unwrap_or}
 use Rattle.std.specs.List.{position_from, position_or_len}
@@ -20,7 +20,7 @@ other_number k seqno apart = false_from_ne_true (has_number seqno k) (λ same. a
 
 -- ---- places
 
--- the place of the first call of a number, in a list that starts at a number
+-- the place of the first call of a number, in a list whose places start at m
 pub first_from : (kept : List Kept) (seqno m place : ℕ) (k : Kept) → slice_get kept place ≡ Some k → k.seqno ≡ seqno
     → ((i : ℕ) (d : Kept) → i < place → (get_or kept i d).seqno ≢ seqno) → position_from (has_number seqno) m kept ≡ Some (m + place)
 first_from [] seqno m place k there number before = absurd cc
@@ -32,7 +32,7 @@ first_from (x ∷ kept) seqno m (suc place) k there number before =
     ∙ first_from kept seqno (m + 1) place k there number (λ i d less. before (suc i) d (omega (arith, less)))
     ∙ ap Some (let end : m + 1 + place ≡ m + suc place = omega arith in end)
 
--- there is none
+-- there is no such call
 pub nowhere_from : (kept : List Kept) (seqno m : ℕ) → All (λ (k : Kept). k.seqno ≢ seqno) kept → position_from (has_number seqno) m kept ≡ None
 nowhere_from [] seqno m apart = refl
 nowhere_from (x ∷ kept) seqno m apart =
@@ -54,7 +54,7 @@ within p n place is = cases (nat_lt p n) refl is
 above : (kept : List Kept) (seqno : ℕ) → All (λ (k : Kept). k.seqno < seqno) kept → is_above_all seqno kept ≡ true
 above kept seqno all = list_all-from_AllPass (λ (k : Kept). nat_lt k.seqno seqno) kept (λ i d less. lt-ltb (get_or kept i d).seqno seqno (all i d less))
 
--- where one is not below, the number is not above all
+-- if a kept number is not below a number, that number is not above all
 not_above : (kept : List Kept) (seqno place : ℕ) (k : Kept) → place < length kept → seqno ≤ (get_or kept place k).seqno → is_above_all seqno kept ≡ false
 not_above kept seqno place k less most =
     list_all_at (λ (k : Kept). nat_lt k.seqno seqno) kept place k less (le-ltb (get_or kept place k).seqno seqno most)

@@ -5,7 +5,7 @@ use Rattle.std.proofs.lemmas.Bool.{and_parts, cases_lt, lt-ltb, ltb-true}
 use Rattle.reply_register.specs.Calls.{greatest, is_above_all, GreatestIsGreatest}
 use Rattle.reply_register.specs.declared.kept.Kept.{Kept}
 
--- above all of some, and another greater number is, too
+-- a number above all of some calls stays above them if it grows
 pub above_more : (kept : List Kept) (a b : ℕ) → nat_lt a b ≡ true → is_above_all a kept ≡ true → is_above_all b kept ≡ true
 above_more [] a b less above = refl
 above_more (k ∷ kept) a b less above =
@@ -13,7 +13,7 @@ above_more (k ∷ kept) a b less above =
     let first : nat_lt k.seqno b ≡ true = lt-ltb k.seqno b (omega (arith, ltb-true k.seqno a parts.0, ltb-true a b less)) in
     λ i. first i && above_more kept a b less parts.1 i
 
--- above all of some is above all of the first of these
+-- a number above all of some calls is above the first ones of them
 pub above_taken : (n : ℕ) (kept : List Kept) (a : ℕ) → is_above_all a kept ≡ true → is_above_all a (take n kept) ≡ true
 above_taken zero kept a above = refl
 above_taken (suc n) [] a above = refl
@@ -21,7 +21,7 @@ above_taken (suc n) (k ∷ kept) a above =
     let parts = and_parts (nat_lt k.seqno a) (is_above_all a kept) above in
     λ i. parts.0 i && above_taken n kept a parts.1 i
 
--- the greatest number is the first one's where it is above the others
+-- the first call's number is the greatest if it is above the others
 pub greatest_first : (k : Kept) (kept : List Kept) → is_above_all k.seqno kept ≡ true → greatest (k ∷ kept) ≡ k.seqno
 greatest_first k kept above = let most : greatest kept ≤ k.seqno = at_most kept k.seqno above in omega (arith, most)
   where
@@ -51,7 +51,7 @@ some_greatest k (j ∷ kept) =
 pub greatest_is_greatest : GreatestIsGreatest
 greatest_is_greatest k kept = (some_greatest k kept, none_greater (k ∷ kept))
 
--- each call at a place is below what is above all
+-- a call at any place is below a number that is above all
 pub above_place : (kept : List Kept) (n i : ℕ) (k : Kept) → is_above_all n kept ≡ true → slice_get kept i ≡ Some k → k.seqno < n
 above_place [] n i k above there = absurd cc
 above_place (x ∷ kept) n zero k above there =

@@ -1,4 +1,4 @@
--- Rule. What is kept of a key once a call more is kept. (This profile's.)
+-- Rule. What is kept of a key once one more call is kept. (This profile's.)
 use Rattle.std.specs.Prelude.{◌≡◌, ℕ, ◌<◌, ◌≤◌, ◌⊎◌, true, List, [], ◌∷◌, length, take, remove, slice_index_or, unwrap_or, All}
 use Rattle.std.specs.FinMap as map
 use Rattle.reply_register.specs.Calls.{is_above_all}
@@ -10,7 +10,7 @@ use Rattle.reply_register.specs.declared.key.Key.{Key}
 abbrev pub most_kept : ℕ
 most_kept = 4
 
--- the kept calls of a key, none where it is unknown
+-- the kept calls of a key; none if the key is unknown
 abbrev pub calls_of : map.FinMap key_cmp (List Kept) → Key → List Kept
 calls_of calls key = unwrap_or (map.get calls key) []
 
@@ -18,7 +18,7 @@ calls_of calls key = unwrap_or (map.get calls key) []
 abbrev pub IsLeastAt : List Kept → ℕ → Type 0
 IsLeastAt kept place = (place < length kept) × ((d : Kept) → All (λ (k : Kept). (slice_index_or kept place d).seqno ≤ k.seqno) kept)
 
--- The call is kept before the others: of these all stay where there is room, and else the one of the least number goes.
+-- The call is kept in front of the others. If there is room, all of them stay; if not, the one with the least number is dropped.
 abbrev pub IsKeptWith : Kept → List Kept → List Kept → Type 0
 IsKeptWith kept older calls =
     ((length older < most_kept) × (calls ≡ kept ∷ older))
@@ -29,8 +29,8 @@ abbrev pub DoFall : List Kept → Type 0
 DoFall [] = Unit {0}
 DoFall (k ∷ kept) = (is_above_all k.seqno kept ≡ true) × DoFall kept
 
--- Of kept calls with falling numbers and one above all of them there are at most four again, with falling numbers: the new one and the
--- latest three.
+-- Suppose that kept calls have falling numbers, and that another is above all of them. Then at most four are kept, again with falling
+-- numbers: the new one and the latest three.
 abbrev pub KeepsTheLatest : Type 0
 KeepsTheLatest =
     (kept : Kept) (older calls : List Kept) → DoFall older → length older ≤ most_kept → is_above_all kept.seqno older ≡ true

@@ -1,4 +1,4 @@
-//! What is kept of a key once one call more is kept.
+//! What is kept of a key once one more call is kept.
 
 ghost use Rattle.std.specs.Prelude.{◌≡◌, ◌<◌, ◌++◌, length, IfOk, OnOk};
 ghost use Rattle.reply_register.specs.Keeping.{IsKeptWith, IsLeastAt};
@@ -10,7 +10,7 @@ use texts::{Listed, Memory};
 /// How many calls of a key are kept.
 pub const MOST_KEPT: usize = 4;
 
-/// A copy of what is kept of a call, which is equal to it.
+/// Returns a copy of a kept call, which is equal to it.
 pub fn copy_kept(kept: &Kept) -> Result<Kept, Memory>
     ensures { IfOk result (λ copy. copy ≡ kept.now) }
 {
@@ -21,7 +21,7 @@ pub fn copy_kept(kept: &Kept) -> Result<Kept, Memory>
     })
 }
 
-/// Puts copies of these calls behind the others.
+/// Adds copies of these calls after the others.
 fn append_copies(calls: &mut Listed<Kept>, more: &[Kept]) -> Result<(), Memory>
     ensures { OnOk result (calls.new ≡ calls.old ++ more.now) }
 {
@@ -31,7 +31,7 @@ fn append_copies(calls: &mut Listed<Kept>, more: &[Kept]) -> Result<(), Memory>
     Ok(())
 }
 
-/// The place of the first call of the least number.
+/// The place of the first call with the least number.
 fn least_of(kept: &[Kept]) -> usize
     requires { 0 < length kept.now }
     ensures { IsLeastAt kept.now result }
@@ -45,7 +45,7 @@ fn least_of(kept: &[Kept]) -> usize
     least
 }
 
-/// What is kept of a key once this call is kept before the older ones.
+/// What is kept of a key once this call is kept in front of the older ones.
 pub(crate) fn kept_with(alloc: Global, kept: Kept, older: &[Kept]) -> Result<Listed<Kept>, Memory>
     ensures { IfOk result (λ calls. IsKeptWith kept older.now calls) }
 {

@@ -1,11 +1,11 @@
-//! What is kept of a call, and what a call is beside the kept ones.
+//! Kept calls, and what a call is compared with them.
 
 ghost use Rattle.std.specs.Prelude.{◌≡◌, ◌<◌, length, position, Some};
 ghost use Rattle.reply_register.specs.Calls.{greatest, has_number, heard, heard_at, is_above_all, IsHeardAs};
 
 use texts::Text;
 
-/// What is kept of a call.
+/// A kept call.
 #[derive(Debug, Drop)]
 pub struct Kept {
     /// The number of the call, `rpc_seqno`.
@@ -16,20 +16,20 @@ pub struct Kept {
     pub reply: Text,
 }
 
-/// What a call is beside the kept calls of its key.
+/// What a call is, compared with the kept calls of its key.
 #[derive(Clone, Copy, Debug, PartialEq, Eq)]
 pub enum Heard {
     /// Not heard before: its number is above that of each kept call.
     Fresh,
-    /// The kept call at this place again.
+    /// A repeat of the kept call at this place.
     Repeat(usize),
-    /// A kept call of its number said something else; the greatest number that is kept is this one.
+    /// A kept call of its number said something else. The greatest kept number is this one.
     Reused(u32),
-    /// No kept call has its number, and the greatest one, this, is above it.
+    /// No kept call has its number, and the greatest kept number, this one, is above it.
     Stale(u32),
 }
 
-/// What the call of this number and canonical text is beside the kept calls of its key, which may be in any order.
+/// Compares the call of this number and canonical text with the kept calls of its key, which may be in any order.
 #[tactic(auto, using(crate::proofs::Hearing::heard_as))]
 pub fn classify(kept: &[Kept], seqno: u32, text: &str) -> Heard
     ensures heard { result ≡ heard kept.now seqno text.now }
@@ -46,7 +46,7 @@ pub fn classify(kept: &[Kept], seqno: u32, text: &str) -> Heard
     }
 }
 
-/// What a call of the number of the kept call at this place is, by its text.
+/// What a call with the number of the kept call at this place is, by its text.
 fn same_number(kept: &[Kept], place: usize, text: &str) -> Heard
     requires { place < length kept.now }
     ensures { result ≡ heard_at kept.now text.now (Some place) }
@@ -71,7 +71,7 @@ fn place_of(kept: &[Kept], seqno: u32) -> Option<usize>
     kept.iter().position(|call| call.seqno == seqno)
 }
 
-/// The greatest number of these calls, 0 where there is none.
+/// The greatest number of these calls; 0 if there are none.
 fn greatest(kept: &[Kept]) -> u32
     ensures { result ≡ greatest kept.now }
 {

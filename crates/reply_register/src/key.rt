@@ -2,7 +2,7 @@
 
 use texts::{Same, Text};
 
-/// Who calls: a host of an account. Keys are in order by the account, then by the host.
+/// Who calls: a host of an account. Keys are ordered by the account, then by the host.
 #[derive(Clone, PartialEq, Eq, PartialOrd, Ord, Debug, Drop)]
 pub struct Key {
     /// The account's secret word.

@@ -1,19 +1,19 @@
-//! Laws of the register, which do no work.
+//! Laws of the register. Each function does nothing; its contract is the law.
 ghost use Rattle.reply_register.specs.Calls.{GreatestIsGreatest};
 ghost use Rattle.reply_register.specs.Keeping.{KeepsTheLatest};
 ghost use Rattle.reply_register.specs.Keys.{KeepsAtOneKey, KeepsOtherKeys};
 
-/// After calls of one key are kept, that key has them, and each other has what it had.
+/// After calls of one key are kept, that key has them, and each other key has what it had.
 pub fn keeps_at_one_key()
     ensures { KeepsAtOneKey }
 {}
 
-/// To keep calls of one key leaves what is kept of every other.
+/// Keeping calls of one key leaves what is kept of every other.
 pub fn keeps_other_keys()
     ensures { KeepsOtherKeys }
 {}
 
-/// Of kept calls with falling numbers, and one above all of them, the new one and the latest three are kept.
+/// If kept calls have falling numbers and a new call is above all of them, the new one and the latest three are kept.
 pub fn keeps_the_latest()
     ensures { KeepsTheLatest }
 {}

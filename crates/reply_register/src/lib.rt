@@ -1,4 +1,4 @@
-//! The calls that are kept, the latest four of each host, and what a call is beside the kept ones.
+//! The kept calls, which are the latest four of each host, and what a call is compared with them.
 #![tactic(auto)]
 
 pub mod keeping;

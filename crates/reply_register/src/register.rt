@@ -1,5 +1,5 @@
-//! Kept calls by their keys, in memory: for who has no store. The program keeps calls in its tables, by the number of
-//! their host.
+//! Kept calls by their keys, in memory, for a program that has no store. bsched keeps calls in its tables, by the
+//! number of their host.
 
 ghost use Rattle.std.specs.Prelude.{◌≡◌, List, OnOk, OnErr};
 ghost use Rattle.std.specs.FinMap as map;
@@ -14,7 +14,7 @@ use std::collections::BTreeMap;
 use std::marker::Model;
 use texts::{Listed, Memory};
 
-/// The kept calls of each key, which contracts see as a finite map from keys to lists of kept calls, the last one first.
+/// The kept calls of each key. Contracts see it as a finite map from keys to lists of kept calls, the last one first.
 #[derive(Drop)]
 pub struct Register {
     calls: BTreeMap<Key, Listed<Kept>>,
@@ -34,7 +34,7 @@ impl Model for Register {
 }
 
 impl Register {
-    /// The register with no call, which takes no memory yet.
+    /// Returns the register with no call, which needs no memory yet.
     pub fn new(alloc: Global) -> Register
         ensures { result ≡ map.empty }
     {
@@ -43,7 +43,7 @@ impl Register {
         }
     }
 
-    /// The kept calls of this key, none where it is unknown.
+    /// The kept calls of this key; none if the key is unknown.
     pub fn find(&self, key: &Key) -> &[Kept]
         ensures { result.now ≡ calls_of self.now key.now }
     {
@@ -53,8 +53,8 @@ impl Register {
         }
     }
 
-    /// Keeps this call of this key before its others: where there are four, over the one of the least number. Every other
-    /// key's stay.
+    /// Keeps this call of this key in front of its others. If there are four already, it takes the place of the one
+    /// with the least number. The calls of every other key stay.
     pub fn keep(&mut self, alloc: Global, key: Key, kept: Kept) -> Result<(), Memory>
         ensures ok { OnOk result ((calls : List Kept) × IsKeptWith kept (calls_of self.old key) calls × (self.new ≡ map.insert self.old key calls)) }
         ensures err { OnErr result (self.new ≡ self.old) }

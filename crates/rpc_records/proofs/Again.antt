@@ -1,4 +1,4 @@
--- The value of a request in range is read as that request.
+-- The value of a request in range is read back as that request.
 use Rattle.std.proofs.Common.{◌≡◌, ◌≤◌, ◌<◌, ◌^◌, ◌≤ℤ◌, ℕ, suc, ℤ, pos, negsuc, List, [], ◌∷◌, length, map, drop, Bool, true, false, Option, Some, None, Result, Ok, IfSome, refl, ap, ◌∙◌, arith}
 use borrow.Author.Differences.{ints}
 use Rattle.std.proofs.lemmas.Bool.{le-leb, lt-ltb}
@@ -101,7 +101,7 @@ host_again d h found range =
     (needed_again MNbytes _ (host_json h) (whole h.m_nbytes) h.m_nbytes _ _ refl (whole_again _ _ h.m_nbytes (omega arith) range.m_nbytes)
     (needed_again DFree _ (host_json h) (whole h.d_free) h.d_free _ _ refl (whole_again _ _ h.d_free (omega arith) range.d_free) refl))))
 
--- the first platform and those behind it are all
+-- the first platform and those after it are all
 platforms_are : (platforms : List (List ℕ)) → 0 < length platforms → slice_index_or platforms 0 [] ∷ drop 1 platforms ≡ platforms
 platforms_are [] some = absurd (omega arith)
 platforms_are (own ∷ others) some = refl
@@ -143,7 +143,7 @@ request_again d r says range =
     (defaulted_again Results _ _ d _ r.results _ _ says.results
     (list_again 256 report_in report_json IsReport report_again r.results range.result_count (recursion_from_All IsReport r.results range.results)) refl)))))))
 
--- by cases on what is listed, since the names behind it stand at other places with it
+-- by cases on the list, since with it the names after it are at other places
 says-request_json : (r : Request) (listed : Option (List (List ℕ))) → let with_list : Request = record r { other_results = listed } in Says (request_json with_list) with_list
 unfolding request_json
 says-request_json r None = record {

@@ -1,4 +1,4 @@
--- A reading tells the first member in order that is faulty by itself.
+-- A reading names the first member in order that is faulty by itself.
 use Rattle.std.proofs.Common.{◌≡◌, ◌≢◌, ◌↔◌, ℕ, List, cond, Option, Some, None, option_map, find, Result, Ok, Err, refl, sym, ap, ◌∙◌}
 use Rattle.std.specs.Option.{ok_or, option_and_then, unwrap_or, is_none}
 use Rattle.serde_json.specs.Data.{Data, null, boolean, number, string, array, object, Members}
@@ -14,18 +14,18 @@ use Rattle.rpc_records.specs.declared.fault.Member.{Member}
 use Rattle.rpc_records.specs.declared.request.HostInfo.{HostInfo as Host}
 use Rattle.rpc_records.specs.declared.fault.Member.TheVariants.{Authenticator, Hostid, RpcSeqno, HostInfo, HostCpid, PFpops, MNbytes, DFree, PlatformName, AltPlatforms, WorkReqSeconds, OtherResults, Results}
 
--- the refusal that tells a member, where there is one
+-- the refusal that names a member, if there is one
 abbrev told : Option Member → Option Fault
 told m = option_map BadMember m
 
--- where nothing is read, the member is told, and else the reading goes on
+-- if nothing is read, the member is named; else the reading continues
 step : {A B : Type 0} (m : Member) (o : Option A) (f : A → Result B Fault) (rest : Option Member) → ((x : A) → o ≡ Some x → refusal_of (f x) ≡ told rest)
     → refusal_of (and_then (ok_or o (BadMember m)) f) ≡ told (cond (is_none o) (Some m) rest)
 unfolding and_then
 step m None f rest later = refl
 step m (Some x) f rest later = later x refl
 
--- a part of a reading goes on as the whole
+-- a reading of a part, then of the rest, is one reading
 regrouped : {A B C : Type 0} (r : Result A Fault) (g : A → Result B Fault) (f : B → Result C Fault) → and_then (and_then r g) f ≡ and_then r (λ x. and_then (g x) f)
 unfolding and_then
 regrouped (Ok x) g f = refl
@@ -35,7 +35,7 @@ read : {A B : Type 0} (x : A) (f : A → Result B Fault) → and_then (Ok x) f �
 unfolding and_then
 read x f = refl
 
--- a member that has to be there
+-- a member that must exist
 needed_step : {A B : Type 0} (m : Member) (reads : Data → Option A) (d : Data) (f : A → Result B Fault) (rest : Option Member)
     → ((x : A) → option_and_then reads (get (key_of m) d) ≡ Some x → refusal_of (f x) ≡ told rest)
     → refusal_of (and_then (needed m reads d) f) ≡ told (cond (is_wanting reads (get (key_of m) d)) (Some m) rest)
@@ -67,7 +67,7 @@ info_is : (found : Option Data) (info : Data) → option_and_then object_in foun
 info_is None info h = cc
 info_is (Some d) info h = object_is d info h
 
--- a member that has to be there, of a value known by another name
+-- a member that must exist, in a value with another name
 step_in : {A B : Type 0} (e : Data) (m : Member) (reads : Data → Option A) (d : Data) (f : A → Result B Fault) (rest : Option Member) → e ≡ d
     → ((x : A) → refusal_of (f x) ≡ told rest)
     → refusal_of (and_then (needed m reads d) f) ≡ told (cond (is_wanting reads (get (key_of m) e)) (Some m) rest)
@@ -105,7 +105,7 @@ refusal_of-request_at d =
     defaulted_step OtherResults _ _ d _ _ (λ other_results.
     defaulted_step Results _ _ d _ _ (λ results. refl))))))))
 
--- at an object the reading is that of its members
+-- the reading of an object is that of its members
 pub refusal_of-meaning : (body : List ℕ) (ms : Members) → json_of body ≡ Some (object ms) → refusal_of (meaning body) ≡ told (find (is_faulty (object ms)) in_order)
 unfolding meaning value_meaning and_then
 refusal_of-meaning body ms is = ap (λ o. refusal_of (and_then (ok_or o BadJson) value_meaning)) is ∙ refusal_of-request_at (object ms)

@@ -1,4 +1,4 @@
--- What a reading gives is within the ranges.
+-- What a reading returns is within the ranges.
 use Rattle.std.proofs.Common.{◌≡◌, ◌≤◌, ◌<◌, ◌^◌, ◌≤ℤ◌, ℕ, ℤ, pos, negsuc, List, [], ◌∷◌, length, Bool, true, false, ◌&&◌, Option, Some, None, Result, Ok, Err, IfOk, IfSome, suc, cond, codes, refl, sym, ap, ◌∙◌, subst, arith}
 use Rattle.std.proofs.lemmas.Bool.{and_parts, leb-true}
 use Rattle.std.proofs.lemmas.List.Elements.{All-from_recursion}
@@ -26,7 +26,7 @@ use Rattle.rpc_records.specs.declared.text_kind.TextKind.TheVariants.{Word, Name
 
 -- ---- one value
 
--- a chain of options that gives something: so did each link
+-- if a chain of options gives something, so did each link
 link : {A B P : Type 0} (o : Option A) (f : A → Option B) (y : B) → option_and_then f o ≡ Some y → ((x : A) → o ≡ Some x → f x ≡ Some y → P) → P
 link None f y e next = absurd (cc)
 link (Some x) f y e next = next x refl e
@@ -78,7 +78,7 @@ known : {A : Type 0} (P : A → Type 0) (e : Fault) (o : Option A) → ((x : A) 
 known P e None each = tt
 known P e (Some x) each = each x refl
 
--- a fact of what is read is one of what a member gives
+-- a fact of what is read is a fact of what a member gives
 needed_fact : {A : Type 0} (P : A → Type 0) (m : Member) (reads : Data → Option A) (d : Data) → ((e : Data) (x : A) → reads e ≡ Some x → P x) → IfOk (needed m reads d) P
 unfolding needed
 needed_fact P m reads d each = known P (BadMember m) _ (λ x is. link (get (key_of m) d) reads x is (λ e _ read. each e x read))
@@ -92,7 +92,7 @@ defaulted_fact : {A : Type 0} (P : A → Type 0) (m : Member) (default : A) (rea
 unfolding defaulted
 defaulted_fact P m default reads d absent each = known P (BadMember m) _ (λ x is. read_or_fact P default reads (get (key_of m) d) x absent each is)
 
--- a reading goes on with what is known of the step before
+-- a reading continues with what is known from the step before
 goes_on : {A B : Type 0} (Q : A → Type 0) (P : B → Type 0) (r : Result A Fault) (f : A → Result B Fault) → IfOk r Q → ((x : A) → Q x → IfOk (f x) P) → IfOk (and_then r f) P
 unfolding and_then
 goes_on Q P (Ok x) f h next = next x h
@@ -200,7 +200,7 @@ unfolding meaning
 meaning_in_range body =
     goes_on (λ _. ⊤) IsInRange (ok_or (json_of body) BadJson) value_meaning (known (λ _. ⊤) BadJson (json_of body) (λ _ _. tt)) (λ d _. value_meaning_in_range d)
 
--- so is what a call answers that gives such a reading
+-- so is a request that a call returns from such a reading
 given : (r reading : Result Request Fault) → GivesUnless Unavailable r reading → IfOk reading IsInRange → IfOk r IsInRange
 given (Ok x) reading is h = rw is at h
 given (Err e) reading is h = tt

@@ -1,4 +1,4 @@
--- A reading looks at the members of these names alone.
+-- A reading depends only on the members with these names.
 use Rattle.std.proofs.Common.{◌≡◌, ℕ, List, Option, Some, Result, Ok, Err, refl, sym, ap, ◌∙◌, All}
 use Rattle.std.proofs.lemmas.List.Elements.{recursion_from_All}
 use Rattle.std.specs.Option.{ok_or, option_and_then}

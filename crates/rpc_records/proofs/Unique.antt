@@ -1,4 +1,4 @@
--- The canonical text of a request in range is read as its value, so two requests with one text are one.
+-- The canonical text of a request in range is read back as its value, so two requests with one text are equal.
 use Rattle.std.proofs.Common.{◌≡◌, ◌≤◌, ◌<◌, ◌^◌, ◌≤ℤ◌, ℕ, suc, ℤ, pos, negsuc, List, [], ◌∷◌, map, Option, Some, None, Ok, refl, sym, ap, ◌∙◌, arith, append-nil}
 use borrow.Author.Differences.{ints}
 use Rattle.std.proofs.lemmas.List.Elements.{recursion_from_All}
@@ -28,7 +28,7 @@ use Rattle.rpc_records.specs.declared.request.HostInfo.{HostInfo as Host}
 use Rattle.rpc_records.specs.declared.request.Report.{Report}
 use Rattle.rpc_records.specs.declared.request.Request.{Request}
 
--- A value whose text is read as it: its numbers are written as numbers, it is not nested too deep, and it stays itself.
+-- A value that is read back from its text: its numbers are written as numbers, it is not nested too deep, and it stays itself.
 record IsReadable (most : ℕ) (d : Data) : Type 0 where
   numbers : tree.HasNumbers (outline d)
   nested : tree.depth (outline d) ≤ most
@@ -92,7 +92,7 @@ report_readable p range =
     let status = integer_readable p.exit_status range.least_status range.most_status in
     record { numbers = (status.numbers, (tt, (tt, tt))); nested = omega (arith, status.nested); same = rw status.same }
 
--- by cases on what is listed
+-- by cases on the list
 request_readable : (r : Request) (listed : Option (List (List ℕ))) → let with_list : Request = record r { other_results = listed } in IsInRange r → IsReadable 127 (request_json with_list)
 unfolding request_json
 request_readable r None range =
@@ -121,12 +121,12 @@ request_readable r (Some names) range =
       same = rw (alternatives.same, host.same, hostid.same, listed.same, results.same, rpc_seqno.same, asked.same);
     }
 
--- the canonical text is read as the value that it was written for
+-- the canonical text is read back as the value that it was written for
 pub read-canonical_text : (r : Request) → IsInRange r → read (canonical_text r) ≡ Some (request_json r)
 unfolding canonical_text
 read-canonical_text r range = read_again (request_json r) (request_readable r r.other_results range)
 
--- and so as the request, where it is UTF-8
+-- and so as the request, if it is UTF-8
 pub meaning-canonical_text : (r : Request) → IsInRange r → IsUtf8 (canonical_text r) → meaning (canonical_text r) ≡ Ok r
 unfolding meaning json_of and_then
 meaning-canonical_text r range utf8 =

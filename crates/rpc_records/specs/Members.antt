@@ -7,7 +7,7 @@ use Rattle.rpc_records.specs.declared.fault.Member.TheVariants.{Authenticator, H
 use Rattle.rpc_records.specs.declared.text_kind.TextKind.{TextKind}
 use Rattle.rpc_records.specs.declared.text_kind.TextKind.TheVariants.{Word, Name, Output}
 
--- The name of a member in its object: host_cpid, p_fpops, m_nbytes and d_free stand in host_info, the others at the top.
+-- The name of a member in its object: host_cpid, p_fpops, m_nbytes and d_free are in host_info, the others at the top.
 abbrev pub key_of : Member → List ℕ
 key_of Authenticator = codes "authenticator"
 key_of Hostid = codes "hostid"
@@ -23,7 +23,7 @@ key_of WorkReqSeconds = codes "work_req_seconds"
 key_of OtherResults = codes "other_results"
 key_of Results = codes "results"
 
--- The name by which a refusal tells a member.
+-- The name of a member in a refusal.
 abbrev pub path_of : Member → List ℕ
 path_of HostCpid = codes "host_info.host_cpid"
 path_of PFpops = codes "host_info.p_fpops"
@@ -39,7 +39,7 @@ is_name text = nat_le 1 (length text) && nat_le (length text) 254
 abbrev pub is_output : List ℕ → Bool
 is_output text = nat_le (length text) 1024
 
--- A text is of the kind.
+-- A text is of this kind.
 abbrev pub is_of : TextKind → List ℕ → Bool
 is_of Word text = is_word text
 is_of Name text = is_name text

@@ -1,4 +1,4 @@
--- Rule. Which members of an object are faulty, each judged by itself, and the order in which they are told.
+-- Rule. Which members of an object are faulty, each judged by itself, and the order in which faults are named.
 use Rattle.std.specs.Prelude.{List, [], ◌∷◌, Bool, false, Option, Some, None, is_none, option_and_then, unwrap_or, Result, Ok, Err}
 use Rattle.serde_json.specs.Data.{Data, null}
 use Rattle.serde_json.specs.Find.{get}
@@ -8,21 +8,21 @@ use Rattle.rpc_records.specs.declared.fault.Fault.{Fault}
 use Rattle.rpc_records.specs.declared.fault.Member.{Member}
 use Rattle.rpc_records.specs.declared.fault.Member.TheVariants.{Authenticator, Hostid, RpcSeqno, HostInfo, HostCpid, PFpops, MNbytes, DFree, PlatformName, AltPlatforms, WorkReqSeconds, OtherResults, Results}
 
--- The members in the order in which they are told.
+-- The members in the order in which faults are named.
 abbrev pub in_order : List Member
 in_order =
     Authenticator ∷ Hostid ∷ RpcSeqno ∷ HostInfo ∷ HostCpid ∷ PFpops ∷ MNbytes ∷ DFree ∷ PlatformName ∷ AltPlatforms ∷ WorkReqSeconds
     ∷ OtherResults ∷ Results ∷ []
 
--- Those that stand at the top of a request. The others stand in host_info.
+-- The members at the top of a request. The others are in host_info.
 abbrev pub at_top : List Member
 at_top = Authenticator ∷ Hostid ∷ RpcSeqno ∷ HostInfo ∷ PlatformName ∷ AltPlatforms ∷ WorkReqSeconds ∷ OtherResults ∷ Results ∷ []
 
--- It is missing, or it isn't as wanted.
+-- The member is missing, or not of the wanted form.
 abbrev pub is_wanting : {A : Type 0} → (Data → Option A) → Option Data → Bool
 is_wanting reads found = is_none (option_and_then reads found)
 
--- It is there, and isn't as wanted.
+-- The member exists, but is not of the wanted form.
 abbrev pub is_spoiled : {A : Type 0} → (Data → Option A) → Option Data → Bool
 is_spoiled reads None = false
 is_spoiled reads (Some d) = is_none (reads d)
@@ -47,7 +47,7 @@ is_faulty d WorkReqSeconds = is_spoiled seconds_in (get (key_of WorkReqSeconds) 
 is_faulty d OtherResults = is_spoiled listed_in (get (key_of OtherResults) d)
 is_faulty d Results = is_spoiled reports_in (get (key_of Results) d)
 
--- The refusal, where a reading is one.
+-- The refusal, if a reading gives one.
 abbrev pub refusal_of : {A : Type 0} → Result A Fault → Option Fault
 refusal_of (Ok x) = None
 refusal_of (Err e) = Some e

@@ -1,4 +1,5 @@
--- Rule. The ranges of a request: what every request that was read is within, and what a canonical text can be read back from.
+-- Rule. The ranges of a request. Every request that was read is within them, and a canonical text of a request within them can be read
+-- back.
 use Rattle.std.specs.Prelude.{◌<◌, ◌≤◌, ◌^◌, ◌≤ℤ◌, ℕ, pos, negsuc, List, length, All, IfSome, IsTrue}
 use Rattle.texts.specs.Words.{IsWord}
 use Rattle.rpc_records.specs.Members.{is_name, is_output}
@@ -10,7 +11,7 @@ use Rattle.rpc_records.specs.declared.request.Request.{Request}
 abbrev pub IsName : List ℕ → Type 0
 IsName text = IsTrue (is_name text)
 
--- A host's name and its amounts: some operations a second, and bytes.
+-- A host's name and its amounts: at least one operation a second, and bytes.
 pub record IsHostInfo (host : HostInfo) : Type 0 where
   pub host_cpid : IsWord host.host_cpid
   pub some_fpops : 1 ≤ host.p_fpops

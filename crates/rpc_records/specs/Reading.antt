@@ -1,5 +1,5 @@
--- Promise. The meaning of a body as a scheduler_request, with this profile's ranges. The members are looked at in the order in which they
--- stand here, and the first that is missing or faulty is told. Other members are passed over.
+-- Promise. The meaning of a body as a scheduler_request, with this profile's ranges. The members are read in the order in which they are
+-- listed here. The refusal names the first that is missing or faulty. Other members are ignored.
 use Rattle.std.specs.Prelude.{ℕ, List, [], ◌∷◌, Option, None, option_and_then, ok_or, is_some, Result, Ok, Err, if◌then◌else◌}
 use Rattle.std.specs.Str.{is_utf8}
 use Rattle.serde_json.specs.Data.{Data}
@@ -15,15 +15,15 @@ use Rattle.rpc_records.specs.declared.request.HostInfo.{HostInfo as Host}
 use Rattle.rpc_records.specs.declared.request.Request.{Request}
 use Rattle.texts.specs.Reading.{◌>>=◌}
 
--- A member that has to be there.
+-- A member that must exist.
 unfoldable pub needed : {A : Type 0} → Member → (Data → Option A) → Data → Result A Fault
 needed m reads d = ok_or (option_and_then reads (get (key_of m) d)) (BadMember m)
 
--- A member that may be absent, and then is `default`.
+-- A member that may be absent; it is then `default`.
 unfoldable pub defaulted : {A : Type 0} → Member → A → (Data → Option A) → Data → Result A Fault
 defaulted m default reads d = ok_or (read_or default reads (get (key_of m) d)) (BadMember m)
 
--- What a host tells of itself.
+-- What a host says of itself.
 unfoldable pub host_at : Data → Result Host Fault
 host_at d = do
   info ← needed HostInfo object_in d
@@ -33,14 +33,14 @@ host_at d = do
   d_free ← needed DFree size_in info
   Ok (record { host_cpid = host_cpid; p_fpops = p_fpops; m_nbytes = m_nbytes; d_free = d_free })
 
--- The host's own platform, and the alternatives behind it.
+-- The host's own platform, and after it the alternatives.
 unfoldable pub platforms_at : Data → Result (List (List ℕ)) Fault
 platforms_at d = do
   own ← needed PlatformName word_in d
   alternatives ← defaulted AltPlatforms [] alternatives_in d
   Ok (own ∷ alternatives)
 
--- The request that an object says. Without other_results, what the host has is unknown; an empty list says that it has nothing.
+-- The request that an object says. Without other_results it is unknown what the host has. An empty list says that it has nothing.
 unfoldable pub request_at : Data → Result Request Fault
 request_at d = do
   authenticator ← needed Authenticator word_in d
@@ -62,8 +62,8 @@ request_at d = do
     results = results;
   })
 
--- The value that a body is: the one JSON text (RFC 8259) of its bytes, which are UTF-8, nested at most 127 deep. A name that
--- stands twice in one object has its last value, and a number too large for a float makes the whole text none.
+-- The value of a body: the one JSON text (RFC 8259) of its bytes, which are UTF-8, nested at most 127 deep. A name that occurs twice in one
+-- object has its last value. A text with a number too large for a float has no value.
 unfoldable pub json_of : List ℕ → Option Data
 json_of body = if is_utf8 body then read body else None
 
@@ -71,6 +71,6 @@ json_of body = if is_utf8 body then read body else None
 unfoldable pub value_meaning : Data → Result Request Fault
 value_meaning d = if is_some (as_object d) then request_at d else Err BadJson
 
--- The meaning of a body, of which the bytes alone decide.
+-- The meaning of a body. It depends on the bytes alone.
 unfoldable pub meaning : List ℕ → Result Request Fault
 meaning body = ok_or (json_of body) BadJson >>= value_meaning

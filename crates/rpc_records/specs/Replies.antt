@@ -1,5 +1,5 @@
--- Rule. The texts of the answers to a scheduler call: compact JSON as serde_json writes it, the members of each object in byte order of
--- their names. The names of a reply's members are those of BOINC's scheduler RPC protocol where it has them; the refusals are this profile's.
+-- Rule. The texts of the answers to a scheduler call: compact JSON as serde_json writes it. The members of each object are in byte order of
+-- their names. If BOINC's scheduler RPC protocol has a member of a reply, it has BOINC's name. The refusals are this profile's.
 use Rattle.std.specs.Prelude.{ℕ, List, [], ◌∷◌, codes}
 use Rattle.serde_json.specs.Data.{Data, string, boolean, object, member, no_members}
 use Rattle.serde_json.specs.Written.{compact_text}
@@ -79,7 +79,7 @@ number_of TableFull = 18
 number_of NoSuchHost = 19
 number_of Unavailable = 20
 
--- Its name.
+-- The name of a refusal.
 abbrev pub name_of : Fault → List ℕ
 name_of BadHttp = codes "bad_http"
 name_of NoRoute = codes "no_route"
@@ -102,7 +102,7 @@ name_of TableFull = codes "table_full"
 name_of NoSuchHost = codes "no_such_host"
 name_of Unavailable = codes "unavailable"
 
--- The status code of the HTTP response that tells it.
+-- The status code of the HTTP response to a refusal.
 abbrev pub status_of : Fault → ℕ
 status_of BadHttp = 400
 status_of NoRoute = 404
@@ -125,7 +125,7 @@ status_of TableFull = 409
 status_of NoSuchHost = 404
 status_of Unavailable = 503
 
--- What it tells beside its name and its number.
+-- What a refusal says in addition to its name and number.
 abbrev pub details_of : Fault → List (List ℕ × Data)
 details_of (BadMember m) = (codes "member", string (path_of m)) ∷ []
 details_of (Stale last) = (codes "last", whole last) ∷ []
@@ -135,13 +135,13 @@ details_of (DuplicateName row) = (codes "row", whole row) ∷ []
 details_of (UnknownReference row) = (codes "row", whole row) ∷ []
 details_of _ = []
 
--- A refusal as a value: its name and number, and what else it tells.
+-- A refusal as a value: its name, its number and its details.
 abbrev pub fault_json : Fault → Data
 fault_json f = object (with_members (details_of f) (
     member (codes "error") (string (name_of f)) (
     member (codes "number") (whole (number_of f))
     no_members)))
 
--- The body that tells a refusal.
+-- The body of a refusal.
 unfoldable pub fault_text_of : Fault → List ℕ
 fault_text_of f = compact_text (fault_json f)

@@ -1,6 +1,6 @@
--- Rule. The canonical text of a request: compact JSON as serde_json writes it, every member with its default put in, but other_results only
--- where the request has it, so that an absent list and an empty one are two texts. In each object the members stand in byte order of
--- their names.
+-- Rule. The canonical text of a request: compact JSON as serde_json writes it, with every member, defaults included. Only other_results may
+-- be absent: it is there if the request has it, so an absent list and an empty one are two texts. The members of each object are in byte
+-- order of their names.
 use Rattle.std.specs.Prelude.{ℕ, List, [], ◌∷◌, drop, map, slice_index_or, codes, Option, Some, None}
 use Rattle.serde_json.specs.Data.{Data, string, number, unsigned, array, object, Members, member, no_members, put}
 use Rattle.serde_json.specs.Find.{of_integer}
@@ -18,20 +18,20 @@ whole n = number (unsigned n)
 abbrev pub list_json : {A : Type 0} → (A → Data) → List A → Data
 list_json each xs = array (items_of (map each xs))
 
--- The members with these too, each at the place of its name.
+-- The members and these, each at the place of its name.
 abbrev pub with_members : List (List ℕ × Data) → Members → Members
 with_members [] members = members
 with_members (m ∷ ms) members = with_members ms (put m.0 m.1 members)
 
--- The host's own platform, empty where a request has none.
+-- The host's own platform; empty if a request has none.
 abbrev pub own_platform : Request → List ℕ
 own_platform r = slice_index_or r.platforms 0 []
 
--- The alternative platforms: those behind the host's own.
+-- The alternative platforms: those after the host's own.
 abbrev pub alternatives : Request → List (List ℕ)
 alternatives r = drop 1 r.platforms
 
--- What a host tells of itself.
+-- What a host says of itself.
 abbrev pub host_json : HostInfo → Data
 host_json h = object (
     member (codes "d_free") (whole h.d_free) (
@@ -48,7 +48,7 @@ report_json p = object (
     member (codes "output") (string p.output)
     no_members)))
 
--- The list of what the host has, where it is told, before the members behind it.
+-- The list of what the host has, if the request has one, before the members that come after it.
 abbrev pub with_other_results : Option (List (List ℕ)) → Members → Members
 with_other_results None rest = rest
 with_other_results (Some names) rest = member (codes "other_results") (list_json string names) rest
@@ -67,6 +67,6 @@ request_json r = object (
     member (codes "work_req_seconds") (whole r.asked)
     no_members)))))))))
 
--- The text by which two requests are told to be one.
+-- The canonical text: two requests are equal exactly if theirs are.
 unfoldable pub canonical_text : Request → List ℕ
 canonical_text r = compact_text (request_json r)

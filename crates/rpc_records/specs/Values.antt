@@ -1,6 +1,6 @@
--- Rule. What one value of JSON says, where it is of the wanted form, and None where it isn't. `null` is of none of these forms.
--- JSON's values are those of serde_json: a number is unsigned or negative within 64 bits, or a float. A number with a point or
--- an exponent is a float there, and so are `-0` and an integer beyond 64 bits.
+-- Rule. What one value of JSON says: it is None if the value is not of the wanted form. `null` is of none of these forms. JSON's values are
+-- those of serde_json: a number is unsigned or negative within 64 bits, or a float. A number with a point or an exponent is a float there,
+-- and so are `-0` and an integer beyond 64 bits.
 use Rattle.std.specs.Prelude.{◌^◌, ℕ, ℤ, pos, negsuc, List, [], ◌∷◌, ◌&&◌, nat_le, int_le, codes, Option, Some, None, option_map, option_and_then}
 use Rattle.std.specs.Bool.{then_some}
 use Rattle.serde_json.specs.Data.{Data, object, Items, no_items, item}
@@ -35,7 +35,7 @@ status_in d = do
   z ← as_i64 number
   then_some (int_le (negsuc 2147483647) z && int_le z (pos 2147483647)) z
 
--- An object, whatever its members.
+-- An object with any members.
 abbrev pub object_in : Data → Option Data
 object_in d = option_map object (as_object d)
 
@@ -53,13 +53,13 @@ all_in reads (item d items) = do
   xs ← all_in reads items
   Some (x ∷ xs)
 
--- An array of at most `most` items, every one as `reads` reads it.
+-- An array of at most `most` items, each as `reads` reads it.
 abbrev pub list_in : {A : Type 0} → ℕ → (Data → Option A) → Data → Option (List A)
 list_in most reads d = do
   items ← items_in most d
   all_in reads items
 
--- A member that may be absent, and then is `default`.
+-- A member that may be absent; it is then `default`.
 abbrev pub read_or : {A : Type 0} → A → (Data → Option A) → Option Data → Option A
 read_or default reads None = Some default
 read_or default reads (Some d) = reads d
@@ -96,11 +96,11 @@ size_in = whole_in 0 (10 ^ 18)
 abbrev pub seconds_in : Data → Option ℕ
 seconds_in = whole_in 0 1000000000
 
--- Platforms besides the host's own.
+-- Platforms in addition to the host's own.
 abbrev pub alternatives_in : Data → Option (List (List ℕ))
 alternatives_in = list_in 7 word_in
 
--- The names of what the host has. With them the list is told, were it empty; where there is no such member it isn't.
+-- The names of what the host has. If there is such a member, the request has a list, even an empty one. If not, it has none.
 abbrev pub listed_in : Data → Option (Option (List (List ℕ)))
 listed_in d = option_map Some (list_in 1024 (text_in Name) d)
 

@@ -13,7 +13,7 @@ use serde_json::{Map, Value};
 use std::alloc::Global;
 use texts::{Memory, Text};
 
-/// The body of a reply.
+/// Returns the body of a reply.
 pub fn reply_text(alloc: Global, reply: &Reply) -> Result<Text, Memory>
     ensures { IfOk result (λ text. text ≡ reply_text_of reply.now) }
 {
@@ -21,7 +21,7 @@ pub fn reply_text(alloc: Global, reply: &Reply) -> Result<Text, Memory>
     Ok(Text::of(value.to_string(alloc)?))
 }
 
-/// The body that tells a refusal.
+/// Returns the body of a refusal.
 #[tactic(auto, unfolding(crate::specs::Replies::fault_text_of))]
 pub fn fault_text(alloc: Global, fault: &Fault) -> Result<Text, Memory>
     ensures { IfOk result (λ text. text ≡ fault_text_of fault.now) }
@@ -30,7 +30,7 @@ pub fn fault_text(alloc: Global, fault: &Fault) -> Result<Text, Memory>
     Ok(Text::of(value.to_string(alloc)?))
 }
 
-/// The body that tells [`Fault::Unavailable`], which takes no memory.
+/// The body for [`Fault::Unavailable`], which needs no memory.
 pub fn unavailable_text() -> &'static str
     ensures { result.now ≡ fault_text_of Fault.Unavailable }
 {
@@ -50,7 +50,7 @@ impl ToJson for Reply {
     }
 }
 
-/// Which call is answered, and how it ended.
+/// Puts which call is answered, and how the answer ended.
 fn put_call(members: &mut Map<String, Value>, alloc: Global, reply: &Reply) -> Result<(), Memory>
     ensures { OnOk result (members_view members.new.entries
         ≡ with_members
@@ -71,7 +71,7 @@ fn put_call(members: &mut Map<String, Value>, alloc: Global, reply: &Reply) -> R
     put_whole(members, alloc, "rpc_seqno", u64::from(reply.rpc_seqno))
 }
 
-/// The credit of the host and of its user.
+/// Puts the credit of the host and of its user.
 fn put_credit(members: &mut Map<String, Value>, alloc: Global, reply: &Reply) -> Result<(), Memory>
     ensures { OnOk result (members_view members.new.entries
         ≡ with_members
@@ -85,7 +85,7 @@ fn put_credit(members: &mut Map<String, Value>, alloc: Global, reply: &Reply) ->
     put_whole(members, alloc, "user_total_credit", reply.user_total_credit)
 }
 
-/// The three lists of results.
+/// Puts the three lists of results.
 fn put_results(members: &mut Map<String, Value>, alloc: Global, reply: &Reply) -> Result<(), Memory>
     ensures { OnOk result (members_view members.new.entries
         ≡ with_members
@@ -110,7 +110,7 @@ impl ToJson for Job {
     }
 }
 
-/// What the job is an instance of, and what runs it.
+/// Puts what the job is an instance of, and what runs it.
 fn put_names(members: &mut Map<String, Value>, alloc: Global, job: &Job) -> Result<(), Memory>
     ensures { OnOk result (members_view members.new.entries
         ≡ with_members
@@ -126,7 +126,7 @@ fn put_names(members: &mut Map<String, Value>, alloc: Global, job: &Job) -> Resu
     put(members, alloc, "wu_name", &job.wu_name)
 }
 
-/// How long it takes, until when, and whether it was sent before.
+/// Puts how long the job takes, until when, and whether it was sent before.
 fn put_terms(members: &mut Map<String, Value>, alloc: Global, job: &Job) -> Result<(), Memory>
     ensures { OnOk result (members_view members.new.entries
         ≡ with_members
@@ -154,7 +154,7 @@ impl ToJson for Fault {
     }
 }
 
-/// What a refusal tells beside its name and its number.
+/// Puts what a refusal says in addition to its name and number.
 fn put_details(members: &mut Map<String, Value>, alloc: Global, fault: Fault) -> Result<(), Memory>
     ensures { OnOk result (members_view members.new.entries
         ≡ with_members (details_of fault) (members_view members.old.entries)) }

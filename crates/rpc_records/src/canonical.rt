@@ -13,11 +13,11 @@ use serde_json::{Map, Value, json};
 use std::alloc::Global;
 use texts::{Memory, Text};
 
-/// The canonical text of a request: compact JSON with every member, defaults put in, but `other_results` only where the
-/// request has it. Two requests that were read have one text exactly where they are equal.
+/// Returns the canonical text of a request: compact JSON with every member, defaults included. Only `other_results` may
+/// be absent: it is there if the request has it. Two requests that were read have one text exactly if they are equal.
 pub fn request_text(alloc: Global, request: &Request) -> Result<Text, Memory>
     ensures text { IfOk result (λ text. text ≡ canonical_text request.now) }
-    // It is read again as the request.
+    // It can be read back as the request.
     ensures read_again { IfOk result (λ text. IsInRange request.now → meaning text ≡ Ok request.now) }
 {
     let value = request_value(alloc, request)?;
@@ -35,7 +35,7 @@ fn request_value(alloc: Global, request: &Request) -> Result<Value, Memory>
     Ok(Value::Object(members))
 }
 
-/// Who calls, and for which time.
+/// Puts who calls, and the number of the call.
 fn put_caller(
     members: &mut Map<String, Value>,
     alloc: Global,
@@ -55,7 +55,7 @@ fn put_caller(
     put_whole(members, alloc, "rpc_seqno", u64::from(request.rpc_seqno))
 }
 
-/// What the host has done, and what it asks for.
+/// Puts what the host has done, and what it asks for.
 fn put_work(
     members: &mut Map<String, Value>,
     alloc: Global,
@@ -74,7 +74,7 @@ fn put_work(
     put_whole(members, alloc, "work_req_seconds", request.asked)
 }
 
-/// The first platform, and those behind it.
+/// Puts the first platform, and those after it.
 fn put_platforms(
     members: &mut Map<String, Value>,
     alloc: Global,
@@ -99,7 +99,7 @@ fn put_platforms(
     put_str(members, alloc, "platform_name", own)
 }
 
-/// The list of what the host has, where the request has one.
+/// Puts the list of what the host has, if the request has one.
 fn put_other_results(
     members: &mut Map<String, Value>,
     alloc: Global,

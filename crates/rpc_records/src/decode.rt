@@ -17,7 +17,7 @@ use serde_json::Value;
 use std::alloc::{AllocError, Global};
 use texts::{Listed, Memory, Text};
 
-/// 10^18: the most operations a second and the most bytes that a host tells.
+/// 10^18: the most operations a second and the most bytes that a host may name.
 const MOST_AMOUNT: u64 = 1_000_000_000_000_000_000;
 
 const MOST_SECONDS: u64 = 1_000_000_000;
@@ -28,10 +28,11 @@ const MOST_OTHER_RESULTS: usize = 1_024;
 
 const MOST_RESULTS: usize = 256;
 
-/// The request that the body of a scheduler call says.
+/// Reads the request in the body of a scheduler call.
 ///
-/// It is refused with [`Fault::BadJson`] where the body is no JSON object, and with [`Fault::BadMember`] where a member
-/// is missing or faulty: the first in the order of [`Member`]. [`Fault::Unavailable`] is want of memory.
+/// If the body is no JSON object, it is refused with [`Fault::BadJson`]. If a member is missing or faulty, it is
+/// refused with [`Fault::BadMember`], which names the first such member in the order of [`Member`].
+/// [`Fault::Unavailable`] means that there is no memory.
 #[tactic(auto, unfolding(crate::specs::Reading::meaning, texts::specs::Reading::and_then))]
 pub fn decode_request(alloc: Global, body: &[u8]) -> Result<Request, Fault>
     ensures exact { GivesUnless Fault.Unavailable result (meaning body.now) }
@@ -41,7 +42,7 @@ pub fn decode_request(alloc: Global, body: &[u8]) -> Result<Request, Fault>
     request_in(alloc, &value)
 }
 
-/// The JSON value that a text is (RFC 8259), or `None` if it is none.
+/// The JSON value of a text (RFC 8259), or `None` if it has none.
 ///
 /// # Errors
 ///
@@ -56,7 +57,7 @@ pub fn json_value(alloc: Global, text: &[u8]) -> Result<Option<Value>, Memory>
     }
 }
 
-/// The value that a body is. A body that is none is refused with [`Fault::BadJson`].
+/// The value of a body. A body that has none is refused with [`Fault::BadJson`].
 fn value_in(alloc: Global, body: &[u8]) -> Result<Value, Fault>
     ensures { GivesUnless Fault.Unavailable (result_map_both view (λ fault. fault) result) (ok_or (json_of body.now) Fault.BadJson) }
 {
@@ -113,7 +114,7 @@ fn host_of(alloc: Global, object: &Value) -> Result<HostInfo, Fault>
     })
 }
 
-/// The host's own platform, and the alternatives behind it.
+/// The host's own platform, and after it the alternatives.
 #[tactic(auto, unfolding(crate::specs::Reading::platforms_at, texts::specs::Reading::and_then))]
 fn platforms_of(alloc: Global, object: &Value) -> Result<Listed<Text>, Fault>
     ensures { GivesUnless Fault.Unavailable result (platforms_at (view object.now)) }

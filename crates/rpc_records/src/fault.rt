@@ -28,7 +28,7 @@ pub enum Member {
 }
 
 impl Member {
-    /// Its name in its object: four of them stand in host_info.
+    /// Its name in its object. Four of them are in host_info.
     pub(crate) fn key(self) -> &'static str
         ensures { result.now ≡ key_of self }
     {
@@ -49,7 +49,7 @@ impl Member {
         }
     }
 
-    /// Its name in a refusal, as `host_info.host_cpid`.
+    /// Its name in a refusal, such as `host_info.host_cpid`.
     pub(crate) fn path(self) -> &'static str
         ensures { result.now ≡ path_of self }
     {
@@ -78,7 +78,7 @@ pub enum Fault {
     BadHttp,
     /// No such route.
     NoRoute,
-    /// The route has another method.
+    /// The route takes another method.
     WrongMethod,
     /// The message does not say how long its body is.
     LengthRequired,
@@ -92,19 +92,20 @@ pub enum Fault {
     BadAccount,
     /// The number is not that of the caller's host.
     BadHost,
-    /// A call of the host with a greater number, this one, was answered.
+    /// A call of the host with a greater number was answered; the number given is the greatest.
     Stale(u32),
-    /// A kept call of the host has the same number and said something else. The number told is that of the host's last call.
+    /// A kept call of the host has the same number and said something else. The number given is that of the host's last
+    /// call.
     Reused(u32),
-    /// As many hosts as there may be.
+    /// There are as many hosts as there may be.
     HostsFull,
     /// The operator's key is missing or wrong.
     NotOperator,
     /// The first faulty row of an import, and in it the first faulty column.
     BadCsv { row: u64, column: u64 },
-    /// The name in this row stands already.
+    /// The name in this row exists already.
     DuplicateName(u64),
-    /// This row names an application that does not stand.
+    /// This row names an application that does not exist.
     UnknownReference(u64),
     /// The batch of this name had other bytes.
     BatchReused,
@@ -112,12 +113,12 @@ pub enum Fault {
     TableFull,
     /// No host has this number.
     NoSuchHost,
-    /// Memory, size or disk is wanting.
+    /// There is not enough memory or disk, or a size is too large.
     Unavailable,
 }
 
 impl Fault {
-    /// Its name in the body that tells it.
+    /// Its name in the body of the refusal.
     pub fn name(self) -> &'static str
         ensures { result.now ≡ name_of self }
     {

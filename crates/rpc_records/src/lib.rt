@@ -1,8 +1,8 @@
 //! The records of a scheduler call, and their texts: a request and what it means, the reply, and the refusals.
 //!
-//! A request comes as JSON: [`decode_request`] says what it means, or which refusal it gets. [`request_text`] is its
-//! canonical text, by which two calls are told to be the same. Replies and refusals are written by [`reply_text`] and
-//! [`fault_text`].
+//! A request comes as JSON: [`decode_request`] returns what it means, or its refusal. [`request_text`] is its canonical
+//! text: two calls are equal exactly if their canonical texts are. [`reply_text`] and [`fault_text`] write replies and
+//! refusals.
 #![tactic(auto)]
 
 mod answers;

@@ -1,4 +1,4 @@
-//! The members of an object, one at a time: what each says, or the refusal that tells it.
+//! The members of an object, one at a time: what each says, or the refusal that names it.
 
 ghost use Rattle.std.specs.Prelude.{◌≡◌, ◌≤◌, None, IfOk, ok_or};
 ghost use Rattle.std.specs.Result.{result_map_both};
@@ -44,7 +44,7 @@ pub(crate) fn whole_at(object: &Value, member: Member, least: u64, most: u64) ->
         .ok_or(Fault::BadMember(member))
 }
 
-/// The whole number at `member`, up to `most`, or 0 where there is none.
+/// The whole number at `member`, up to `most`, or 0 if there is no such member.
 #[tactic(auto, unfolding(crate::specs::Reading::defaulted))]
 pub(crate) fn whole_or_zero_at(object: &Value, member: Member, most: u64) -> Result<u64, Fault>
     ensures exact { result ≡ defaulted member 0 (whole_in 0 most) (view object.now) }
@@ -68,7 +68,7 @@ pub(crate) fn object_at(object: &Value, member: Member) -> Result<&Value, Fault>
     }
 }
 
-/// The texts in `value`, at most `most` and each of this kind, of which `member` is told.
+/// The texts in `value`, at most `most` and each of this kind. The refusal names `member`.
 pub(crate) fn texts_in(
     alloc: Global,
     value: &Value,

@@ -21,7 +21,7 @@ pub enum EndWord {
 }
 
 impl EndWord {
-    /// As a reply tells it.
+    /// Its word in a reply.
     pub(crate) fn word(self) -> &'static str
         ensures { result.now ≡ end_word_of self }
     {
@@ -35,7 +35,7 @@ impl EndWord {
     }
 }
 
-/// A job of a reply: one instance of a workunit, for the version of its application that the host can run.
+/// A job of a reply: one instance of a workunit, with the version of its application that the host can run.
 #[derive(Debug, Drop)]
 pub struct Job {
     pub app_name: Text,
@@ -62,11 +62,11 @@ pub struct Reply {
     pub host_total_credit: u64,
     /// The host's number.
     pub hostid: u32,
-    /// Seconds that the client has to wait before its next call.
+    /// Seconds that the client must wait before its next call.
     pub request_delay: u32,
     /// The names of the results that the client should no longer work on.
     pub result_abort: Listed<Text>,
-    /// The names of the reports that were taken, so that the client may forget them.
+    /// The names of the reports that were taken. The client may forget them.
     pub result_ack: Listed<Text>,
     /// First the jobs that are sent again, then the new ones.
     pub results: Listed<Job>,

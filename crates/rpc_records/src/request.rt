@@ -1,11 +1,11 @@
-//! A scheduler_request with what the host tells of itself and what it reports.
+//! A scheduler_request, with what the host says of itself and what it reports.
 
 use texts::{Listed, Text};
 
-/// The greatest rpc_seqno and the greatest hostid: BOINC's numbers have 32 bits, of which one is the sign.
+/// The greatest rpc_seqno and the greatest hostid. BOINC's numbers have 32 bits, and one is the sign.
 pub const MOST_NUMBER: u32 = 2_147_483_647;
 
-/// What a host tells of itself: `host_info` of a scheduler_request.
+/// What a host says of itself: `host_info` of a scheduler_request.
 #[derive(Debug, Drop)]
 pub struct HostInfo {
     /// The host's own name for itself, a word that stays the same for its life.
@@ -34,7 +34,7 @@ pub struct Report {
 pub struct Request {
     /// The account's secret word.
     pub authenticator: Text,
-    /// The host's number, or 0 where it is not told.
+    /// The host's number, or 0 if it is not given.
     pub hostid: u32,
     /// The number of the call, which rises with each new call of a host.
     pub rpc_seqno: u32,
@@ -43,7 +43,7 @@ pub struct Request {
     pub platforms: Listed<Text>,
     /// Seconds of work that are asked for, up to 10^9.
     pub asked: u64,
-    /// The names of the results that the host has, where it listed them.
+    /// The names of the results that the host has, if it listed them.
     pub other_results: Option<Listed<Text>>,
     pub results: Listed<Report>,
 }

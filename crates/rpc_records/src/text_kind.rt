@@ -1,4 +1,4 @@
-//! What the texts of a request have to be like.
+//! What the texts of a request must be like.
 
 ghost use Rattle.std.specs.Prelude.{◌≡◌};
 ghost use Rattle.rpc_records.specs.Members.{is_name, is_of};
@@ -9,7 +9,7 @@ const MOST_NAME_BYTES: usize = 254;
 
 const MOST_OUTPUT_BYTES: usize = 1_024;
 
-/// What a text has to be like.
+/// What a text must be like.
 #[derive(Clone, Copy)]
 pub(crate) enum TextKind {
     /// A word: ASCII letters, digits, `-`, `.` and `_`.

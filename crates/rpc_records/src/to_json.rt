@@ -9,7 +9,7 @@ use serde_json::{Map, Value};
 use std::alloc::Global;
 use texts::{Listed, Memory, Text};
 
-/// What has one value of JSON.
+/// Something that has one value of JSON.
 pub(crate) trait ToJson {
     /// That value.
     ghost json: { Self → Data };
@@ -71,7 +71,7 @@ pub(crate) fn put_whole(
     serde_json::put(members, alloc, name, Value::from(number))
 }
 
-/// Puts a text that stands in the source.
+/// Puts a text that is given in the source.
 pub(crate) fn put_str(
     members: &mut Map<String, Value>,
     alloc: Global,

@@ -1,4 +1,4 @@
-//! What one value of JSON says, where it is of the wanted form.
+//! What one value of JSON says, if it is of the wanted form.
 
 ghost use Rattle.std.specs.Prelude.{◌≡◌, option_map};
 ghost use Rattle.serde_json.specs.View.{view, items_view};

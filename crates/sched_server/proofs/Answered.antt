@@ -20,7 +20,7 @@ use Rattle.sched_server.specs.Meanings.{Says}
 pub says_so : (m form : Message) (said : Said) → m ≡ form → Says (message_seen form) said → Says (message_seen m) said
 says_so m form said is says = let P : Message → Type 0 = λ x. Says (message_seen x) said in subst P (sym is) says
 
--- and is served as that
+-- and is served as such
 pub known_serves : (m form : Message) (said : Said) (now : ℕ) (old new : Held)
     (r : Result Answer Unavailable) → m ≡ form → Says (message_seen form) said
     → IfOk r (λ a. ServesIn (heard_now now said) a old new)
@@ -40,7 +40,7 @@ import_says m form kind batch text read is asks_for reads =
     let P : Asked → Type 0 = λ asked. Says asked (Import kind batch text read) in
     subst P (sym (ap message_seen is ∙ asks_for)) (read, reads, refl)
 
--- and is served as that
+-- and is served as such
 pub import_serves : (m form : Message) (kind : Kind) (batch text : List ℕ) (now : ℕ) (old new : Held)
     (r : Result Answer Unavailable) → m ≡ form → message_seen form ≡ asks.import kind batch text
     → IfOk r (λ a. (read : Result Rows Fault) × Reads kind text read

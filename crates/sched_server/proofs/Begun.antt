@@ -1,4 +1,4 @@
--- A store in which nothing stands stands for no arrivals, and one that was upgraded for what it stood for.
+-- A new store agrees with no arrivals, and an upgraded one with what it agreed with.
 use Rattle.std.proofs.Common.{◌≡◌, ℕ, suc, List, [], ◌∷◌, ◌++◌, length, refl, sym, ◌∙◌, ap, subst, inl}
 use Rattle.sched_book.specs.Limits.{AreSettingsInLimits}
 use Rattle.sched_book.specs.Sound.{Sound}
@@ -38,7 +38,7 @@ new_stores_stand store settled s settings honest kept new limits =
       left = λ h may. inl (left_stands settings.operator_key (store.holds s) h (new_upgrade_points this_era) [] (settled s honest kept stands.sound.world h may) stands);
     }
 
--- a past has as many messages as were answered
+-- a past has as many messages as there are answered arrivals
 as_many : (key : List ℕ) (before : List Answered) (past : Past) → Tells key before past → length before ≡ length past
 as_many key [] [] tells = refl
 as_many key [] (h ∷ past) tells = absurd tells

@@ -28,7 +28,7 @@ more_followed before (b ∷ arrivals) (y ∷ answers) a x same =
     less_one : (m n : ℕ) → suc m ≡ suc n → m ≡ n
     less_one m n e = grind (arith)
 
--- answers end what follows
+-- arrivals after the last answer do not count
 short_followed : (before : List Came) (arrivals later : List Arrival) (answers : List Answer) → length answers ≡ length arrivals
     → followed before (arrivals ++ later) answers ≡ followed before arrivals answers
 short_followed before [] [] [] same = refl
@@ -69,7 +69,7 @@ pub holds_next : (P : List Came → Type 0) (before : List Came) (arrivals : Lis
 holds_next P before arrivals i answers items a x less is count more holds =
     subst P (sym (ap (λ xs. followed before (take (i + 1) arrivals) xs) more ∙ next_followed before arrivals i answers a x less is count)) holds
 
--- and it holds of all, where the later ones have no answer
+-- the same for all arrivals, if the later ones have no answer
 pub holds_so_far : (P : List Came → Type 0) (before : List Came) (arrivals : List Arrival) (i : ℕ) (answers : List Answer) (a : Arrival)
     (x : Answer) → i < length arrivals → a ≡ get_or arrivals i a → length answers ≡ i
     → P (record { arrival = a; answer = x } ∷ followed before (take i arrivals) answers) → P (followed before arrivals (answers ++ x ∷ []))
@@ -80,7 +80,7 @@ holds_so_far P before arrivals i answers a x less is count holds =
     ∙ next_followed before arrivals i answers a x less is count
     )) holds
 
--- with the key and the bytes under other names
+-- the same with the key and the bytes under other names
 pub handled_as : (old_key key read bytes : List ℕ) (now : ℕ) (old new : Held) (a : Answer)
     → key ≡ old_key → read ≡ bytes → HandledAs key read now a old new → HandledAs old_key bytes now a old new
 handled_as old_key key read bytes now old new a same is done =
@@ -88,7 +88,7 @@ handled_as old_key key read bytes now old new a same is done =
     let Q : List ℕ → Type 0 = λ b. HandledAs old_key b now a old new in
     subst Q is (subst P same done)
 
--- and so with what a store stands for
+-- and so with what a store agrees with
 pub stands_on : {S : Type 0} (store : Parts S) (old_key key read bytes : List ℕ) (now : ℕ) (a : Answer) (old new : S) → key ≡ old_key → read ≡ bytes
     → ((points : List ℕ) (before : List Came) → StoreStandsFor store key points before old → store.clean new
     → StoreStandsFor store key points (record { arrival = record { now = now; bytes = read }; answer = a } ∷ before) new)

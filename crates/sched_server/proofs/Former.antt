@@ -1,4 +1,4 @@
--- What stands for arrivals of an era before versions had classes has none.
+-- What agrees with arrivals of an era before versions had classes is unclassed.
 use Rattle.std.proofs.Common.{◌≡◌, ℕ, ◌<◌, List, [], ◌∷◌, length, Result, Ok, Err, refl, sym, subst, arith}
 use Rattle.std.specs.Prelude.{IfOk, map}
 use Rattle.std.specs.List.{All, AllByRecursion}
@@ -82,7 +82,7 @@ past_unclassed key points (a ∷ before) (h ∷ past) less tells eras =
     let early : h.message.era < era_of_classes = omega (arith, eras.0, era_most points (length past), less) in
     (said_unclassed h.message.era heard.asked h.message.said early heard.says, past_unclassed key points before past less tells.1 eras.1)
 
--- ---- what stands
+-- ---- what is stored
 
 shelved_unclassed : (s : Shelf) (new : Rows) → HasNoClasses s → AreUnclassed new → HasNoClasses (shelved s new)
 shelved_unclassed s (rows.Accounts xs) old new = record { versions = old.versions; units = old.units }
@@ -90,7 +90,7 @@ shelved_unclassed s (rows.Apps xs) old new = record { versions = old.versions; u
 shelved_unclassed s (rows.Versions xs) old new = record { versions = All-append IsOfItsPlatform s.versions xs old.versions new; units = old.units }
 shelved_unclassed s (rows.Workunits xs) old new = record { versions = old.versions; units = All-append IsUnmarked s.units xs old.units new }
 
--- a workunit that was imported without a mark has none
+-- a workunit that was imported without a mark is not marked
 unmarked : (rule : ClassRule) → first_rule rule ≡ Any → rule ≡ Any
 unmarked Any is = refl
 unmarked OfFirst is = is

@@ -1,4 +1,4 @@
--- A message of bytes: what it means is served, and the response says what was told.
+-- A message of bytes: what it means is served, and the response is the one for the answer.
 use Rattle.std.proofs.Common.{◌≡◌, true, inl, inr, ℕ, List, refl, sym, ap, subst, true≢false}
 use Rattle.std.specs.Prelude.{Option, Some, None, Result, Ok, Err, is_ok, IfOk, OnErr}
 use Rattle.http_messages.specs.Deciding.{Asked}
@@ -39,7 +39,7 @@ refusal_leaves old new m t refuses serves sound =
     let served = serves sound in
     (refusal_leaves_as (told_by (tables_by old) m.said) old new m refuses.0 (subst P refuses.1 served.serves), served.sound)
 
--- what was told where the result is this one
+-- what holds of the answer, if the result is this one
 told_in : (P : told.Answer → Type 0) (r : Result told.Answer Unavailable) (t : told.Answer) → r ≡ Ok t → IfOk r P → P t
 told_in P r t is holds = let Q : Result told.Answer Unavailable → Type 0 = λ x. IfOk x P in subst Q is holds
 
@@ -91,7 +91,7 @@ handled key bytes now asked allowed old new r a means allows serves left respond
     let P : Option Method → Type 0 = λ o. Responds o r a in
     handled_by key bytes now asked old new r a means serves left (subst P allows responds)
 
--- where the answer tells something, something was told
+-- if the answer is a response, the engine gave an answer
 pub told_well : (allowed : Option Method) (r : Result told.Answer Unavailable) (a : given.Answer) → Responds allowed r a → is_answered a ≡ true → is_ok r ≡ true
 told_well allowed r answer.Unavailable responds is = absurd (true≢false (sym is))
 told_well allowed r (answer.Response response) responds is = ap is_ok responds.1

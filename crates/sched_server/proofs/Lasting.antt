@@ -1,4 +1,4 @@
--- What holds through each run of the machine holds of what stands before and after messages of bytes.
+-- What holds through each run of the machine holds of the worlds before and after messages of bytes.
 use Rattle.std.proofs.Common.{◌≡◌, ◌⊎◌, ℕ, List, [], ◌∷◌, ◌++◌, Some, ◌∙◌, ap, subst, inl, inr}
 use Rattle.http_responses.specs.declared.answer.Answer.{Answer}
 use Rattle.http_responses.specs.declared.answer.Answer.TheVariants as answer
@@ -27,7 +27,7 @@ use Rattle.sched_server.specs.Laws.{HoldsOfWhatStands, HoldsAtAMessage, HoldsOve
 same_tables : (a b : Tables) → Same a b → a ≡ b
 same_tables a b same = λ i. record { world = same.world i; calls = λ key. same.calls key i; batches = λ kind batch. same.batches kind batch i }
 
--- what the last leaves as it was
+-- the same, if the state after the last is unchanged
 all_same : (old mid new : Tables) (more : List Heard) → Same new mid → ServesAll old more mid → ServesAll old more new
 all_same old mid new [] same all = record {
   world = same.world ∙ all.world;
@@ -36,13 +36,13 @@ all_same old mid new [] same all = record {
 }
 all_same old mid new (h ∷ more) same all = (all.0, all.1, all_same all.0 mid new more same all.2)
 
--- these, and then one more
+-- these messages, and then one more
 all_then : (old mid new : Tables) (more : List Heard) (m : Message) (a : told.Answer) → ServesAll old more mid → Serves mid m a new
     → ServesAll old (more ++ record { message = m; answer = a } ∷ []) new
 all_then old mid new [] m a same serves = (new, subst (λ t. Serves t m a new) (same_tables mid old same) serves, same_itself new)
 all_then old mid new (h ∷ more) m a all serves = (all.0, all.1, all_then all.0 mid new more m a all.2 serves)
 
--- some messages were served, and what stands then is sound
+-- some messages were served, and what is then stored is sound
 unfoldable pub Served : Tables → Held → Type 0
 Served first held = (more : List Heard) × ServesAll first more (tables_by held) × IsSoundStore held
 

@@ -1,4 +1,4 @@
--- What a message of bytes leaves may stand in a store, where that before did.
+-- If what a store held before a message can be opened again, so can what it holds after the message.
 use Rattle.std.proofs.Common.{ℕ, List, Result, Ok, Err, subst, sym}
 use Rattle.http_messages.specs.Deciding.{Asked}
 use Rattle.http_messages.specs.Deciding as asks

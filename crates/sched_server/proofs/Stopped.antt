@@ -1,4 +1,4 @@
--- What a stop leaves of a store stands for what came, or for that and one message in doubt.
+-- What a stop leaves of a store agrees with the arrivals, or with them and one message in doubt.
 use Rattle.std.proofs.Common.{ℕ, List, ◌∷◌, refl, sym, ◌∙◌, ap, inl, inr}
 use Rattle.http_responses.specs.declared.answer.Answer.{Answer}
 use Rattle.http_responses.specs.declared.answer.Answer.TheVariants as answer
@@ -18,7 +18,7 @@ use Rattle.sched_server.specs.Handled.{is_answered, HandledAs, IsHandled}
 use Rattle.sched_server.specs.Laws.{HandledStands, ReadsStand, WhatIsLeftStands, ReopenedStands}
 use Rattle.sched_server.specs.declared.arrival.Arrival.{Arrival}
 
--- what is left as it was stands as it stood
+-- what is left as it was agrees with what it agreed with
 pub left_stands : (key : List ℕ) (old new : Held) (points : List ℕ) (before : List Came) → IsLeft old new → StandsFor key old points before → StandsFor key new points before
 left_stands key old new points before left st = record {
   past = st.past;
@@ -29,7 +29,7 @@ left_stands key old new points before left st = record {
   sound = left_sound old new left st.sound;
 }
 
--- what holds a message that was handled stands for it and what came before
+-- what holds a message that was handled agrees with that message and the arrivals before it
 pub handled_stands_for : (key bytes : List ℕ) (now : ℕ) (old new : Held) (a : Answer) → HandledAs key bytes now a old new
     → (points : List ℕ) (before : List Came) → StandsFor key old points before
     → StandsFor key new points (record { arrival = record { now = now; bytes = bytes }; answer = a } ∷ before)
@@ -52,7 +52,7 @@ handled_stands_for key bytes now old new (answer.Response response) done points 
       sound = served.sound;
     }
 
--- what stood before an unavailable answer stands behind it, and what was in doubt stays so
+-- what agreed before an unavailable answer agrees after it, and what was in doubt stays so
 unavailable_later : (key : List ℕ) (h : Held) (arrival : Arrival) (points : List ℕ) (before : List Came) → StandsAtAStop key h points before
     → StandsAtAStop key h points (record { arrival = arrival; answer = answer.Unavailable } ∷ before)
 unavailable_later key h arrival points before (inl st) =
@@ -60,7 +60,7 @@ unavailable_later key h arrival points before (inl st) =
 unavailable_later key h arrival points before (inr (doubted, doubt, r, st)) =
     inr (doubted, (refl, inr doubt), r, record { past = st.past; tells = st.tells; in_era = st.in_era; keyed = st.keyed; stands = st.stands; sound = st.sound })
 
--- a store that was only read stands for what it stood for
+-- a store that was only read agrees with what it agreed with
 pub reads_stand : {S : Type 0} (store : Parts S)
     → ((old new : S) → store.reads old new → store.honest new → store.honest old)
     → ((old new : S) → store.reads old new → store.honest new → store.well_kept old → store.well_kept new)
@@ -88,7 +88,7 @@ module _ {S : Type 0} (store : Parts S)
         left = λ g may. inl (what_is_left_stands s honest kept key points before here g may);
       }
 
-  -- what is left behind an answer
+  -- what a stop leaves after an answer
   left_behind : (key bytes : List ℕ) (now : ℕ) (a : Answer) (old new : S) → Acts store (is_answered a) (IsHandled key bytes now (store.holds old)) old new
       → (points : List ℕ) (before : List Came) → StoreStandsFor store key points before old → store.clean new
       → (store.honest new → StandsFor key (store.holds new) points (record { arrival = record { now = now; bytes = bytes }; answer = a } ∷ before))

@@ -1,4 +1,4 @@
--- A message that is refused leaves a store as it was, and so does one for which memory was wanting.
+-- A message that is refused, or for which there is no memory, leaves a store as it was.
 use Rattle.std.proofs.Common.{ℕ, refl}
 use Rattle.rpc_records.specs.declared.fault.Fault.{Fault}
 use Rattle.stores.specs.Held.{Held, IsLeft}
@@ -7,6 +7,6 @@ use Rattle.pasts.specs.declared.answer.Answer.TheVariants.{Refusal}
 use Rattle.message_engine.specs.Stores.{ServesIn}
 use Rattle.message_engine.proofs.EntriesKept.{told_serves}
 
--- a refusal for the bytes alone leaves all as it was
+-- a refusal for the bytes alone leaves everything as it was
 pub refused_serves : (f : Fault) (now : ℕ) (old new : Held) → IsLeft old new → ServesIn (heard_now now (Refused f)) (Refusal f) old new
 refused_serves f now old new left = told_serves (heard_now now (Refused f)) (Refusal f) old new refl left

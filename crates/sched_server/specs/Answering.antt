@@ -1,4 +1,4 @@
--- Words. The answer that says what was told. (This project's own.)
+-- Words. How the HTTP answer follows from the engine's answer. (This project's own.)
 use Rattle.std.specs.Prelude.{◌≡◌, ◌⊎◌, Option, Result, Ok, Err}
 use Rattle.http_responses.specs.declared.answer.Answer.{Answer}
 use Rattle.http_responses.specs.declared.answer.Answer.TheVariants as answer
@@ -12,7 +12,8 @@ use Rattle.sched_server.specs.Handled.{response_to}
 abbrev pub IsRefusal : told.Answer → Type 0
 IsRefusal t = (fault : Fault) × (t ≡ tells.Refusal fault)
 
--- It is unavailable where nothing was told, or a refusal found no memory; else it is the response to what was told.
+-- The HTTP answer is unavailable if the engine gave no answer, or if there was no memory for a refusal. Otherwise it is the response to the
+-- engine's answer.
 abbrev pub Responds : Option Method → Result told.Answer Unavailable → Answer → Type 0
 Responds allowed r answer.Unavailable = ((e : Unavailable) × (r ≡ Err e)) ⊎ ((t : told.Answer) × (r ≡ Ok t) × IsRefusal t)
 Responds allowed r (answer.Response response) = (t : told.Answer) × (r ≡ Ok t) × (response ≡ response_to allowed t)

@@ -1,4 +1,5 @@
--- Promise. What came, with its answers, and what a store stands for. What came is listed with the newest first. (This project's own.)
+-- Promise. Arrivals with their answers, and what it means that a store agrees with them. Arrivals are listed with the newest first. (This
+-- project's own.)
 use Rattle.std.specs.Prelude.{◌≡◌, ◌⊎◌, ℕ, List, [], ◌∷◌}
 use Rattle.http_messages.specs.Deciding.{Asked}
 use Rattle.http_messages.specs.Meaning.{Means}
@@ -15,7 +16,7 @@ use Rattle.sched_server.specs.Handled.{response_to, HandledAs, StaysSound}
 use Rattle.sched_server.specs.Meanings.{SaysIn, allowed_by}
 use Rattle.sched_server.specs.declared.arrival.Arrival.{Arrival}
 
--- An arrival, the bytes of a message at a moment, and its answer.
+-- An arrival (the bytes of a message at a moment) with its answer.
 pub record Came : Type 0 where
   pub arrival : Arrival
   pub answer : Answer
@@ -24,7 +25,7 @@ pub record Answered : Type 0 where
   pub arrival : Arrival
   pub response : Response
 
--- those that were answered: what is unavailable counts as lost
+-- the arrivals that were answered: one whose answer is unavailable counts as lost
 abbrev pub with_answer : Arrival → Answer → List Answered → List Answered
 with_answer arrival answer.Unavailable before = before
 with_answer arrival (answer.Response response) before = record { arrival = arrival; response = response } ∷ before
@@ -33,8 +34,8 @@ abbrev pub answered : List Came → List Answered
 answered [] = []
 answered (c ∷ before) = with_answer c.arrival c.answer (answered before)
 
--- What was heard is what the bytes of an arrival mean in its era, at its moment, and the response says what it was told. (An operator's
--- message has this key.)
+-- What was heard is what the bytes of an arrival mean, in its era and at its moment. The response is the one for the answer in the past.
+-- (An operator's message has this key.)
 pub record IsHeard (key : List ℕ) (a : Answered) (h : Heard) : Type 0 where
   pub asked : Asked
   pub means : Means key a.arrival.bytes asked
@@ -42,15 +43,15 @@ pub record IsHeard (key : List ℕ) (a : Answered) (h : Heard) : Type 0 where
   pub moment : h.message.now ≡ a.arrival.now
   pub response : a.response ≡ response_to (allowed_by asked) h.answer
 
--- a past says what was answered
+-- a past has just the messages and answers of these arrivals
 abbrev pub Tells : List ℕ → List Answered → Past → Type 0
 Tells key [] [] = Unit {0}
 Tells key (a ∷ before) (h ∷ past) = IsHeard key a h × Tells key before past
 Tells key [] (h ∷ past) = ⊥
 Tells key (a ∷ before) [] = ⊥
 
--- What is held in an era stands for what came, by its upgrade points: for a past that says it and is in that era; and it is sound. The
--- operator's key is that of its settings.
+-- What a store of an era holds agrees with the arrivals, with these upgrade points. There is a past of them that is in that era, and with
+-- which it agrees. It is sound. The operator's key is that of its settings.
 pub record StandsIn (era : ℕ) (key : List ℕ) (held : Held) (upgrade_points : List ℕ) (before : List Came) : Type 0 where
   pub past : Past
   pub tells : Tells key (answered before) past
@@ -59,40 +60,41 @@ pub record StandsIn (era : ℕ) (key : List ℕ) (held : Held) (upgrade_points :
   pub stands : Stands (tables_by held) past
   pub sound : IsSoundStore held
 
--- what this program holds does
+-- the same, for what this program holds
 abbrev pub StandsFor : List ℕ → Held → List ℕ → List Came → Type 0
 StandsFor = StandsIn this_era
 
--- A message is in doubt where its answer was unavailable, and no later one was answered otherwise: a fault may have come when it was in.
+-- A message is in doubt if its answer was unavailable and no later message was answered otherwise: a fault may have come after it had
+-- acted.
 abbrev pub IsInDoubt : Arrival → List Came → Type 0
 IsInDoubt arrival [] = ⊥
 IsInDoubt arrival (c ∷ before) = (c.answer ≡ answer.Unavailable) × ((c.arrival ≡ arrival) ⊎ IsInDoubt arrival before)
 
--- What a stop leaves stands for what came, or for that and one message in doubt, with a response that nobody read.
+-- What a stop leaves agrees with the arrivals, or with them and one message in doubt, whose response nobody read.
 abbrev pub StandsAtAStop : List ℕ → Held → List ℕ → List Came → Type 0
 StandsAtAStop key held upgrade_points before =
     StandsFor key held upgrade_points before
     ⊎ ((arrival : Arrival) × IsInDoubt arrival before × (r : Response) × StandsFor key held upgrade_points (record { arrival = arrival; answer = answer.Response r } ∷ before))
 
--- A store stands for what came, by its upgrade points: while it is open it is well kept, and what it holds stands for that; and so does
--- what a stop may leave, whether a fault has shut it or not, but for one message in doubt.
+-- A store agrees with the arrivals, with these upgrade points. While it is open, it is well kept, and what it holds agrees with them. What
+-- a stop may leave agrees with them or with one message in doubt more, whether a fault has shut the store or not.
 pub record StoreStandsFor {S : Type 0} (store : Parts S) (key upgrade_points : List ℕ) (before : List Came) (s : S) : Type 0 where
   pub held : store.honest s → store.well_kept s × StandsFor key (store.holds s) upgrade_points before
   pub left : (h : Held) → store.may_leave s h → StandsAtAStop key h upgrade_points before
 
--- what came before, and then these arrivals with their answers, as far as both go
+-- the arrivals before, and then these with their answers, as far as both lists go
 abbrev pub followed : List Came → List Arrival → List Answer → List Came
 followed before [] answers = before
 followed before (a ∷ arrivals) [] = before
 followed before (a ∷ arrivals) (answer ∷ answers) = followed (record { arrival = a; answer = answer } ∷ before) arrivals answers
 
--- these, the newest first, were handled one after the other
+-- these arrivals, the newest first, were handled one after the other
 abbrev pub HandledInTurn : List ℕ → List Came → Held → Held → Type 0
 HandledInTurn key [] old new = StaysSound old new
 HandledInTurn key (c ∷ earlier) old new =
     (mid : Held) × HandledInTurn key earlier old mid × HandledAs key c.arrival.bytes c.arrival.now c.answer mid new
 
--- The first of these arrivals acted one after the other, with answers of which this is said.
+-- The first of these arrivals acted one after the other, with answers for which `Given` holds.
 pub record ActInTurn {S : Type 0} (store : Parts S) (key : List ℕ) (arrivals : List Arrival) (Given : List Answer → Type 0) (old new : S) : Type 0 where
   pub answers : List Answer
   pub given : Given answers

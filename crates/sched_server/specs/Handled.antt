@@ -17,18 +17,19 @@ use Rattle.pasts.specs.declared.answer.Answer.TheVariants as tells
 use Rattle.message_engine.specs.Stores.{tables_by, IsSoundStore, ServesIn}
 use Rattle.sched_server.specs.Meanings.{Says, allowed_by}
 
--- the response that refuses; of a wrong method it tells the one that the route takes
+-- the response to a refusal; for a wrong method it names the method that the route takes
 abbrev pub refusal_to : Option Method → Fault → Response
 refusal_to None fault = refusal_response fault
 refusal_to (Some allowed) fault = wrong_method_response allowed
 
--- the response that says what was told
+-- the response to an answer
 abbrev pub response_to : Option Method → told.Answer → Response
 response_to allowed (tells.Good body) = good_response body
 response_to allowed (tells.Statement text) = statement_response text
 response_to allowed (tells.Refusal fault) = refusal_to allowed fault
 
--- A message means what it asks for; that says something to the scheduler, which is served; and the response says what was told.
+-- The bytes of a message mean what it asks for. That says something to the scheduler, which is served. The response is the one for its
+-- answer.
 pub record Handles (key bytes : List ℕ) (now : ℕ) (r : Response) (old new : Held) : Type 0 where
   pub asked : Asked
   pub said : Said
@@ -38,20 +39,20 @@ pub record Handles (key bytes : List ℕ) (now : ℕ) (r : Response) (old new : 
   pub serves : ServesIn (heard_now now said) told old new
   pub response : r ≡ response_to (allowed_by asked) told
 
--- a sound store says what it said, and is still sound
+-- a sound store holds what it held, and is still sound
 abbrev pub StaysSound : Held → Held → Type 0
 StaysSound old new = IsSoundStore old → Same (tables_by new) (tables_by old) × IsSoundStore new
 
--- an answer that tells something
+-- whether the answer is a response
 abbrev pub is_answered : Answer → Bool
 is_answered answer.Unavailable = false
 is_answered (answer.Response r) = true
 
--- Where the answer is unavailable nothing was changed, and any other answer is the response of the message.
+-- If the answer is unavailable, nothing was changed. Any other answer is the response to the message.
 abbrev pub HandledAs : List ℕ → List ℕ → ℕ → Answer → Held → Held → Type 0
 HandledAs key bytes now answer.Unavailable old new = StaysSound old new
 HandledAs key bytes now (answer.Response r) old new = Handles key bytes now r old new
 
--- it was handled, with some response, which nobody may have read
+-- the message was handled, with some response, which maybe nobody read
 abbrev pub IsHandled : List ℕ → List ℕ → ℕ → Held → Held → Type 0
 IsHandled key bytes now old new = (r : Response) × Handles key bytes now r old new

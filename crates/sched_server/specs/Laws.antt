@@ -1,5 +1,5 @@
--- Promise. What ties the promises together, and the laws of every run, of what stands before and after messages of bytes. (This project's own:
--- BOINC's rules are in the machine's step.)
+-- Promise. Laws that join the promises of a store, and the laws of every run, for what is stored before and after messages of bytes. (This
+-- project's own: BOINC's rules are in the machine's step.)
 use Rattle.std.specs.Prelude.{◌≡◌, ◌⊎◌, ℕ, suc, ◌<◌, true, List, [], ◌∷◌, ◌++◌, length, Some, None}
 use Rattle.http_responses.specs.declared.answer.Answer.{Answer}
 use Rattle.http_responses.specs.declared.answer.Answer.TheVariants as answer
@@ -23,19 +23,19 @@ use Rattle.message_engine.specs.Stores.{tables_by}
 use Rattle.sched_server.specs.Arrivals.{Came, answered, StandsFor, StandsIn, StoreStandsFor, HandledInTurn}
 use Rattle.sched_server.specs.Handled.{is_answered, Handles, HandledAs, IsHandled}
 
--- a store in which nothing stands stands for no arrivals, by the upgrade points of new tables
+-- a new store agrees with no arrivals, with the upgrade points of new tables
 abbrev pub NewStoresStand : {S : Type 0} → Parts S → Type 0
 NewStoresStand {S} store =
     (s : S) (settings : Settings) → store.honest s → store.well_kept s → IsNew settings (store.holds s) → AreSettingsInLimits settings
     → StoreStandsFor store settings.operator_key (new_upgrade_points this_era) [] s
 
--- a store that was only read stands for what it stood for, also where a fault has shut it
+-- a store that was only read agrees with what it agreed with, even if a fault has shut it
 abbrev pub ReadsStand : {S : Type 0} → Parts S → Type 0
 ReadsStand {S} store =
     (old new : S) → store.reads old new → (key upgrade_points : List ℕ) (before : List Came) → StoreStandsFor store key upgrade_points before old
     → StoreStandsFor store key upgrade_points before new
 
--- a store that handled a message so stands for what came before and for that message
+-- a store that acted on a message, and handled it, agrees with the arrivals before and that message
 abbrev pub HandledStands : {S : Type 0} → Parts S → Type 0
 HandledStands {S} store =
     (key bytes : List ℕ) (now : ℕ) (a : Answer) (old new : S) → Acts store (is_answered a) (IsHandled key bytes now (store.holds old)) old new
@@ -43,27 +43,27 @@ HandledStands {S} store =
     → (upgrade_points : List ℕ) (before : List Came) → StoreStandsFor store key upgrade_points before old → store.clean new
     → StoreStandsFor store key upgrade_points (record { arrival = record { now = now; bytes = bytes }; answer = a } ∷ before) new
 
--- at rest, what a stop leaves of a store stands for what the store stands for
+-- with no open transaction, what a stop leaves of a store agrees with what the store agrees with
 abbrev pub WhatIsLeftStands : {S : Type 0} → Parts S → Type 0
 WhatIsLeftStands {S} store =
     (s : S) → store.honest s → store.well_kept s → (key upgrade_points : List ℕ) (before : List Came) → StandsFor key (store.holds s) upgrade_points before
     → (h : Held) → store.may_leave s h → StandsFor key h upgrade_points before
 
--- a store that holds what a stop left stands for what that stood for
+-- a store that holds what a stop left agrees with what that agreed with
 abbrev pub ReopenedStands : {S : Type 0} → Parts S → Type 0
 ReopenedStands {S} store =
     (s : S) → store.honest s → store.well_kept s → (h : Held) → IsLeft (store.holds s) h → (key upgrade_points : List ℕ) (before : List Came)
     → StandsFor key h upgrade_points before → StoreStandsFor store key upgrade_points before s
 
--- What stands for what came in an era stands for it in the next where an upgrade leaves it as it is, with the number of what was answered as
--- the upgrade point.
+-- Suppose that what is stored agrees with the arrivals in an era, and an upgrade leaves it as it is. Then it agrees with them in the next era.
+-- The further upgrade point is the number of arrivals that were answered.
 abbrev pub UpgradedStands : Type 0
 UpgradedStands =
     (era : ℕ) (key : List ℕ) (old new : Held) (upgrade_points : List ℕ) (before : List Came) → IsLeft old new → StandsIn era key old upgrade_points before
     → StandsIn (suc era) key new (upgrade_points ++ length (answered before) ∷ []) before
 
--- What stands for what came before versions had classes has none: the class of each version is its platform, and no workunit is marked. So an
--- upgrade that gives each version its platform for its class, and marks no workunit, leaves the world as it is.
+-- What agrees with arrivals from before versions had classes is unclassed: the class of each version is its platform, and no workunit is
+-- marked. So an upgrade that gives each version its platform as its class, and marks no workunit, leaves the world as it is.
 abbrev pub FormerWorldsAreUnclassed : Type 0
 FormerWorldsAreUnclassed =
     (era : ℕ) (key : List ℕ) (held : Held) (upgrade_points : List ℕ) (before : List Came) → era < era_of_classes → StandsIn era key held upgrade_points before
@@ -71,17 +71,17 @@ FormerWorldsAreUnclassed =
 
 -- ---- the laws of every run
 
--- P holds of what stands
+-- P holds of each world that agrees with arrivals
 abbrev pub HoldsOfWhatStands : (World → Type 0) → Type 0
 HoldsOfWhatStands P = (key : List ℕ) (held : Held) (upgrade_points : List ℕ) (before : List Came) → StandsFor key held upgrade_points before → P held.world
 
--- R holds between what stands before a message and after it
+-- R holds between the world before a message and the world after it
 abbrev pub HoldsAtAMessage : (World → World → Type 0) → Type 0
 HoldsAtAMessage R =
     (key bytes : List ℕ) (now : ℕ) (old new : Held) (a : Answer) (upgrade_points : List ℕ) (before : List Came)
     → StandsFor key old upgrade_points before → HandledAs key bytes now a old new → R old.world new.world
 
--- and between what stands before many and after them
+-- and between the world before many messages and the world after them
 abbrev pub HoldsOverMessages : (World → World → Type 0) → Type 0
 HoldsOverMessages R =
     (key : List ℕ) (old new : Held) (upgrade_points : List ℕ) (came before : List Came)
@@ -90,7 +90,7 @@ HoldsOverMessages R =
 abbrev pub Lasts : (World → World → Type 0) → Type 0
 Lasts R = HoldsAtAMessage R × HoldsOverMessages R
 
--- A deadline stays, or the message is a call of the instance's host, which has it sent again.
+-- A deadline stays, or the message is a call of the instance's host, which has the instance sent again.
 abbrev pub DeadlinesMoveByResendsAlone : Type 0
 DeadlinesMoveByResendsAlone =
     (key bytes : List ℕ) (now : ℕ) (r : Response) (old new : Held) (upgrade_points : List ℕ) (before : List Came)
@@ -98,25 +98,25 @@ DeadlinesMoveByResendsAlone =
     → (p : Place) (o : Owner) → owner_at old.world p ≡ Some o
     → (deadline_at new.world p ≡ deadline_at old.world p) ⊎ IsSentAgainBy old.world (heard_now now h.said) p o
 
--- this message is a call of the instance's host, which has it sent again
+-- this message is a call of the instance's host, which has the instance sent again
 abbrev pub IsSentAgainAt : (key bytes : List ℕ) (now : ℕ) (a : Answer) (old new : Held) → HandledAs key bytes now a old new → Place → Owner → Type 0
 IsSentAgainAt key bytes now answer.Unavailable old new done p o = ⊥
 IsSentAgainAt key bytes now (answer.Response r) old new done p o = IsSentAgainBy old.world (heard_now now done.said) p o
 
--- some message of these, which were handled in turn, is
+-- one of these messages, which were handled in turn, is such a call
 abbrev pub IsSentAgainAmong : (key : List ℕ) (came : List Came) (old new : Held) → HandledInTurn key came old new → Place → Owner → Type 0
 IsSentAgainAmong key [] old new all p o = ⊥
 IsSentAgainAmong key (c ∷ earlier) old new all p o =
     IsSentAgainAt key c.arrival.bytes c.arrival.now c.answer all.0 new all.2 p o ⊎ IsSentAgainAmong key earlier old all.0 all.1 p o
 
--- Over many messages a deadline stays, or a call of the instance's host among them has it sent again.
+-- Over many messages a deadline stays, or a call of the instance's host among them has the instance sent again.
 abbrev pub DeadlinesMoveByResendsOverMessages : Type 0
 DeadlinesMoveByResendsOverMessages =
     (key : List ℕ) (old new : Held) (upgrade_points : List ℕ) (came before : List Came) → StandsFor key old upgrade_points before → (all : HandledInTurn key came old new)
     → (p : Place) (o : Owner) → owner_at old.world p ≡ Some o
     → (deadline_at new.world p ≡ deadline_at old.world p) ⊎ IsSentAgainAmong key came old new all p o
 
--- A first-heard call that lists what its client has, where lost jobs are sent again: its host holds just what is listed or named.
+-- If a first-heard call lists what its client has, and lost jobs are sent again, then its host holds just what is listed or named.
 abbrev pub NoHeldJobDropsFromSight : Type 0
 NoHeldJobDropsFromSight =
     (key bytes : List ℕ) (now : ℕ) (r : Response) (old new : Held) (upgrade_points : List ℕ) (before : List Came)

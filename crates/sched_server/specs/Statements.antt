@@ -1,4 +1,4 @@
--- Rule. What a read of a host's statement is told. (This project's own.)
+-- Rule. The answer to a read of a host's statement. (This project's own.)
 use Rattle.std.specs.Prelude.{ℕ, List, Option, Some, None}
 use Rattle.rpc_records.specs.declared.fault.Fault.TheVariants as fault
 use Rattle.sched_book.specs.declared.world.World.{World}
@@ -6,7 +6,7 @@ use Rattle.office_files.specs.Statements.{statement_of}
 use Rattle.pasts.specs.declared.answer.Answer.{Answer}
 use Rattle.pasts.specs.declared.answer.Answer.TheVariants.{Statement, Refusal}
 
--- the statement, or that no such host stands
+-- the statement, or that there is no such host
 abbrev pub statement_told : Option (List ℕ) → Answer
 statement_told (Some text) = Statement text
 statement_told None = Refusal fault.NoSuchHost

@@ -1,4 +1,4 @@
--- Rule. What a service is made of, as the promises speak of it. (This project's own.)
+-- Rule. The parts of a service, as the promises name them. (This project's own.)
 use Rattle.std.specs.Prelude.{ℕ, List}
 use Rattle.sched_server.specs.declared.service.Service.{Service}
 

@@ -1,4 +1,4 @@
-//! What a message is told, and the response that says it.
+//! The answer to a message, and the response to that answer.
 
 ghost use Rattle.std.specs.Prelude.{◌≡◌, is_ok, IfOk, OnErr};
 ghost use Rattle.rpc_records.specs.Reading.{meaning};
@@ -23,7 +23,7 @@ use std::alloc::Global;
 use stores::{Kind, Store, confirmed};
 use texts::{Memory, Text};
 
-/// Answers the call that the body of a scheduler_request says; one that says none is refused.
+/// Answers the call in the body of a scheduler_request. A body that means none is refused.
 fn call_in_body<S: Store>(
     alloc: Global,
     store: &mut S,
@@ -58,7 +58,7 @@ fn import_batch<S: Store>(
     import(alloc, store, kind, &name, text, now)
 }
 
-/// What a message is told at this moment, and what it does to the store.
+/// Answers a message at this moment, and does what it asks of the store.
 pub(crate) fn answer<S: Store>(
     alloc: Global,
     store: &mut S,
@@ -80,7 +80,7 @@ pub(crate) fn answer<S: Store>(
     }
 }
 
-/// The method that the route of a message takes, where the message has another.
+/// The method that the route of a message takes, if the message has another one.
 pub(crate) fn allowed_by(message: &Message<'_>) -> Option<Method>
     ensures { result ≡ allowed_by (message_seen message.now) }
 {
@@ -94,7 +94,7 @@ pub(crate) fn allowed_by(message: &Message<'_>) -> Option<Method>
     }
 }
 
-/// The response that refuses; where a method is told, it says that the route takes that one.
+/// The response to a refusal. If a method is given, it says that the route takes that one.
 fn refusal_to(alloc: Global, allowed: Option<Method>, fault: Fault) -> Result<Response, Memory>
     ensures { IfOk result (λ response. response ≡ refusal_to allowed fault) }
 {
@@ -104,7 +104,7 @@ fn refusal_to(alloc: Global, allowed: Option<Method>, fault: Fault) -> Result<Re
     }
 }
 
-/// The response that says what was told. Only a refusal wants memory.
+/// The response to an answer. Only a refusal needs memory.
 fn response_to(alloc: Global, allowed: Option<Method>, told: Told) -> Result<Response, Memory>
     ensures ok { IfOk result (λ response. response ≡ response_to allowed told) }
     ensures err { OnErr result (IsRefusal told) }
@@ -116,7 +116,7 @@ fn response_to(alloc: Global, allowed: Option<Method>, told: Told) -> Result<Res
     }
 }
 
-/// The answer that says what was told: unavailable where nothing was, or where a refusal finds no memory.
+/// The HTTP answer. It is unavailable if there is no answer, or if there is no memory for a refusal.
 pub(crate) fn respond(
     alloc: Global,
     allowed: Option<Method>,

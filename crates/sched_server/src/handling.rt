@@ -22,8 +22,8 @@ use stores::Store;
 use texts::Memory;
 
 impl<S: Store + Drop> Service<S> {
-    /// The service over a store, with the operator's key of its settings. It only reads the store, which stands for what it
-    /// stood for.
+    /// Returns the service over a store, with the operator's key of the store's settings. This only reads the store,
+    /// which agrees with what it agreed with.
     ///
     /// # Errors
     ///
@@ -51,7 +51,7 @@ impl<S: Store + Drop> Service<S> {
 }
 
 impl<S> Service<S> {
-    /// What these bytes mean, as far as they came.
+    /// What these bytes mean, as far as they have come.
     fn heard<'b>(&self, bytes: &'b [u8]) -> Heard<'b>
         ensures meaning { Means (key_of self.now) bytes.entry.now (message_seen result.message) }
         ensures settled { result.missing ≡ 0 → IsSettled (key_of self.now) bytes.entry.now (message_seen result.message) }
@@ -60,7 +60,7 @@ impl<S> Service<S> {
         hear(&self.router, self.key.as_str().as_bytes(), bytes)
     }
 
-    /// The operator's key, which an operator's message has to tell.
+    /// The operator's key, which each message of an operator must carry.
     pub fn operator_key(&self) -> &str
         ensures { result.now ≡ key_of self.now }
     {
@@ -76,12 +76,12 @@ impl<S> Service<S> {
 }
 
 impl<S: Store> Service<S> {
-    /// Whether the store is open. One that a fault of the disk has shut answers nothing more, until it is opened again. This
-    /// only reads the store, which stands for what it stood for.
+    /// Whether the store is open. One that a fault of the disk has shut answers nothing more until it is opened again.
+    /// This only reads the store, which agrees with what it agreed with.
     ///
     /// # Errors
     ///
-    /// [`Memory`] if that can't be found out.
+    /// [`Memory`] if there is no memory to find out.
     pub fn is_open(&mut self) -> Result<bool, Memory>
         ensures reads { S.reads (store_of self.old) (store_of self.new) }
         ensures open { S.clean (store_of self.new) → result ≡ Ok true → S.honest (store_of self.new) }
@@ -95,16 +95,16 @@ impl<S: Store> Service<S> {
 
     /// Does what a message of these bytes asks for, at this moment, and answers it.
     ///
-    /// A call that is first heard is a step of the job machine and is kept with its reply; an import that is not kept and
-    /// has no fault adds its rows and is kept with its answer; a tick is a step of the machine; a statement is a read of
-    /// what stands. Anything else changes nothing; a repeat of a kept call, one of its host's latest four, or of a kept
-    /// import gets the very bytes of its answer. Behind a commit the answer asks for no memory: what is unavailable has
-    /// changed nothing, unless a fault of the disk has shut the store. From then on all is unavailable, until the tables
-    /// are opened again.
+    /// A call that is first heard is a step of the job machine, and is kept with its reply. An import that is not kept
+    /// and has no fault adds its rows, and is kept with its answer. A tick is a step of the machine. A statement is a
+    /// read of what is stored. Any other message changes nothing. A repeat of a kept call, one of its host's latest
+    /// four, or of a kept import gets the same bytes again. After a commit the answer needs no further memory: if it is
+    /// unavailable, nothing was changed, unless a fault of the disk has shut the store. From then on everything is
+    /// unavailable until the tables are opened again.
     ///
-    /// A stop at any moment leaves what stands for all that was answered, or for that and one message more, whose answer
-    /// was unavailable or nobody read: it is answered again by the same bytes. And a store that could be opened again still
-    /// can, as it stands and as a stop may leave it.
+    /// A stop at any moment leaves a store that agrees with all that was answered, or with that and one message more.
+    /// The answer of that one was unavailable, or nobody read it; a repeat gets the same bytes. A store that could be
+    /// opened again still can be, as it is and as a stop may leave it.
     pub fn handle(&mut self, alloc: Global, now: Moment, bytes: &[u8]) -> Answer
         ensures acts { Acts S.Store (is_answered result) (IsHandled (key_of self.old) bytes.now now (S.holds (store_of self.old))) (store_of self.old) (store_of self.new) }
         ensures key { key_of self.new ≡ key_of self.old }

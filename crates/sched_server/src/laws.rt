@@ -9,55 +9,59 @@ ghost use Rattle.sched_server.specs.Laws.{NewStoresStand, HandledStands, ReadsSt
 
 use stores::Store;
 
-/// A new store, of which nothing was heard, stands for the empty past of bytes, with the operator's key of its settings.
+/// A new store, which has heard nothing, agrees with no arrivals. The key is the operator's key of its settings.
 pub fn new_stores_stand<S: Store>()
     ensures { NewStoresStand S.Store }
 {}
 
-/// A store that handles a message goes on to stand for all that came: so [`http_serving::serve_one`] carries the theorem
-/// over a reader and a writer too, with the bytes that it read as the message, also where its answer is lost.
+/// A store that handles a message still agrees with all arrivals. So the theorem also holds for
+/// [`http_serving::serve_one`], over a reader and a writer, even if the answer is lost. The message is then the bytes
+/// that it read.
 pub fn handled_stands<S: Store>()
     ensures { HandledStands S.Store }
 {}
 
-/// A store that was only read stands for what it stood for, also where a fault has shut it. So does what a stop may leave of
-/// it.
+/// A store that was only read agrees with what it agreed with, even if a fault has shut it. So does what a stop may
+/// leave of it.
 pub fn reads_stand<S: Store>()
     ensures { ReadsStand S.Store }
 {}
 
-/// At rest, what a stop leaves of a store stands for all that came, as the store does: every answered message is in.
+/// With no open transaction, what a stop leaves of a store agrees with all arrivals, as the store does: every answered
+/// message is in it.
 pub fn what_is_left_stands<S: Store>()
     ensures { WhatIsLeftStands S.Store }
 {}
 
-/// A store that is opened again, and holds what a stop left, stands for what that stood for.
+/// A store that is opened again, and holds what a stop left, agrees with what that agreed with.
 pub fn reopened_stands<S: Store>()
     ensures { ReopenedStands S.Store }
 {}
 
-/// What an upgrade of the tables leaves as it was stands in the next era for all that it stood for.
+/// If an upgrade of the tables leaves what they hold as it was, that agrees in the next era with all that it agreed
+/// with.
 pub fn upgraded_stands()
     ensures { UpgradedStands }
 {}
 
-/// What stands for all that came before versions had classes has none: each version is of the class that its platform names, and
-/// no workunit is marked. So an upgrade of its tables can give them these, and leave it as it was.
+/// What agrees with arrivals from before versions had classes is unclassed: the class of each version is its platform,
+/// and no workunit is marked. So an upgrade of its tables can add these, and leave it as it was.
 pub fn former_worlds_are_unclassed()
     ensures { FormerWorldsAreUnclassed }
 {}
 
-/// Whatever messages come, an instance that was given to a host stays that host's, with its moment of sending.
+/// For any messages, an instance that was given to a host stays that host's, with its moment of sending.
 pub fn owners_stay()
     ensures { Lasts OwnersStay }
 {}
 
-/// A deadline moves only where a call of the instance's host has it sent again.
+/// A deadline moves only if a call of the instance's host has the instance sent again.
 pub fn deadlines_move_by_resends_alone()
     ensures { DeadlinesMoveByResendsAlone }
 {}
 
-/// So it is over many messages: a deadline stays, or some call of the instance's host among them has it sent again.
+/// The same over many messages: a deadline stays, or some call of the instance's host among them has the instance sent
+/// again.
 pub fn deadlines_move_by_resends_over_messages()
     ensures { DeadlinesMoveByResendsOverMessages }
 {}
@@ -97,7 +101,7 @@ pub fn credits_add_up()
     ensures { HoldsOfWhatStands CreditsAddUp }
 {}
 
-/// All credit together is at most 2 x 10^15 millicredits, so that of each host and each user is.
+/// All credit together is at most 2 x 10^15 millicredits. So is that of each host and each user.
 pub fn credit_is_bounded()
     ensures { HoldsOfWhatStands IsCreditBounded }
 {}
@@ -107,30 +111,31 @@ pub fn one_for_each_user()
     ensures { HoldsOfWhatStands OneForEachUser }
 {}
 
-/// After a first-heard call that lists what its client has, where lost jobs are sent again, its host holds just what
-/// it held, lists and did not report, and what the reply names.
+/// Suppose that a first-heard call lists what its client has, and that lost jobs are sent again. Then its host holds
+/// just what it held, lists and did not report, and what the reply names.
 pub fn no_held_job_drops_from_sight()
     ensures { NoHeldJobDropsFromSight }
 {}
 
-/// A workunit that keeps to a class keeps to it for ever, and one that is not marked is never marked.
+/// A workunit that keeps to a class keeps to it for ever. One that is not marked is never marked.
 pub fn classes_stay()
     ensures { Lasts ClassesStay }
 {}
 
-/// Who owns an instance after a message owned it before, or the message is its call, which gives it the instance with a version
-/// of the class that the workunit then keeps to, if it is marked.
+/// If a host owns an instance after a message, it owned it before, or the message is its call. That call gives it the
+/// instance with a version of the class that the workunit then keeps to, if the workunit is marked.
 pub fn owners_are_of_classes_at_a_message()
     ensures { OwnersAreOfClassesAtAMessage }
 {}
 
-/// So it is over many messages: some call among them gave it, with a version of the class that the workunit keeps to at their end.
+/// The same over many messages: some call among them gave it, with a version of the class that the workunit keeps to at
+/// their end.
 pub fn owners_are_of_classes_over_messages()
     ensures { OwnersAreOfClassesOverMessages }
 {}
 
-/// Each owner in what stands got its instance by a call of its host in the run by which it stands, with a version of the class that
-/// the workunit keeps to.
+/// Each owner in the stored world got its instance by a call of its host, in the run that the store agrees with. The
+/// version was of the class that the workunit keeps to.
 pub fn owners_were_given()
     ensures { OwnersWereGiven }
 {}

@@ -1,7 +1,7 @@
 //! The scheduler as an HTTP server: what the bytes of a message do, and the bytes that answer them.
 //!
-//! A [`Service`] hears a message, does what it means over any store, and answers with a response whose bytes are all
-//! owned before the store commits. [`serve_one`] serves it over a reader and a writer.
+//! A [`Service`] hears a message, does what it means to any store, and answers it. It owns all bytes of its answer
+//! before the store commits. [`serve_one`] serves it over a reader and a writer.
 #![tactic(auto)]
 
 mod answers;

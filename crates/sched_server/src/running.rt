@@ -1,4 +1,4 @@
-//! Messages one after the other, and what the store stands for behind them.
+//! Messages one after the other, and what the store agrees with after them.
 
 ghost use Rattle.std.specs.Prelude.{◌≡◌, length, IfOk};
 ghost use Rattle.sched_book.specs.Trusted.{Trusted};
@@ -15,13 +15,13 @@ use texts::Memory;
 impl<S: Store> Service<S> {
     /// Handles these arrivals one after the other.
     ///
-    /// For every past of arrivals that the store stands for, it stands for that past followed by these with their answers:
-    /// whatever of them was lost, repeated or came late, what stands is that of one run of the job machine over the
-    /// first-heard ones. An arrival whose answer is unavailable counts as lost.
+    /// If the store agrees with some arrivals, it then agrees with those followed by these with their answers. So what
+    /// is stored is that of one run of the job machine over the first-heard ones, even if some were lost, repeated or
+    /// late. An arrival whose answer is unavailable counts as lost.
     ///
     /// # Errors
     ///
-    /// [`Memory`] where there is no room for an answer; its arrival and those before it have acted.
+    /// [`Memory`] if there is no room for an answer. Its arrival and those before it have acted.
     pub fn run(&mut self, alloc: Global, arrivals: &[Arrival]) -> Result<Vec<Answer>, Memory>
         ensures clean { S.clean (store_of self.new) → S.clean (store_of self.old) }
         ensures honest { S.honest (store_of self.new) → S.honest (store_of self.old) }

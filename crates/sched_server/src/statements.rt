@@ -15,7 +15,7 @@ use std::alloc::Global;
 use stores::{Store, confirmed};
 use texts::Text;
 
-/// What is told where a host has this statement, or none stands.
+/// The answer for a host's statement, or for a host that does not exist.
 fn tell(statement: Option<Text>) -> Answer
     ensures { result ≡ statement_told statement }
 {
@@ -25,11 +25,11 @@ fn tell(statement: Option<Text>) -> Answer
     }
 }
 
-/// The statement of the host of this number, whatever the moment.
+/// The statement of the host of this number, the same at any moment.
 ///
 /// # Errors
 ///
-/// [`Unavailable`] where memory is wanting, or a fault has shut the store. Nothing is changed, as by any statement.
+/// [`Unavailable`] if there is no memory, or a fault has shut the store. Nothing is changed, as by any statement.
 pub(crate) fn statement<S: Store>(
     alloc: Global,
     store: &mut S,

@@ -1,4 +1,4 @@
--- A call that only read owes nothing more, and one that read before it acted owes what it owes from there on.
+-- A call that only read owes nothing more. One that read before it acted owes what it owes from there on.
 use Rattle.std.proofs.Common.{◌≡◌, Bool, true, inl, inr, sym, ◌∙◌, subst}
 use Rattle.stores.specs.Acting.{Parts, Acts, ActsWhole}
 use Rattle.stores.specs.Held.{Held, IsLeft}
@@ -25,7 +25,7 @@ left_on old mid new before left = record {
   batches_are = λ kind batch. left.batches_are kind batch ∙ before.batches_are kind batch;
 }
 
--- What a store owes behind a read, as its laws say.
+-- What a store owes after a read, as its laws say.
 module _ {S : Type 0} (store : Parts S) (old mid : S)
     (was_clean : store.clean mid → store.clean old)
     (was_honest : store.honest mid → store.honest old)
@@ -34,7 +34,7 @@ module _ {S : Type 0} (store : Parts S) (old mid : S)
     (stays_held : store.honest mid → store.well_kept old → IsLeft (store.holds old) (store.holds mid))
     (stays_left : (h : Held) → store.may_leave mid h → store.may_leave old h)
     (stays_reopened : (store.honest old → store.well_kept old) → store.reopens old → store.reopens mid) where
-  -- an answer that is only given where the store is open owes no more
+  -- an answer that is given only if the store is open owes no more
   pub reads_act : (good : Bool) (P : Held → Type 0) → (store.clean mid → good ≡ true → store.honest mid) → ActsWhole store good P old mid
   reads_act good P is_open = record {
     acts = record {
@@ -49,11 +49,11 @@ module _ {S : Type 0} (store : Parts S) (old mid : S)
     unchanged = λ honest kept bad. stays_held honest kept;
   }
 
-  -- what is said of what was held at mid is said of what was held before
+  -- what holds of the contents at mid holds of the contents before
   pub said_on : (P : Held → Type 0) → store.honest mid → store.well_kept old → P (store.holds mid) → P (store.holds old)
   said_on P honest kept = subst P (left_is (store.holds old) (store.holds mid) (stays_held honest kept))
 
-  -- A call that acts behind the read acts on what stood before it: what Q says of what was held at mid, P says of what was held before.
+  -- A call that acts after the read acts on what was held before it. What Q says of what was held at mid, P says of what was held before.
   pub acts_on : (good : Bool) (Q : Held → Held → Type 0) (P : Held → Type 0) (new : S)
       → (store.honest mid → store.well_kept old → (h : Held) → Q (store.holds old) h → P h)
       → ActsWhole store good (Q (store.holds mid)) mid new → ActsWhole store good P old new
@@ -83,7 +83,7 @@ module _ {S : Type 0} (store : Parts S) (old mid : S)
         (whole.unchanged honest (stays_kept (whole.acts.was_honest honest) kept) bad);
   }
 
--- What P says, Q says; and where the answer tells no more than before that it is good.
+-- What P says, Q says. If the new answer is good, so was the old one.
 pub acts_too : {S : Type 0} (store : Parts S) (good better : Bool) (P Q : Held → Type 0) (old new : S) → (better ≡ true → good ≡ true) → ((h : Held) → P h → Q h)
     → Acts store good P old new → Acts store better Q old new
 acts_too store good better P Q old new tells on acts = record {

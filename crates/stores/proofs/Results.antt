@@ -1,28 +1,28 @@
--- What is said of a call's answer.
+-- What holds of a call's answer.
 use Rattle.std.proofs.Common.{◌≡◌, true, false, refl, sym, subst, true≢false}
 use Rattle.std.specs.Prelude.{Result, Ok, Err, is_ok, IfOk, OnOk, OnErr}
 
--- what holds of an answer under what is known
+-- what holds of an answer under a premise that is known
 pub given : {A E : Type 0} (result : Result A E) (P : Type 0) (Q : A → Type 0) → P → IfOk result (λ answer. P → Q answer) → IfOk result Q
 given (Ok answer) P Q known says = says known
 given (Err e) P Q known says = tt
 
--- and under what follows
+-- the same under a premise from which that one follows
 pub given_more : {A E : Type 0} (result : Result A E) (P R : Type 0) (Q : A → Type 0) → (R → P) → IfOk result (λ answer. P → Q answer) → IfOk result (λ answer. R → Q answer)
 given_more (Ok answer) P R Q known says = λ r. says (known r)
 given_more (Err e) P R Q known says = tt
 
--- and under the first of two facts
+-- the same with the first of two premises added
 pub added : {A E : Type 0} (result : Result A E) (P R : Type 0) (Q : A → Type 0) → R → IfOk result (λ answer. P → R → Q answer) → IfOk result (λ answer. P → Q answer)
 added (Ok answer) P R Q known says = λ p. says p known
 added (Err e) P R Q known says = tt
 
--- and of an answer that is this one
+-- what holds of an answer that is this one
 pub only : {A E : Type 0} (result : Result A E) (a : A) (Q : A → Type 0) → IfOk result (λ answer. answer ≡ a) → Q a → IfOk result Q
 only (Ok answer) a Q is says = subst Q (sym is) says
 only (Err e) a Q is says = tt
 
--- ---- by the test for good answers
+-- ---- from the test for good answers
 
 pub on_ok : {A E : Type 0} (r : Result A E) (P : Type 0) → OnOk r P → is_ok r ≡ true → P
 on_ok (Ok x) P holds good = holds

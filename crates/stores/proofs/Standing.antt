@@ -1,4 +1,4 @@
--- What is kept of a commit that may stand in a store.
+-- What a commit keeps, if its result can be opened again.
 use Rattle.std.proofs.Common.{◌≡◌, Bool, true, ◌&&◌, cond, ◌∷◌, take, Some, refl, subst}
 use Rattle.std.specs.Prelude.{All, IfSome}
 use Rattle.std.specs.Str.{bytes_eq}
@@ -21,7 +21,7 @@ kind_itself Apps = refl
 kind_itself Versions = refl
 kind_itself Workunits = refl
 
--- what an entry kept may be kept, where what it made may stand
+-- if the result can be opened again, what the entry keeps may be kept
 pub may_be_kept : (w : World) (e : Entry) (calls : Calls) (batches : Batches) → MayStand (record { world = w; calls = calls_with e calls; batches = batches_with e batches }) → MayBeKept w e
 may_be_kept w (entry.Kept host k) calls batches stands =
     let P : Bool → Type 0 = λ b. All (λ x. MayBeKept w (entry.Kept host x)) (cond b (k ∷ take (kept_beside this_era) (calls host)) (calls host)) in

@@ -1,11 +1,11 @@
--- Promise. What a call that may commit owes, whatever it answers. (This project's own.)
+-- Promise. What a call that may commit owes for any answer. (This project's own.)
 use Rattle.std.specs.Prelude.{◌≡◌, ◌⊎◌, Bool, true, false}
 use Rattle.sched_book.specs.declared.desk.Units as units
 use Rattle.sched_book.specs.declared.world.World.{World}
 use Rattle.stores.specs.Held.{Held, IsLeft}
 use Rattle.stores.specs.Standing.{MayStand}
 
--- What is said of stores of one kind.
+-- The ghosts of a store, in one record.
 abbrev pub Parts : Type 0 → Type 1
 Parts S = record {
   world : S → World;
@@ -19,7 +19,7 @@ Parts S = record {
   reopens : S → Type 0;
 }
 
--- a desk's parts, with those of its store
+-- the ghosts of a desk, with those of its store
 abbrev pub parts_of : {S : Type 0} → units.Ghosts S → (S → Held) → (S → Type 0) → Type 0 → (S → Held → Type 0) → (S → Type 0) → Parts S
 parts_of desk holds clean lasting may_leave reopens = record {
   world = desk.world;
@@ -33,23 +33,23 @@ parts_of desk holds clean lasting may_leave reopens = record {
   reopens = reopens;
 }
 
--- The call answered well or not. P says what it makes of what the store held.
+-- What a call owes, with a good answer or another. P says what the call makes of what the store held.
 pub record Acts {S : Type 0} (store : Parts S) (good : Bool) (P : Held → Type 0) (old new : S) : Type 0 where
-  -- what was clean to the end was so before, and so with what is honest
+  -- what is clean after the call was clean before it, and so for honest
   pub was_clean : store.clean new → store.clean old
   pub was_honest : store.honest new → store.honest old
-  -- a good answer is that of a store that is open
+  -- a good answer comes from a store that is open
   pub is_open : store.clean new → good ≡ true → store.honest new
   -- a store that lasts is never shut
   pub lasts : store.lasting → store.honest old → store.honest new
-  -- it is kept well
+  -- it stays well kept
   pub stays_kept : store.honest new → store.well_kept old → store.well_kept new
-  -- A stop at any moment leaves what it could leave before; or what P says, where the store was open and well kept.
+  -- A stop at any moment leaves what it could leave before. If the store was open and well kept, it may also leave what P says.
   pub left : (h : Held) → store.may_leave new h → store.may_leave old h ⊎ (store.honest old × (store.well_kept old → P h))
-  -- What could be opened again still can, where all that P says of may stand in a store.
+  -- A store that could be opened again still can be, if everything that P allows can be opened again.
   pub reopens : store.reopens old → (store.honest old → store.well_kept old × ((h : Held) → P h → MayStand h)) → store.reopens new
 
--- It acts, or, where its answer is not good and the store is open, it changed nothing.
+-- The call acts. If its answer is not good and the store is open, it changed nothing.
 pub record ActsWhole {S : Type 0} (store : Parts S) (good : Bool) (P : Held → Type 0) (old new : S) : Type 0 where
   pub acts : Acts store good P old new
   pub unchanged : store.honest new → store.well_kept old → good ≡ false → IsLeft (store.holds old) (store.holds new)

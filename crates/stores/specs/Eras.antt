@@ -1,4 +1,4 @@
--- Promise. Eras. The tables of a project are upgraded now and then, and messages from then on go by other rules. (This project's own.)
+-- Promise. Eras. Each upgrade of a project's tables begins an era, and the messages of an era follow its rules. (This project's own.)
 use Rattle.std.specs.Prelude.{ℕ, zero, suc, nat_le, if◌then◌else◌, List, [], ◌∷◌, replicate}
 
 -- The era of a message is how many upgrades came before it. The upgrade point of an upgrade is how many messages were answered before it.
@@ -6,16 +6,16 @@ abbrev pub era_at : List ℕ → ℕ → ℕ
 era_at [] answered = 0
 era_at (upgrade_point ∷ upgrade_points) answered = if nat_le upgrade_point answered then suc (era_at upgrade_points answered) else era_at upgrade_points answered
 
--- the era of this program, whose tables were upgraded twice: from the schema that kept the last call of a host alone, and from
--- that whose versions had no classes
+-- The era of this program. Its tables were upgraded twice: from the schema that kept only the last call of a host, and from the one whose
+-- versions had no classes.
 abbrev pub this_era : ℕ
 this_era = 2
 
--- the upgrade points of tables that are new in an era: all upgrades came before their first message
+-- the upgrade points of tables that are created in an era: all upgrades came before their first message
 abbrev pub new_upgrade_points : ℕ → List ℕ
 new_upgrade_points era = replicate era 0
 
--- how many calls of a host are kept beside its last: none before the first upgrade, three since
+-- how many calls of a host are kept in addition to its last: none before the first upgrade, three since
 abbrev pub kept_beside : ℕ → ℕ
 kept_beside zero = 0
 kept_beside (suc era) = 3

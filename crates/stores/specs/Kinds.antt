@@ -10,7 +10,7 @@ kind_name Apps = codes "apps"
 kind_name Versions = codes "versions"
 kind_name Workunits = codes "workunits"
 
--- the kind of a name
+-- the kind with this name
 abbrev pub kind_of : List ℕ → Option Kind
 kind_of name =
     if bytes_eq name (codes "accounts") then Some Accounts
@@ -19,6 +19,6 @@ kind_of name =
     else (if bytes_eq name (codes "workunits") then Some Workunits
     else None)))
 
--- two kinds are one
+-- the two kinds are equal
 abbrev pub same_kind : Kind → Kind → Bool
 same_kind a b = bytes_eq (kind_name a) (kind_name b)

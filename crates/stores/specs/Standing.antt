@@ -9,7 +9,7 @@ use Rattle.stores.specs.declared.entry.Entry.{Entry}
 use Rattle.stores.specs.declared.entry.Entry.TheVariants as entry
 use Rattle.stores.specs.declared.kind.Kind.{Kind}
 
--- the last number of a call
+-- the greatest number of a call
 abbrev pub last_seqno : ℕ
 last_seqno = 2147483647
 
@@ -17,14 +17,14 @@ last_seqno = 2147483647
 abbrev pub most_import_bytes : ℕ
 most_import_bytes = 1048576
 
--- What an entry keeps may stand beside a world: a call of a host that stands, with its number in its range; an import with a word
--- for its name, and not too long.
+-- What an entry keeps may be kept with a world. A call must be of a host that exists, with its number in range. An import must have a word
+-- as its name, and a text that is not too long.
 abbrev pub MayBeKept : World → Entry → Type 0
 MayBeKept w (entry.Kept host k) = IsTrue (is_some (host_at w host)) × (k.seqno ≤ last_seqno)
 MayBeKept w (entry.Batch kind name b) = IsTrue (is_word name) × (length b.text ≤ most_import_bytes)
 MayBeKept w entry.Nothing = Unit {0}
 
--- The world is sound, and all that is kept may stand beside it.
+-- The world is sound, and everything that is kept may be kept with it.
 pub record MayStand (held : Held) : Type 0 where
   pub sound : Sound held.world
   pub calls : (host : ℕ) → All (λ k. MayBeKept held.world (entry.Kept host k)) (held.calls host)

@@ -1,11 +1,11 @@
-//! What is kept of an import.
+//! A kept import.
 
 use texts::{Listed, Text};
 
-/// What is kept of an import, for good.
+/// A kept import, which is kept for good.
 #[derive(Drop)]
 pub struct KeptBatch {
-    /// Its very bytes.
+    /// The bytes of its text, as they came.
     pub text: Listed<u8>,
     /// The body of its answer.
     pub answer: Text,

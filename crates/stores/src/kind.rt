@@ -13,7 +13,7 @@ pub enum Kind {
 }
 
 impl Kind {
-    /// The kind of this name.
+    /// The kind with this name.
     pub fn of(name: &str) -> Option<Kind>
         ensures { result ≡ kind_of name.now }
     {

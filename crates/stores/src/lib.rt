@@ -1,8 +1,8 @@
-//! What a store is: a desk that also keeps calls with their replies and imports with their answers, and that makes the
-//! changes of a message and keeps it at once.
+//! What a store is: a desk that also keeps calls with their replies and imports with their answers. It makes the
+//! changes of a message and keeps the message in one commit.
 //!
-//! The engine above serves messages over any store, and the stored tables are one; neither knows the other. What a store
-//! holds is one record, `specs/Held.antt`; what each call that may commit owes, whatever it answers, is another,
+//! The message engine serves messages over any store. The stored tables are one store. Neither knows the other. What a
+//! store holds is one record, in `specs/Held.antt`. What each call that may commit owes for any answer is another, in
 //! `specs/Acting.antt`.
 #![tactic(auto)]
 

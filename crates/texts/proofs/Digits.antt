@@ -1,4 +1,4 @@
--- Texts of digits are UTF-8, and std reads them as their value where it fits.
+-- Texts of digits are UTF-8, and std reads them as their value if it fits.
 use Rattle.std.proofs.Common.{◌≡◌, ℕ, ◌<◌, ◌^◌, true, List, Option, Some, None, Result, Ok, Err, length, arith, rules}
 use Rattle.std.proofs.lemmas.Bool.Decides.{nat_tests}
 use Rattle.std.proofs.lemmas.Str.{is_utf8-from_IsUtf8}
@@ -33,7 +33,7 @@ too_large v limit h = grind (arith, nat_tests)
 pub digits_model : IsNumeralModel (λ ds. list_all is_ascii_digit ds ≡ true) (digits_value 10)
 digits_model = numerals_by_value (λ ds. list_all is_ascii_digit ds ≡ true) (search rules)
 
--- what std reads of some digits, as a number of so many bits
+-- what std reads from digits, as a number of so many bits
 pub digits_read : {E : Type 0} (bits : ℕ) (text : List ℕ) (r : Result ℕ E) → ParsesUnsigned bits 10 text r → 0 < length text
     → list_all is_ascii_digit text ≡ true → result_ok r ≡ (if nat_lt (digits_value 10 text) (2 ^ bits) then Some (digits_value 10 text) else None)
 digits_read {E = E} bits text (Ok n) h some digits =

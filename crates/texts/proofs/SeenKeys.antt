@@ -1,4 +1,4 @@
--- A set whose order agrees with equality is looked through by equality.
+-- If the order of a set agrees with equality, a look-up is by equality.
 use Rattle.std.proofs.Common.{◌≡◌, List, [], ◌∷◌, Bool, true, false, cond, refl, sym, ◌∙◌, ap}
 use Rattle.std.specs.Prelude.{◌||◌}
 use Rattle.std.specs.BTreeMap.{is_at}
@@ -13,7 +13,7 @@ looked_up eq cmp same [] key = refl
 looked_up eq cmp same (k ∷ keys) key =
     ap (λ b. b || list_any (is_at (cmp key)) keys) (sym (same key k)) ∙ ap (λ b. eq key k || b) (looked_up eq cmp same keys key)
 
--- one key more, as a set says it
+-- one more key, as a set says it
 pub one_more : (same other : Bool) → cond same true other ≡ (same || other)
 one_more true other = refl
 one_more false other = refl

@@ -10,7 +10,7 @@ use Rattle.texts.specs.Words.{is_word_byte, is_word}
 word_byte_below : (b : ℕ) → is_word_byte b ≡ true → b < 128
 word_byte_below b h = grind (arith, nat_tests)
 
--- a text each of whose bytes passes a test that only ASCII passes
+-- if only ASCII passes a test, each byte of a text that passes it is below 128
 below : (p : ℕ → Bool) → ((b : ℕ) → p b ≡ true → b < 128) → (text : List ℕ) → list_all p text ≡ true → (i : ℕ) → get_or text i 0 < 128
 below p ascii [] h i = omega arith
 below p ascii (b ∷ bs) h zero = ascii b (and_parts (p b) (list_all p bs) h).0

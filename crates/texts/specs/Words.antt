@@ -14,6 +14,6 @@ is_word text = nat_le 1 (length text) && nat_le (length text) 64 && list_all is_
 abbrev pub IsWord : List ℕ → Type 0
 IsWord text = IsTrue (is_word text)
 
--- the word that these bytes are, where they are one
+-- the word in these bytes, if they are one
 abbrev pub word_of : List ℕ → Option (List ℕ)
 word_of text = if is_word text then Some text else None

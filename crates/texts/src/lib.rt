@@ -1,7 +1,7 @@
 //! The small types over `String` and `Vec` that records are made of.
 //!
-//! A contract sees a [`Text`] as the list of its bytes and a [`Listed`] as the list of its items, so a
-//! record of them is, in a clause, plain data: two of them are equal exactly where all they say is.
+//! A contract sees a [`Text`] as the list of its bytes and a [`Listed`] as the list of its items. So in a clause a
+//! record of them is plain data: two records are equal exactly if all their parts are.
 #![tactic(auto)]
 
 pub mod listed;
@@ -16,5 +16,5 @@ pub use seen_set::SeenSet;
 pub use text::{Text, utf8_text};
 pub use word::{is_word, word_of};
 
-/// Want of memory: an allocation was refused.
+/// Out of memory: an allocation was refused.
 pub type Memory = std::alloc::AllocError;

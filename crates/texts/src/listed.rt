@@ -9,7 +9,7 @@ use std::alloc::Global;
 use std::fmt;
 use std::marker::Model;
 
-/// A list of items in order, which contracts see as just that.
+/// A list of items in order. Contracts see it as the list of its items.
 #[derive(Drop)]
 pub struct Listed<T> {
     items: Vec<T>,
@@ -22,7 +22,7 @@ impl<T> Model for Listed<T> {
 }
 
 impl<T> Listed<T> {
-    /// The empty list, which takes no memory yet.
+    /// Returns the empty list, which needs no memory yet.
     pub fn new(alloc: Global) -> Listed<T>
         ensures { result ≡ [] }
     {
@@ -31,7 +31,7 @@ impl<T> Listed<T> {
         }
     }
 
-    /// The list of these items, which are not copied.
+    /// Returns the list of these items, which are not copied.
     pub fn of(items: Vec<T>) -> Listed<T>
         ensures { result ≡ items.items }
     {
@@ -64,7 +64,7 @@ impl<T> Listed<T> {
 }
 
 impl<T: Drop> Listed<T> {
-    /// Puts `item` behind the others. Where memory is wanting the list stays as it was.
+    /// Adds `item` after the others. If there is no memory, the list stays as it was.
     pub fn push(&mut self, item: T) -> Result<(), Memory>
         ensures ok { OnOk result (self.new ≡ self.old ++ item ∷ []) }
         ensures err { OnErr result (self.new ≡ self.old) }
@@ -73,7 +73,7 @@ impl<T: Drop> Listed<T> {
         Ok(())
     }
 
-    /// Puts `item` behind the others, where there is one.
+    /// Adds `item` after the others, if there is one.
     pub fn push_some(&mut self, item: Option<T>) -> Result<(), Memory>
         ensures { OnOk result (self.new ≡ self.old ++ cons_option item []) }
     {
@@ -83,7 +83,7 @@ impl<T: Drop> Listed<T> {
         }
     }
 
-    /// Puts these items behind the others.
+    /// Adds these items after the others.
     pub fn append(&mut self, more: Listed<T>) -> Result<(), Memory>
         ensures { OnOk result (self.new ≡ self.old ++ more) }
     {
@@ -92,7 +92,7 @@ impl<T: Drop> Listed<T> {
         Ok(())
     }
 
-    /// Puts `item` in the place of the one at `index`.
+    /// Puts `item` in place of the one at `index`.
     pub fn replace(&mut self, index: usize, item: T)
         requires { index < length self.old }
         ensures { self.new ≡ slice_set self.old index item }
@@ -100,7 +100,7 @@ impl<T: Drop> Listed<T> {
         self.items[index] = item;
     }
 
-    /// Lets go of the last item, where there is one.
+    /// Drops the last item, if there is one.
     pub fn drop_last(&mut self)
         ensures { self.new ≡ take (length self.old - 1) self.old }
     {

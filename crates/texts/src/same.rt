@@ -4,9 +4,9 @@ ghost use Rattle.std.specs.Prelude.{◌≡◌};
 
 /// A type whose clones are equal to what was cloned.
 ///
-/// `Clone` alone lets each type say what a copy is; a record that is kept and compared later needs more.
+/// `Clone` alone lets each type decide what a copy is. A record that is kept and compared later needs more.
 pub trait Same: Clone {
-    /// A clone is the value again.
+    /// A clone is equal to the value.
     ghost exact: { (a b : Self) → Self.is_clone a b → a ≡ b };
 }
 

@@ -1,4 +1,4 @@
-//! Sets of the keys that came by.
+//! Sets of the keys that were seen.
 
 ghost use Rattle.std.specs.Prelude.{◌≡◌, false, not, ◌||◌, IfOk, OnOk, OnErr};
 ghost use Rattle.std.specs.List.{list_any};
@@ -9,15 +9,14 @@ use crate::same::Same;
 use std::alloc::Global;
 use std::collections::BTreeSet;
 
-/// The keys that came by so far, so that each later one is told from them in time that grows as the logarithm of
-/// their number.
+/// The keys that were seen so far. To look a key up takes a time that grows as the logarithm of their number.
 #[derive(Drop)]
 pub struct SeenSet<K: Ord> {
     keys: BTreeSet<K>,
 }
 
 impl<K: Ord> SeenSet<K> {
-    /// None came by.
+    /// Returns the set in which no key was seen.
     pub fn new(alloc: Global) -> SeenSet<K>
         ensures { (key : K) → has_seen K.eq result key ≡ false }
     {
@@ -26,7 +25,7 @@ impl<K: Ord> SeenSet<K> {
         }
     }
 
-    /// Whether a key came by.
+    /// Whether a key was seen.
     pub fn has(&self, key: &K) -> bool
         ensures { result ≡ has_seen K.eq self.now key.now }
     {
@@ -35,7 +34,7 @@ impl<K: Ord> SeenSet<K> {
 }
 
 impl<K: Ord + Drop> SeenSet<K> {
-    /// Takes note of a key, and says whether it came by for the first time.
+    /// Notes a key, and returns whether it was seen for the first time.
     pub fn is_first(&mut self, key: K) -> Result<bool, Memory>
         ensures first { IfOk result (λ first. first ≡ not (has_seen K.eq self.old key)) }
         ensures seen { OnOk result ((other : K) → has_seen K.eq self.new other ≡ (K.eq other key || has_seen K.eq self.old other)) }
@@ -46,7 +45,7 @@ impl<K: Ord + Drop> SeenSet<K> {
 }
 
 impl<K: Ord + Same> SeenSet<K> {
-    /// Just these came by.
+    /// Returns the set in which just these keys were seen.
     pub fn of(alloc: Global, keys: &[K]) -> Result<SeenSet<K>, Memory>
         ensures { IfOk result (λ seen. (key : K) → has_seen K.eq seen key ≡ list_any (K.eq key) keys.now) }
     {

@@ -14,7 +14,7 @@ use std::cmp::Ordering;
 use std::marker::Model;
 use std::{fmt, str};
 
-/// A text, which contracts see as the list of its bytes in UTF-8.
+/// A text. Contracts see it as the list of its bytes in UTF-8.
 #[derive(Drop)]
 pub struct Text {
     text: String,
@@ -27,7 +27,7 @@ impl Model for Text {
 }
 
 impl Text {
-    /// A copy of `text`.
+    /// Returns a copy of `text`.
     pub fn copied(alloc: Global, text: &str) -> Result<Text, Memory>
         ensures { IfOk result (λ t. t ≡ text.now) }
     {
@@ -36,7 +36,7 @@ impl Text {
         })
     }
 
-    /// The text that `text` holds, which is not copied.
+    /// Returns the text in `text`, which is not copied.
     pub fn of(text: String) -> Text
         ensures { result ≡ string_bytes text }
     {
@@ -70,7 +70,7 @@ impl Text {
     }
 }
 
-/// The text that these bytes are, where they are UTF-8 (RFC 3629).
+/// The text in these bytes, if they are UTF-8 (RFC 3629).
 pub fn utf8_text(bytes: &[u8]) -> Option<&str>
     ensures { option_map (λ text. text.now) result ≡ (if is_utf8 bytes.now then Some bytes.now else None) }
 {
@@ -118,7 +118,7 @@ impl PartialOrd for Text {
     }
 }
 
-/// By the bytes, the first that differs deciding.
+/// By the bytes; the first that differs decides.
 impl Ord for Text {
     ghost cmp = { slice_cmp nat_cmp };
 

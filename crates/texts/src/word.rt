@@ -16,7 +16,7 @@ pub fn is_word(text: &[u8]) -> bool
     1 <= text.len() && text.len() <= MOST_WORD_BYTES && are_word_bytes(text)
 }
 
-/// The word that these bytes are, where they are one.
+/// The word in these bytes, if they are one.
 pub fn word_of(text: &[u8]) -> Option<&str>
     ensures { option_map (λ word. word.now) result ≡ spec.word_of text.now }
 {

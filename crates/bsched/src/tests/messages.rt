@@ -1,4 +1,4 @@
-//! Messages of HTTP by their bytes, streams that stop in the middle, a socket, and the words of a command line.
+//! Messages of HTTP as bytes, streams that stop in the middle, a socket, and the words of a command line.
 
 use super::{Broken, CALL_START, PROJECT, REPLY, new_store, replayed_by, service_over};
 use command_line::{Order, OrderFault, order_of};
@@ -33,7 +33,7 @@ const NO_SUCH_HOST: &str = "{\"error\":\"no_such_host\",\"number\":19}";
 
 const NONE_LAPSED: &str = "{\"lapsed\":0}";
 
-/// Messages of which each is refused by another check, in the order of the checks, and one that is taken.
+/// Messages that are refused, each by another check, in the order of the checks, and one that is taken.
 const MESSAGES: &[Exchange] = &[
     ("POST /tick HTTP/1.1\r\n", 400, BAD_HTTP),
     ("GET /nowhere HTTP/1.1\r\n\r\n", 404, NO_ROUTE),
@@ -72,7 +72,7 @@ const MESSAGES: &[Exchange] = &[
     ),
 ];
 
-/// The status and the body of the answer to a message at moment 0, over a reader and a writer. (It has no clause, so that
+/// The status and the body of the answer to a message at moment 0, over a reader and a writer. (It has no clause, so
 /// the proof of a test does not carry what each message does.)
 fn answered<S: Store>(
     alloc: Global,
@@ -93,7 +93,7 @@ fn answered<S: Store>(
     }
 }
 
-/// Whether the bytes of an answer tell this status and this body.
+/// Whether the bytes of an answer have this status and this body.
 fn tells(alloc: Global, answer: &[u8], status: u16, body: &str) -> Result<bool, Fail> {
     let start = format!(in alloc; "HTTP/1.1 {status} ")?;
     let end = format!(in alloc;
@@ -103,7 +103,7 @@ fn tells(alloc: Global, answer: &[u8], status: u16, body: &str) -> Result<bool, 
     Ok(answer.starts_with(start.as_bytes()) && answer.ends_with(end.as_bytes()))
 }
 
-/// The first message that is answered otherwise over a store.
+/// The first message that gets another answer over a store.
 fn first_otherwise<S: Store + Drop>(
     alloc: Global,
     store: S,
@@ -135,18 +135,18 @@ fn checks_come_in_their_order(rt: HostRuntime) -> Result<(), Fail> {
     Ok(())
 }
 
-/// A message that asks for the statement of a host that does not stand.
+/// A message that asks for the statement of a host that does not exist.
 const READS_NINTH: &str = "GET /hosts/9 HTTP/1.1\r\nx-operator-key: opkey-01\r\n\r\n";
 
-/// All bytes of its answer.
+/// All bytes of the answer to it.
 const NINTH_IS_NONE: &str =
     "HTTP/1.1 404 Not Found\r\ncontent-type: application/json\r\ncontent-length: 36\r\nconnection: close\r\n\r\n{\"error\":\"no_such_host\",\"number\":19}";
 
-/// All bytes of the answer to a method that a tick has not.
+/// All bytes of the answer to a method that the route of a tick does not take.
 const ONLY_POST: &str =
     "HTTP/1.1 405 Method Not Allowed\r\nallow: POST\r\ncontent-type: application/json\r\ncontent-length: 35\r\nconnection: close\r\n\r\n{\"error\":\"wrong_method\",\"number\":3}";
 
-/// Whether a statement of no host and a tick by another method are answered so, to the last byte.
+/// Whether a statement of no host and a tick with another method get these answers, to the last byte.
 fn answers_wholly<S: Store + Drop>(alloc: Global, store: S) -> Result<bool, Fail> {
     let mut service = service_over(alloc, store)?;
     let ninth = answered(alloc, &mut service, READS_NINTH.as_bytes())?;
@@ -160,7 +160,8 @@ fn answers_to_their_last_byte(rt: HostRuntime) -> Result<(), Fail> {
     Ok(())
 }
 
-/// What a socket gets that says this to a service and then ends its side. (A connection lingers until its client does.)
+/// What a socket gets from a service if it sends this and then ends its side. (A connection lingers until its client
+/// does.)
 fn answer_on_a_socket<S: Store>(
     rt: &HostRuntime,
     service: &mut Service<S>,
@@ -176,7 +177,7 @@ fn answer_on_a_socket<S: Store>(
     Ok(io::read_to_string(rt.alloc(), stream)?)
 }
 
-/// The same of a store.
+/// The same over a store.
 fn answer_over_a_store<S: Store + Drop>(
     rt: &HostRuntime,
     store: S,
@@ -193,7 +194,7 @@ fn a_socket_is_served(rt: HostRuntime) -> Result<(), Fail> {
     Ok(())
 }
 
-/// A call whose body is too large, and of which the first bytes were sent.
+/// The first bytes of a call whose body is too large.
 fn too_large_call(alloc: Global) -> Result<Vec<u8>, Fail> {
     let mut said = b"POST /scheduler HTTP/1.1\r\ncontent-length: 300000\r\n\r\n".to_vec(alloc)?;
     said.extend(vec![in alloc; b'x'; 50_000]?)?;
@@ -208,7 +209,7 @@ fn a_refusal_arrives_though_a_body_is_on_its_way(rt: HostRuntime) -> Result<(), 
     Ok(())
 }
 
-/// The service over a store after the imports of the project, in which no host stands.
+/// The service over a store after the imports of the project, with no host.
 fn project<S: Store + Drop>(alloc: Global, store: S) -> Result<Service<S>, Fail> {
     let mut service = service_over(alloc, store)?;
     let _printed = replayed_by(alloc, &mut service, PROJECT.as_bytes())?;
@@ -224,14 +225,14 @@ fn first_call(alloc: Global) -> Result<Vec<u8>, Fail> {
     }
 }
 
-/// Whether the first host stands.
+/// Whether there is a first host.
 fn has_host<S: Store>(alloc: Global, service: &mut Service<S>) -> Result<bool, Fail> {
     let message = b"GET /hosts/1 HTTP/1.1\r\nx-operator-key: opkey-01\r\n\r\n";
     let answer = answered(alloc, service, message.as_slice())?;
     Ok(!tells(alloc, &answer, 404, NO_SUCH_HOST)?)
 }
 
-/// What serving a front of a message gives, behind which the reader fails, and what was written.
+/// The result of serving a front of a message after which the reader fails, and what was written.
 fn served_before_a_fault<S: Store>(
     alloc: Global,
     service: &mut Service<S>,
@@ -250,7 +251,7 @@ fn served_before_a_fault<S: Store>(
     (served, written)
 }
 
-/// What serving a message into so many bytes of room gives.
+/// The result of serving a message if there is room for so many bytes.
 fn served_into<S: Store>(
     alloc: Global,
     service: &mut Service<S>,
@@ -269,8 +270,8 @@ fn served_into<S: Store>(
     Ok((served, room))
 }
 
-/// Whether a message that breaks off, behind each of its bytes, is told as a fault of the reader, with nothing written; and
-/// one that ends there is refused.
+/// Whether a message whose reader fails, after each of its bytes in turn, ends as a fault of the reader, with nothing
+/// written. A message that ends there must be refused.
 fn fronts_are_no_message<S: Store>(
     alloc: Global,
     service: &mut Service<S>,
@@ -300,7 +301,7 @@ fn no_front_is_a_message<S: Store + Drop>(alloc: Global, store: S) -> Result<boo
     fronts_are_no_message(alloc, &mut service, &first_call(alloc)?)
 }
 
-/// Whether a message whose reader is interrupted for ever behind its first half is told as a fault of the reader.
+/// Whether a message ends as a fault of the reader, if the reader is interrupted for ever after its first half.
 fn is_given_up<S: Store + Drop>(alloc: Global, store: S) -> Result<bool, Fail> {
     let mut service = project(alloc, store)?;
     let front = first_call(alloc)?;
@@ -326,8 +327,8 @@ fn a_message_that_is_not_read_whole_never_was(rt: HostRuntime) -> Result<(), Fai
     Ok(())
 }
 
-/// Whether an answer that breaks off, at first before it began, and then behind each of its bytes, is told as a fault of the
-/// writer, and comes again in between, whole.
+/// Whether an answer whose writer fails ends as a fault of the writer. The writer fails before the first byte, and then
+/// after each byte in turn. In between the whole answer must come again.
 fn fronts_come_again<S: Store>(
     alloc: Global,
     service: &mut Service<S>,

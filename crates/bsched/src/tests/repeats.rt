@@ -1,4 +1,4 @@
-//! The worked rows with each message sent twice, through the service's `run`: the first answer is thrown away.
+//! The worked rows with each message sent twice, by the service's `run`; the first answer is thrown away.
 
 use super::rows::{NEXT, lines_of, name_of};
 use super::{PROJECT, service_over};
@@ -12,7 +12,7 @@ use std::alloc::Global;
 use std::test::Fail;
 use stores::Store;
 
-/// What arrives by these lines, each twice.
+/// The arrivals of these lines, each twice.
 fn arrivals_of(alloc: Global, key: &str, lines: &str) -> Result<Vec<Arrival>, Fail> {
     let mut arrivals = Vec::new(alloc);
     for line in lines.lines() {
@@ -22,7 +22,7 @@ fn arrivals_of(alloc: Global, key: &str, lines: &str) -> Result<Vec<Arrival>, Fa
     Ok(arrivals)
 }
 
-/// Puts what arrives by a line behind the others.
+/// Adds the arrival of a line after the others.
 pub fn push_arrival(
     alloc: Global,
     arrivals: &mut Vec<Arrival>,
@@ -39,7 +39,7 @@ pub fn push_arrival(
     Ok(())
 }
 
-/// Whether the message of each line got its first answer again; a tick is never a repeat.
+/// Whether the message of each line got its first answer again. A tick is never a repeat.
 fn are_told_again(lines: &str, answers: &[Answer]) -> bool {
     for (line, pair) in lines.lines().zip(answers.chunks_exact(2)) {
         if let [first, second] = pair {
@@ -51,7 +51,7 @@ fn are_told_again(lines: &str, answers: &[Answer]) -> bool {
     true
 }
 
-/// The answers to these arrivals. (It has no clause, so that the proof of a test does not carry what many messages do.)
+/// The answers to these arrivals. (It has no clause, so the proof of a test does not carry what many messages do.)
 fn answers_to<S: Store>(
     alloc: Global,
     service: &mut Service<S>,
@@ -71,21 +71,22 @@ fn answers_again<S: Store>(
     Ok(answers.len() == arrivals.len() && are_told_again(lines, &answers))
 }
 
-/// Whether the messages of a row, each sent twice behind the project's imports, get their first answers again over a store.
+/// Whether the messages of a row, each sent twice after the project's imports, get their first answers again over a
+/// store.
 fn is_answered_again<S: Store + Drop>(alloc: Global, store: S, row: &str) -> Result<bool, Fail> {
     let mut service = service_over(alloc, store)?;
     let lines = format!(in alloc; "{PROJECT}{}", lines_of(alloc, row)?)?;
     answers_again(alloc, &mut service, lines.as_str())
 }
 
-/// The default settings, but that five hosts may stand.
+/// The default settings, except that there may be five hosts.
 pub fn settings(alloc: Global) -> Result<Settings, Fail> {
     let mut settings = default_settings(alloc)?;
     settings.max_hosts = 5;
     Ok(settings)
 }
 
-/// The name of the first row in which a message is answered otherwise when it comes again, over tables in memory.
+/// The name of the first row in which a message gets another answer when it is sent again, over tables in memory.
 pub fn first_answered_otherwise(
     alloc: Global,
     text: &'static str,

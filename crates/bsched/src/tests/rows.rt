@@ -1,11 +1,11 @@
-//! Worked rows as text: a row begins with `= ` and its name; each line stands behind `> `, and behind `< ` its answer. What
-//! stands behind `# ` is a remark.
+//! Worked rows as text. A row begins with `= ` and its name. Each line comes after `> `, and its answer after `< `.
+//! What comes after `# ` is a remark.
 
 use super::answers_in_project;
 use std::alloc::Global;
 use std::test::Fail;
 
-/// What stands before each row's name.
+/// What comes before each row's name.
 pub const NEXT: &str = "\n= ";
 
 /// The name of a row.
@@ -13,7 +13,7 @@ pub fn name_of(row: &'static str) -> &'static str {
     row.lines().next().unwrap_or("")
 }
 
-/// The lines of a row that stand behind this mark.
+/// The lines of a row after this mark.
 fn behind(alloc: Global, row: &str, mark: &str) -> Result<String, Fail> {
     let mut lines = String::new(alloc);
     for line in row.lines() {
@@ -30,8 +30,8 @@ pub fn lines_of(alloc: Global, row: &str) -> Result<String, Fail> {
     behind(alloc, row, "> ")
 }
 
-/// The name of the first row that does not hold, where so many hosts may stand: each line gets its answer behind the
-/// project's imports.
+/// The name of the first row that does not hold, if there may be so many hosts. After the project's imports each line
+/// must get its answer.
 pub fn first_wrong(
     alloc: Global,
     max_hosts: u32,

@@ -1,4 +1,4 @@
-//! The settings that a text of TOML tells.
+//! The settings in a text of TOML.
 
 use office_files::{SettingsFault, settings_of};
 use std::alloc::Global;
@@ -10,7 +10,7 @@ const SIX: &str =
 const SEVEN: &str =
     "daily_result_quota = 4\nmax_hosts = 3\nmax_wus_in_progress = 3\nmax_wus_to_send = 2\noperator_key = \"opkey-01\"\nrequest_delay = 60\nresend_lost_results = true\n";
 
-/// Whether a text tells the settings that the program has where none are told.
+/// Whether a text has the settings that the program has by default.
 fn tells_the_defaults(alloc: Global, text: &str) -> Result<bool, SettingsFault> {
     let told = settings_of(alloc, text)?;
     Ok(

@@ -1,5 +1,5 @@
-//! A stop at each call of the disk: the files are opened again as the stop left them, and the messages go on from the one in
-//! flight.
+//! A stop at each call of the disk. The files are opened again as the stop left them, and the messages continue with
+//! the one in flight.
 
 ghost use Rattle.std.specs.Prelude.{IsTrue, IfOk};
 ghost use Rattle.sqlite_disk.specs.Memory.{memory_is_usable};
@@ -28,7 +28,7 @@ pub struct Image {
     db: Vec<u8>,
 }
 
-/// How many calls each of the two files passes on before it fails all.
+/// How many calls each of the two files lets through before it fails all calls.
 #[derive(Clone, Copy)]
 pub struct Fuses {
     log: u64,
@@ -36,7 +36,7 @@ pub struct Fuses {
 }
 
 impl Fuses {
-    /// The log, or the database file, passes on so many calls, and the other never fails.
+    /// The log, or the database file, lets so many calls through, and the other never fails.
     pub fn behind(calls: u64, in_log: bool) -> Fuses {
         let mut fuses = LASTING;
         if in_log {
@@ -54,7 +54,7 @@ pub const LASTING: Fuses = Fuses {
     db: u64::MAX,
 };
 
-/// A disk on which these bytes stand.
+/// A disk that holds these bytes.
 fn disk(alloc: Global, bytes: &[u8]) -> Result<Memory, Fail>
     ensures { IfOk result (λ d. IsTrue (memory_is_usable d)) }
 {
@@ -66,7 +66,7 @@ fn disk(alloc: Global, bytes: &[u8]) -> Result<Memory, Fail>
     Ok(disk)
 }
 
-/// What files hold behind a stop: what was synced.
+/// What files hold after a stop: what was synced.
 fn image_of(alloc: Global, mut files: Files<Fuse<Memory>>) -> Result<Image, Fail> {
     files.log.crash();
     files.db.crash();
@@ -76,9 +76,9 @@ fn image_of(alloc: Global, mut files: Files<Fuse<Memory>>) -> Result<Image, Fail
     })
 }
 
-/// A store that leaves files.
+/// A store whose files are left at the end.
 pub trait Leaves {
-    /// What its files hold behind a stop.
+    /// What its files hold after a stop.
     fn stopped(self, alloc: Global) -> Result<Image, Fail>;
 
     /// What its files hold when it is closed.
@@ -107,14 +107,14 @@ pub trait Deed: Copy {
         conn: Connection<S>,
     ) -> Result<Self::Shown, Fail>;
 
-    /// What shows where one of the files failed while they were opened, which left this.
+    /// What it shows if one of the files failed while they were opened; the files then held this.
     fn unopened(self, _alloc: Global, _left: Image) -> Result<Self::Shown, Fail> {
         Err(Fail::new("the files are not opened"))
     }
 }
 
-/// What a deed shows over the database in files that fail behind so many calls. (This alone owns a connection to such files by
-/// name, since the proof of each function that does takes a minute.)
+/// What a deed shows over the database in files that fail after so many calls. (Only this function names a connection
+/// to such files, since the proof of each function that does takes a minute.)
 pub fn done_in<D: Deed>(
     alloc: Global,
     image: &Image,
@@ -139,7 +139,7 @@ pub fn empty(alloc: Global) -> Image {
     }
 }
 
-/// New tables are made.
+/// Makes new tables.
 #[derive(Clone, Copy)]
 struct Create;
 
@@ -155,7 +155,7 @@ impl Deed for Create {
     }
 }
 
-/// What a query tells of each table, row by row.
+/// The queries that print the tables, row by row.
 const ROWS_TOLD: &[&str] = &[
     "SELECT name || ' ' || value FROM setting ORDER BY name",
     "SELECT id || ' ' || auth || ' ' || name FROM account ORDER BY id",
@@ -184,7 +184,7 @@ fn rows_told<S: Alter>(alloc: Global, conn: &mut Connection<S>) -> Result<String
     Ok(told)
 }
 
-/// All rows of the tables are told.
+/// Shows all rows of the tables.
 #[derive(Clone, Copy)]
 pub struct TellRows;
 
@@ -200,7 +200,7 @@ impl Deed for TellRows {
     }
 }
 
-/// What arrives: the imports of the project, and the messages of a row in which a job is late.
+/// The arrivals: the imports of the project, and the messages of a row in which a job is late.
 fn arrivals(alloc: Global) -> Result<Vec<Arrival>, Fail> {
     let row = lapses::ROWS.split(NEXT).nth(1).unwrap_or("");
     let lines = format!(in alloc; "{PROJECT}{}", lines_of(alloc, row)?)?;
@@ -211,8 +211,8 @@ fn arrivals(alloc: Global) -> Result<Vec<Arrival>, Fail> {
     Ok(arrivals)
 }
 
-/// The answers to the arrivals up to the first that is unavailable; it fails where a store that a fault has shut gives another
-/// behind it. (It has no clause, so that the proof of a test does not carry what many messages do.)
+/// The answers to the arrivals up to the first that is unavailable. It fails if a store that a fault has shut gives
+/// another answer after it. (It has no clause, so the proof of a test does not carry what many messages do.)
 fn answered<S: Store>(
     alloc: Global,
     service: &mut Service<S>,
@@ -233,7 +233,7 @@ fn answered<S: Store>(
     Ok(answers)
 }
 
-/// The answers to the arrivals over a store up to the first that is unavailable, and the store behind them.
+/// The answers to the arrivals over a store up to the first that is unavailable, and the store after them.
 fn served<S: Store + Drop>(
     alloc: Global,
     store: S,
@@ -244,7 +244,7 @@ fn served<S: Store + Drop>(
     Ok((answers, service.into_tables()))
 }
 
-/// Arrivals are answered up to a stop. It shows the answers, and what the files hold then, where that may be another thing.
+/// Answers arrivals up to a stop. It shows the answers, and what the files hold then, if that may have changed.
 #[derive(Clone, Copy)]
 struct Serve<'a> {
     arrivals: &'a [Arrival],
@@ -290,19 +290,19 @@ fn whole(alloc: Global, mut image: Image, arrivals: &[Arrival]) -> Result<Unstop
     Ok(Unstopped { answers, rows })
 }
 
-/// How a run over files of which one may stop ended.
+/// How a run over files ended, if one of them may stop.
 #[derive(Clone, Copy, Debug, PartialEq, Eq)]
 enum Ran {
     /// Neither file stopped.
     Through,
-    /// One stopped, and all went on behind it as with no stop.
+    /// One stopped, and after that everything went on as without a stop.
     On,
-    /// Something was lost, doubled or told otherwise.
+    /// Something was lost, doubled or answered otherwise.
     Wrong,
 }
 
-/// Whether the answers are those of a run with no stop. The one to the arrival in flight may tell that nothing lapsed, where
-/// its tick was in.
+/// Whether the answers are those of a run with no stop. If the arrival in flight was a tick that was already stored,
+/// its answer may say that nothing lapsed.
 fn are_answers(answers: &[Answer], whole: &[Answer], in_flight: Option<usize>) -> bool {
     answers.len() == whole.len()
         && answers.iter().zip(whole).enumerate().all(|(at, (answer, wanted))| {
@@ -313,7 +313,8 @@ fn are_answers(answers: &[Answer], whole: &[Answer], in_flight: Option<usize>) -
         })
 }
 
-/// Sends the arrivals from the one in flight on, behind a stop that left this: whether all is then as with no stop.
+/// Sends the arrivals from the one in flight on, after a stop that left these files. Returns whether everything is then
+/// as without a stop.
 fn goes_on(
     alloc: Global,
     mut answers: Vec<Answer>,
@@ -343,7 +344,7 @@ fn goes_on(
     )
 }
 
-/// Serves the arrivals over files with fuses; behind a stop the files are opened again, and the rest is sent.
+/// Serves the arrivals over files with fuses. After a stop the files are opened again, and the rest is sent.
 fn ran_over(
     alloc: Global,
     image: &Image,
@@ -362,10 +363,11 @@ fn ran_over(
     Ok(Ran::Wrong)
 }
 
-/// The most calls behind which a file is made to stop.
+/// The most calls after which a file is made to stop.
 pub const MOST_CALLS: u64 = 100_000;
 
-/// How many stops of the log, or of the database file, all went on as with no stop; none where one did not.
+/// How many stops of the log, or of the database file, there were, if after each one everything went on as without a
+/// stop. If not, none.
 fn stops_survived(alloc: Global, in_log: bool) -> Result<Option<u64>, Fail> {
     let image = done_in(alloc, &empty(alloc), LASTING, Create)?;
     let arrivals = arrivals(alloc)?;
@@ -404,7 +406,7 @@ fn a_stop_of_the_database_file_at_each_call_loses_nothing(rt: HostRuntime) -> Re
     Ok(())
 }
 
-/// How serving one connection of two over a store ends that sent a message each, and what the first one's client gets.
+/// Serves two connections, which each sent a message: how this ends, and what the first one's client gets.
 fn served_on_a_socket<S: Store>(
     rt: &HostRuntime,
     service: &mut Service<S>,
@@ -430,7 +432,7 @@ fn served_by<S: Store + Drop>(
     served_on_a_socket(rt, &mut service_over(rt.alloc(), store)?, message)
 }
 
-/// One connection of two is served that sent a message each.
+/// Serves two connections, which each sent a message.
 #[derive(Clone, Copy)]
 struct ServeOn<'a> {
     rt: &'a HostRuntime,
@@ -460,14 +462,14 @@ impl Deed for ServeOn<'_> {
     }
 }
 
-/// Whether serving ended as it does where a fault shut the store, behind an answer that says so.
+/// Whether serving ended as it does if a fault shut the store, after an answer that says so.
 fn ended_by_a_fault(alloc: Global, ended: Failure, answer: &str) -> Result<bool, Fail> {
     let line = format!(in alloc; "{ended}")?;
     Ok(ended.status() == 2 && line.as_str() == "unavailable" && answer.starts_with("HTTP/1.1 503 "))
 }
 
-/// Whether serving over a log that fails behind each of its calls in turn ends by a fault where it ends, and does so at least once.
-/// (A log that fails before a commit's last byte leaves the store open: then serving goes on.)
+/// Serves over a log that fails after each of its calls in turn. Whether serving ends only by faults, and does so at
+/// least once. (A log that fails before a commit's last byte leaves the store open: then serving continues.)
 fn ends_by_faults(rt: &HostRuntime) -> Result<bool, Fail> {
     let image = done_in(rt.alloc(), &empty(rt.alloc()), LASTING, Create)?;
     let arrivals = arrivals(rt.alloc())?;

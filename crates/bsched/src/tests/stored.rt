@@ -14,23 +14,23 @@ use std::str;
 use std::test::Fail;
 use stores::Store;
 
-/// The rows of two workunits: for one a single result is enough.
+/// The rows of two workunits; for one of them a single result is enough.
 pub const WORKUNITS: &str =
     "1970-01-01T00:00:00Z import/workunits/a0 \"name,app,min_quorum,target_nresults,max_error_results,max_total_results,max_success_results,delay_bound,rsc_fpops_est,rsc_memory_bound,rsc_disk_bound,credit\\nw1,dock,1,1,3,6,4,7200,3600000,1000,1000,5000\\nw2,dock,2,2,3,6,4,7200,3600000,1000,1000,5000\\n\"\n";
 
-/// What Ann's host tells in its next call: it has one job yet, and reports the other.
+/// What Ann's host says in its next call: it still has one job, and reports the other.
 const REPORT: &str =
     "1970-01-01T00:33:20Z scheduler {\"authenticator\":\"k1\",\"rpc_seqno\":2,\"host_info\":{\"host_cpid\":\"c1\",\"p_fpops\":1000,\"m_nbytes\":8000,\"d_free\":9000},\"platform_name\":\"linux\",\"other_results\":[\"w2_0\"],\"results\":[{\"name\":\"w1_0\",\"exit_status\":0,\"output\":\"42\"}]}\n";
 
-/// The lines of a short life: the project, a call that gets a job of each workunit, a report that makes a quorum, the same
-/// call again, an older one, and a tick. One instance is held then, one waits, and one is valid.
+/// The lines of a short life: the project, a call that gets a job of each workunit, a report that makes a quorum. Then
+/// come the same call again, an older one, and a tick. At the end one instance is held, one waits, and one is valid.
 fn lines(alloc: Global) -> Result<String, Fail> {
     Ok(format!(in alloc;
         "{PROJECT}{WORKUNITS}{CALL_START},\"work_req_seconds\":7200}}\n{REPORT}{REPORT}{CALL_START}}}\n1970-01-01T00:50:00Z tick\n"
     )?)
 }
 
-/// Runs a statement. (It has no clause, so that the proof of a test does not carry what each statement does.)
+/// Runs a statement. (It has no clause, so the proof of a test does not carry what each statement does.)
 pub fn run<S: Alter>(
     conn: &mut Connection<S>,
     sql: &str,
@@ -39,7 +39,7 @@ pub fn run<S: Alter>(
     conn.execute(sql, params)
 }
 
-/// Has a service answer these lines.
+/// Lets a service answer these lines.
 fn answer_lines<S: Store>(
     alloc: Global,
     service: &mut Service<S>,
@@ -69,7 +69,7 @@ pub fn with_lines<S: Alter + Drop>(
     Ok(after_lines(alloc, tables, lines)?.into_connection())
 }
 
-/// A database in memory with tables after these lines, in which five hosts may stand.
+/// A database in memory with tables after these lines, in which there may be five hosts.
 pub fn filled_with(alloc: Global, lines: &[u8]) -> Result<Connection<MemStore>, Fail> {
     with_lines(alloc, Connection::open_in_memory(alloc)?, lines)
 }
@@ -79,7 +79,7 @@ fn filled(alloc: Global) -> Result<Connection<MemStore>, Fail> {
     filled_with(alloc, lines(alloc)?.as_bytes())
 }
 
-/// How the tables of a database are refused after a statement, or none where they are opened.
+/// How the tables of a database are refused after a statement; none if they are opened.
 pub fn refused_after<S: Alter + Drop>(
     alloc: Global,
     mut conn: Connection<S>,
@@ -97,7 +97,7 @@ const OTHERS: &[&str] = &[
     "CREATE INDEX further ON unit (credit)",
 ];
 
-/// Statements that spoil a row: a value past its range, one that is missing, a gap, a double count.
+/// Statements that spoil a row: a value out of range, one that is missing, a gap, a double count.
 const SPOILED: &[&str] = &[
     "DELETE FROM setting WHERE name = 'max_hosts'",
     "UPDATE account SET auth = 'k 1' WHERE id = 1",
@@ -111,7 +111,7 @@ const SPOILED: &[&str] = &[
     "UPDATE batch SET kind = 'files' WHERE kind = 'apps'",
 ];
 
-/// The first of the statements after which the tables are not refused so.
+/// The first of the statements after which the tables are not refused in this way.
 fn first_taken(
     alloc: Global,
     statements: &[&'static str],
@@ -140,7 +140,7 @@ fn spoiled_rows_are_refused(rt: HostRuntime) -> Result<(), Fail> {
     Ok(())
 }
 
-/// How new tables in a database are refused, or none where they are made.
+/// How making new tables in a database is refused; none if they are made.
 fn refused_to_make<S: Alter + Drop>(
     alloc: Global,
     conn: Connection<S>,
@@ -158,17 +158,17 @@ fn tables_are_no_new_tables(rt: HostRuntime) -> Result<(), Fail> {
     Ok(())
 }
 
-/// What is to be seen of a database in a file, which is closed then.
+/// What a database in a file must show. It is closed afterwards.
 #[derive(Drop)]
 enum Seen<'a> {
     /// New tables are made.
     Made,
-    /// Behind this line its tables tell this.
+    /// After this line its tables give this answer.
     Told { line: &'a str, told: &'a str },
 }
 
 impl Seen<'_> {
-    /// Whether it is seen of a database.
+    /// Whether a database shows it.
     fn is_seen_in<S: Alter + Drop>(
         &self,
         alloc: Global,
@@ -193,7 +193,7 @@ impl Visit for Seen<'_> {
     }
 }
 
-/// Whether a line over the tables of a database is told this.
+/// Whether a line over the tables of a database gets this answer.
 fn is_told_over<S: Alter + Drop>(
     alloc: Global,
     conn: Connection<S>,
@@ -204,7 +204,7 @@ fn is_told_over<S: Alter + Drop>(
     Ok(printed.as_slice() == told.as_bytes())
 }
 
-/// Whether this is seen of the database in a file.
+/// Whether the database in a file shows this.
 fn is_seen_in_file(rt: &HostRuntime, path: &str, seen: &Seen<'_>) -> Result<bool, Fail> {
     match visit_file(rt, path, seen) {
         Ok(seen) => seen,
@@ -212,7 +212,7 @@ fn is_seen_in_file(rt: &HostRuntime, path: &str, seen: &Seen<'_>) -> Result<bool
     }
 }
 
-/// Whether the tables in a file, which is opened for each line and closed behind it, tell this line by line.
+/// Whether the tables in a file give these answers, line by line. The file is opened for each line and closed after it.
 fn are_told_in_file(rt: &HostRuntime, path: &str, lines: &str, told: &str) -> Result<bool, Fail> {
     for (line, told) in lines.split_inclusive('\n').zip(told.split_inclusive('\n')) {
         if !is_seen_in_file(rt, path, &Seen::Told { line, told })? {
@@ -222,7 +222,7 @@ fn are_told_in_file(rt: &HostRuntime, path: &str, lines: &str, told: &str) -> Re
     Ok(true)
 }
 
-/// Whether new tables in a file, which is closed behind each of these lines, tell what tables in memory tell.
+/// Whether new tables in a file, which is closed after each of these lines, give the answers of tables in memory.
 fn answers_on(rt: &HostRuntime, path: &str, lines: &str) -> Result<bool, Fail> {
     let (told, _) = replayed(rt.alloc(), lines.as_bytes())?;
     let told = str::from_utf8(&told).unwrap_or("");
@@ -233,7 +233,8 @@ fn answers_on(rt: &HostRuntime, path: &str, lines: &str) -> Result<bool, Fail> {
     )
 }
 
-/// The lines of a life in which a workunit takes a class, and a host that lost its job comes back with a version of another.
+/// The lines of a life in which a workunit takes a class. A host that lost its job comes back with a version of another
+/// class.
 fn lines_of_a_class(alloc: Global) -> Result<String, Fail> {
     let row = classes::ROWS.split(NEXT).nth(2).unwrap_or("");
     Ok(format!(in alloc; "{PROJECT}{}", lines_of(alloc, row)?)?)

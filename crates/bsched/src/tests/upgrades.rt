@@ -1,4 +1,4 @@
-//! Tables of the earlier schemas, which are carried over to the newest one.
+//! Tables of the earlier schemas, which are upgraded to the newest one.
 
 use super::rows::{NEXT, lines_of, name_of};
 use super::stops::{Deed, Fuses, Image, LASTING, Leaves, MOST_CALLS, TellRows, done_in, empty};
@@ -26,14 +26,15 @@ fn lines(alloc: Global) -> Result<String, Fail> {
 /// A schema before the newest one.
 #[derive(Clone, Copy)]
 enum Former {
-    /// Of each host it keeps one call.
+    /// It keeps one call of each host.
     First,
-    /// It has a table more, for several calls of a host.
+    /// It has one more table, for several calls of a host.
     Second,
 }
 
 impl Former {
-    /// How the kept calls are read, and put into this schema's tables: in the first, of the calls of a host the last one stays.
+    /// The statement that reads the kept calls, and the one that inserts them into this schema's tables. In the first
+    /// schema the last call of a host stays.
     fn calls(self) -> (&'static str, &'static str) {
         match self {
             Former::First => (
@@ -60,7 +61,7 @@ impl Former {
 const KEPT4: &str =
     "CREATE TABLE kept4 (host_id INTEGER NOT NULL REFERENCES host, slot INTEGER NOT NULL, seqno INTEGER NOT NULL, text TEXT NOT NULL, reply TEXT NOT NULL, PRIMARY KEY (host_id, slot)) STRICT";
 
-/// How the rows of each table but for kept calls are read, and put into an earlier schema's.
+/// The statements that read the rows of each table, except kept calls, and insert them into an earlier schema's.
 const COPIED: &[(&str, &str)] = &[
     (
         "SELECT name, value FROM setting ORDER BY rowid",
@@ -96,7 +97,7 @@ const COPIED: &[(&str, &str)] = &[
     ),
 ];
 
-/// Puts the rows that a statement shows by another.
+/// Inserts the rows that one statement reads by another statement.
 fn copy_rows<F: Alter, T: Alter>(
     alloc: Global,
     from: &mut Connection<F>,
@@ -114,7 +115,7 @@ fn copy_rows<F: Alter, T: Alter>(
     Ok(())
 }
 
-/// Makes tables of an earlier schema in an empty database, with the rows that these tables of the newest one have.
+/// Makes tables of an earlier schema in an empty database, with the rows of these tables of the newest one.
 fn make_former<F: Alter, T: Alter>(
     alloc: Global,
     newest: &mut Connection<F>,
@@ -134,7 +135,7 @@ fn make_former<F: Alter, T: Alter>(
     Ok(())
 }
 
-/// Tables of an earlier schema in memory, with the rows that these tables of the newest one have.
+/// Tables of an earlier schema in memory, with the rows of these tables of the newest one.
 fn former_of<F: Alter>(
     alloc: Global,
     newest: &mut Connection<F>,
@@ -154,7 +155,7 @@ fn filled_former(alloc: Global, former: Former) -> Result<Connection<MemStore>, 
     )
 }
 
-/// What lines over the tables of a database are told.
+/// The answers to lines over the tables of a database.
 fn told_over<S: Alter + Drop>(
     alloc: Global,
     conn: Connection<S>,
@@ -164,7 +165,7 @@ fn told_over<S: Alter + Drop>(
     Ok(String::from_str(alloc, str::from_utf8(&printed).unwrap_or(""))?)
 }
 
-/// What lines over tables that were upgraded are told.
+/// The answers to lines over tables that were upgraded.
 fn told_upgraded(alloc: Global, schema: Former, lines: &str) -> Result<String, Fail> {
     let mut conn = filled_former(alloc, schema)?;
     let schema = upgrade(alloc, &mut conn)?;
@@ -180,7 +181,7 @@ fn first(alloc: Global) -> Result<String, Fail> {
     Ok(format!(in alloc; "{CALL_START},\"work_req_seconds\":7200}}\n")?)
 }
 
-/// The replies to the first call and to the second, as they were told first.
+/// The replies to the first call and to the second, as they were given first.
 fn replies(alloc: Global) -> Result<String, Fail> {
     let told = told_over(alloc, filled_with(alloc, &[])?, lines(alloc)?.as_str())?;
     let mut replies = String::new(alloc);
@@ -226,7 +227,7 @@ fn an_upgrade_of_the_second_schema_keeps_all_calls(rt: HostRuntime) -> Result<()
     Ok(())
 }
 
-/// What the statements of all hosts tell.
+/// The statements of all hosts.
 fn statements<S: Alter + Drop>(alloc: Global, conn: Connection<S>) -> Result<String, Fail> {
     let mut lines = String::new(alloc);
     for host in 1..=5u32 {
@@ -236,8 +237,8 @@ fn statements<S: Alter + Drop>(alloc: Global, conn: Connection<S>) -> Result<Str
     told_over(alloc, conn, lines.as_str())
 }
 
-/// Whether tables of the first schema with the rows of these tables of the newest one tell the same statements when they are
-/// upgraded.
+/// Whether tables of the first schema, with the rows of these tables of the newest one, give the same statements once
+/// they are upgraded.
 fn tells_as_before<S: Alter + Drop>(
     alloc: Global,
     mut newest: Connection<S>,
@@ -247,7 +248,7 @@ fn tells_as_before<S: Alter + Drop>(
     Ok(statements(alloc, conn)? == statements(alloc, newest)?)
 }
 
-/// The name of the first row after which tables of the first schema, upgraded, tell other statements.
+/// The name of the first row after which tables of the first schema, once upgraded, give other statements.
 fn first_upgraded_otherwise(
     alloc: Global,
     text: &'static str,
@@ -279,8 +280,8 @@ fn an_upgrade_keeps_lapses_and_failures(rt: HostRuntime) -> Result<(), Fail> {
     Ok(())
 }
 
-/// The number of the schema of which the tables of a database are, by how they are opened; none where they are of no schema,
-/// or have a bad row.
+/// The number of the schema of a database's tables, found by opening them; none if they are of no schema, or have a bad
+/// row.
 fn schema_of<S: Alter + Drop>(alloc: Global, conn: Connection<S>) -> Option<u32> {
     match Tables::open(alloc, conn).err() {
         Some(OpenFault::OldSchema(number)) => Some(number),
@@ -305,7 +306,7 @@ fn tables_of_an_earlier_schema_are_old(rt: HostRuntime) -> Result<(), Fail> {
     Ok(())
 }
 
-/// Tables of the first schema are made, with the rows of a project in which a host called twice.
+/// Makes tables of the first schema, with the rows of a project in which a host called twice.
 #[derive(Clone, Copy)]
 struct MakeFirst;
 
@@ -323,7 +324,7 @@ impl Deed for MakeFirst {
     }
 }
 
-/// The tables are upgraded. It shows the number of their schema, or how they are refused, and what the files hold then.
+/// Upgrades the tables. It shows the number of their schema, or how they are refused, and what the files hold then.
 #[derive(Clone, Copy)]
 struct Upgrade;
 
@@ -348,7 +349,8 @@ impl Deed for Upgrade {
     }
 }
 
-/// The number of the schema of whole tables is told, by how they are opened; none where they are of no schema, or have a bad row.
+/// Shows the number of the schema of whole tables, found by opening them; none if they are of no schema, or have a bad
+/// row.
 #[derive(Clone, Copy)]
 struct TellSchema;
 
@@ -364,8 +366,8 @@ impl Deed for TellSchema {
     }
 }
 
-/// The number of the schema that a stop left of an upgrade, of which the tables are whole: they are upgraded to these rows. None
-/// where they are of no schema, or upgraded otherwise.
+/// The number of the schema that a stop of an upgrade left, if its tables are whole and can be upgraded to these rows.
+/// None if they are of no schema, or are upgraded to others.
 fn schema_left(alloc: Global, left: &Image, rows: &str) -> Result<Option<u32>, Fail> {
     let schema = done_in(alloc, left, LASTING, TellSchema)?;
     let (ended, image) = done_in(alloc, left, LASTING, Upgrade)?;
@@ -375,8 +377,8 @@ fn schema_left(alloc: Global, left: &Image, rows: &str) -> Result<Option<u32>, F
     Ok(None)
 }
 
-/// The numbers of the schemas that the stops of an upgrade left whole, of the log or of the database file, one for each call
-/// of it; none where one left no schema whole.
+/// The numbers of the schemas that were left whole when the log, or the database file, stopped at each call of an
+/// upgrade in turn. None if one stop left no schema whole.
 fn schemas_left(alloc: Global, in_log: bool) -> Result<Option<Vec<u32>>, Fail> {
     let image = done_in(alloc, &empty(alloc), LASTING, MakeFirst)?;
     let (_, whole) = done_in(alloc, &image, LASTING, Upgrade)?;
@@ -395,8 +397,8 @@ fn schemas_left(alloc: Global, in_log: bool) -> Result<Option<Vec<u32>>, Fail> {
     Ok(None)
 }
 
-/// Whether each stop of an upgrade, of the log or of the database file, left tables of one schema whole, and some those before
-/// each step of it.
+/// Whether each stop of an upgrade, of the log or of the database file, left the tables of one schema whole. Some stop
+/// must leave those before each step.
 fn leaves_one_schema_whole(alloc: Global) -> Result<bool, Fail> {
     let in_log = schemas_left(alloc, true)?.unwrap_or(Vec::new(alloc));
     Ok(in_log.contains(&1) && in_log.contains(&2) && schemas_left(alloc, false)?.is_some())

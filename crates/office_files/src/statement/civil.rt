@@ -11,10 +11,10 @@ use sched_book::Unavailable;
 use std::alloc::Global;
 use texts::{Memory, Text};
 
-/// The last second of which `jiff` tells the civil date and time at every offset, late in the year 9999.
+/// The last second for which `jiff` gives the civil date and time at every offset, late in the year 9999.
 const LAST_SECOND: u64 = 253_402_207_200;
 
-/// What a clock in UTC shows at a moment, in seconds since 1970-01-01T00:00:00Z, up to [`LAST_SECOND`].
+/// The date and time in UTC at a moment, in seconds since 1970-01-01T00:00:00Z, up to [`LAST_SECOND`].
 fn civil_of(moment: u64) -> Option<DateTime>
     ensures told { IfSome result (λ civil. civil_nanos civil ≡ pos (moment * 1_000_000_000)) }
     ensures late { IfNone result (spec.last_civil < moment) }
@@ -28,7 +28,7 @@ fn civil_of(moment: u64) -> Option<DateTime>
     }
 }
 
-/// The text of a date and time of a whole second.
+/// The text of a date and time at a whole second.
 fn text_of(alloc: Global, civil: DateTime) -> Result<Text, Memory>
     ensures { IfOk result (λ text. text ≡ date_text civil.date ++ 32 ∷ time_text None civil.time) }
 {
@@ -36,7 +36,8 @@ fn text_of(alloc: Global, civil: DateTime) -> Result<Text, Memory>
     Ok(Text::of(format!(in alloc; "{date} {time}")?))
 }
 
-/// The civil date and time of a moment, in UTC, as `2024-06-19 17:30:05`. A moment past [`LAST_SECOND`] is refused.
+/// Returns the civil date and time of a moment, in UTC, such as `2024-06-19 17:30:05`. A moment after [`LAST_SECOND`]
+/// is refused.
 #[tactic(auto, using(crate::proofs::CivilTexts::text_is))]
 pub(super) fn civil_text(alloc: Global, moment: u64) -> Result<Text, Unavailable>
     ensures { IfOk result (λ text. text ≡ spec.civil_text moment) }

@@ -11,14 +11,14 @@ pub struct Line {
     pub app: Text,
     /// When it was sent, in seconds since 1970-01-01T00:00:00Z.
     pub sent: u64,
-    /// The last second of its time, counted alike.
+    /// The last second at which its report is in time, since 1970-01-01T00:00:00Z.
     pub deadline: u64,
-    /// 5 where it is over, by a report or a lapse, and else 4.
+    /// 5 if it is over, by a report or a lapse, and else 4.
     pub server_state: u32,
     /// 1 for a success, 3 for a client error, 4 for a lapse with no report, and else 0.
     pub outcome: u32,
     /// 1 for a valid result, 2 for an invalid one, 3 for a report that was not judged, and else 0.
     pub validate_state: u32,
-    /// Millicredits: those of its workunit for a valid result, and else 0.
+    /// Millicredits: the workunit's for a valid result, and else 0.
     pub credit: u32,
 }

@@ -13,7 +13,7 @@ use sched_book::{Agreement, Desk, Instance, Place, Unavailable, Verdict, Workuni
 use std::alloc::Global;
 use texts::{Listed, Memory};
 
-/// The line of the instance of this number, by the verdict on it.
+/// The line of the instance of this number, with this verdict.
 fn line_by(
     alloc: Global,
     verdict: Option<Verdict>,
@@ -35,7 +35,7 @@ fn line_by(
     })
 }
 
-/// The line of the instance of this number, where the workunit has it.
+/// The line of the instance of this number, if the workunit has it.
 fn line_in(
     alloc: Global,
     agreement: Agreement,
@@ -71,7 +71,7 @@ fn line_of<D: Desk>(
     Ok(line_in(alloc, agreement, unit, instances.as_slice(), place.number)?)
 }
 
-/// The line of the instance at this place, where one stands.
+/// The line of the instance at this place, if there is one.
 fn line_at<D: Desk>(alloc: Global, desk: &mut D, place: Place) -> Result<Option<Line>, Unavailable>
     ensures reads { D.reads desk.old desk.new }
     ensures answer { Trusted D.Units desk.old desk.new (

@@ -1,4 +1,4 @@
-//! The text of a statement, by `csv`.
+//! The text of a statement, written by `csv`.
 
 ghost use Rattle.std.specs.Prelude.{◌≡◌, ◌<◌, ◌^◌, ◌++◌, ℕ, List, [], IfOk, OnOk, decimal, map};
 ghost use Rattle.std.specs.Option.{SomeIff};
@@ -150,7 +150,7 @@ fn write_total<W: Write + Drop>(
     )
 }
 
-/// The millicredits of all lines together, unless they are past what fits.
+/// The millicredits of all lines together, or `None` if they are too many.
 fn total_credit(lines: &[Line]) -> Option<u64>
     ensures { SomeIff result (spec.total_credit lines.now < 2 ^ 64) (spec.total_credit lines.now) }
 {

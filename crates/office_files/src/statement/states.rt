@@ -1,4 +1,4 @@
-//! What became of an instance, in the numbers of BOINC.
+//! What became of an instance, in BOINC's numbers.
 
 ghost use Rattle.std.specs.Prelude.{◌≡◌};
 ghost use Rattle.sched_book.specs.Places.{deadline_of};
@@ -6,7 +6,7 @@ ghost use Rattle.office_files.specs.Statements as spec;
 
 use sched_book::{Instance, Owner, Verdict, Workunit};
 
-/// 5 where an instance is over, by a report or a lapse, and 4 where it is in progress.
+/// 5 if an instance is over, by a report or a lapse, and 4 if it is in progress.
 pub(super) fn server_state(instance: &Instance) -> u32
     ensures { result ≡ spec.server_state instance.now }
 {
@@ -17,7 +17,7 @@ pub(super) fn server_state(instance: &Instance) -> u32
     }
 }
 
-/// 1 for a success, 3 for a client error; without a report 4 for a lapse, and 0 where nothing is known yet.
+/// 1 for a success, 3 for a client error; without a report 4 for a lapse, and 0 if nothing is known yet.
 pub(super) fn outcome(instance: &Instance) -> u32
     ensures { result ≡ spec.outcome instance.now }
 {
@@ -51,7 +51,7 @@ pub(super) fn credit(verdict: Option<Verdict>, unit: &Workunit) -> u32
     }
 }
 
-/// When an instance was sent, in seconds since 1970-01-01T00:00:00Z, 0 where it was not.
+/// When an instance was sent, in seconds since 1970-01-01T00:00:00Z; 0 if it was not sent.
 pub(super) fn sent(owner: &Option<Owner>) -> u64
     ensures { result ≡ spec.sent_of owner.now }
 {
@@ -61,7 +61,7 @@ pub(super) fn sent(owner: &Option<Owner>) -> u64
     }
 }
 
-/// The last second of an instance's time, counted alike, 0 where it was not sent.
+/// The last second at which an instance's report is in time, since 1970-01-01T00:00:00Z; 0 if it was not sent.
 pub(super) fn deadline(owner: &Option<Owner>) -> u64
     ensures { result ≡ deadline_of owner.now }
 {

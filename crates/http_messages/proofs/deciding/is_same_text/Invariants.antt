@@ -1,4 +1,4 @@
--- The bytes so far are the same, and those that are left: so are all.
+-- All bytes are the same exactly if those so far are, and the others are.
 use Rattle.std.proofs.Common.{◌≡◌, drop}
 use Rattle.std.specs.Prelude.{◌&&◌}
 use Rattle.std.specs.Str.{bytes_eq}

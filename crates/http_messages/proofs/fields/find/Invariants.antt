@@ -1,4 +1,4 @@
--- What was found so far, and what the fields that are left tell, is what all tell.
+-- What was found so far, with what the other fields say, is what all say.
 use Rattle.std.proofs.Common.{◌≡◌, drop, map}
 use Rattle.httparse.specs.Spans.{header_bytes}
 use Rattle.http_messages.specs.Fields.{found_told, told, values_of}

@@ -1,4 +1,4 @@
--- Where there is no room nothing was handled.
+-- If there was no room, nothing was handled.
 use Rattle.std.proofs.Common.{refl, inr}
 use Rattle.http_responses.specs.Answers.{answer_bytes}
 use Rattle.http_responses.specs.declared.answer.Answer.TheVariants.{Unavailable}

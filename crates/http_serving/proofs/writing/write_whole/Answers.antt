@@ -1,4 +1,4 @@
--- What is left of a slice is what stands behind its front.
+-- What is left of a slice is what follows its front.
 use Rattle.std.proofs.Common.{◌≡◌, arith, rules, length-drop}
 use Rattle.std.proofs.lemmas.List.{take_rest}
 use Rattle.http_serving.proofs.Writings.{Appends-more, WentOut-front, WentOut-kept}

@@ -1,4 +1,4 @@
--- The desk after a reading stands for the same world; the row at hand is taken or what is left decides.
+-- After a read the desk still represents the same world. If the row at hand is not taken, the rest decides.
 use Rattle.std.proofs.Common.{◌+◌, ◌<◌, sym, ◌∙◌, ap, length, take, arith, rules}
 use Rattle.std.specs.Prelude.{◌||◌}
 use Rattle.std.specs.List.{list_any}

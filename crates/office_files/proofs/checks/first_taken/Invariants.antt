@@ -4,7 +4,7 @@ use Rattle.sched_book.specs.Imports.{first_known}
 use Rattle.sched_book.specs.Keys.{Key, same_key, has_key}
 use Rattle.office_files.proofs.checks.first_taken.Given as goal
 
--- no name so far was taken, so what is left decides; and what came by are the keys so far
+-- no name so far was taken, so the rest decides; what was seen are the keys so far
 abbrev pub invariant-loop-index : goal.invariant-loop-index
 invariant-loop-index g l = record {
   reads : g.D.Units.reads l.fn.desk l.desk;

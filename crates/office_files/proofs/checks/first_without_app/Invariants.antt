@@ -5,7 +5,7 @@ use Rattle.sched_book.specs.Imports.{has_app}
 use Rattle.sched_book.specs.Places.{place_where}
 use Rattle.office_files.proofs.checks.first_without_app.Given as goal
 
--- the application of each row so far stands, so what is left decides
+-- the application of each row so far exists, so the rest decides
 abbrev pub invariant-loop-index : goal.invariant-loop-index
 invariant-loop-index g l = record {
   reads : g.D.Units.reads l.fn.desk l.desk;

@@ -1,4 +1,4 @@
--- The key of the row has come by, too.
+-- The key of the row was seen, too.
 use Rattle.std.proofs.Common.{◌∙◌, ap}
 use Rattle.std.specs.Prelude.{◌||◌}
 use Rattle.sched_book.specs.Keys.{same_key, lent_key, has_key}

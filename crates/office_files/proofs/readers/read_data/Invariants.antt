@@ -5,7 +5,7 @@ use Rattle.csv.specs.Records.{fields_of}
 use Rattle.office_files.specs.Importing.{row_of, rows_from}
 use Rattle.office_files.proofs.readers.read_data.Given as goal
 
--- what is read so far, and what is read of the records that are left, make what is read of all
+-- what is read so far, with what is read of the other records, is what is read of all
 abbrev pub invariant-loop-index : goal.invariant-loop-index
 invariant-loop-index g l =
     (rows_from (row_of g.R.ImportRow.reads l.field_count) 1 (map fields_of l.records)

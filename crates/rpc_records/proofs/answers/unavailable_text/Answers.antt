@@ -1,4 +1,4 @@
--- The text of a constant computes.
+-- The text of a constant is found by computing.
 use Rattle.std.proofs.Common.{refl}
 use Rattle.std.specs.Fmt.{digits}
 use Rattle.serde_json.proofs.OnLiterals.{serde_json_on_literals}

@@ -1,4 +1,4 @@
--- A request has no float, and its text is UTF-8, so it is read again.
+-- A request has no float, and its text is UTF-8, so it is read back.
 use Rattle.std.proofs.Common.{◌≡◌, List, ℕ, Ok, ap, ◌∙◌, sym, subst}
 use Rattle.std.proofs.lemmas.Str.{IsUtf8-string_bytes}
 use Rattle.std.specs.Prelude.{IsUtf8}
@@ -17,7 +17,7 @@ returns-clause-text c =
     let is = c.in_ok-value.ensures in
     c.of.ensures ∙ c.in_ok-to_string.ensures.text (ap has_float is ∙ no_float-request_json c.args.request.now) ∙ ap compact_text is
 
--- a text of bytes that are UTF-8, and are canonical
+-- a text whose bytes are UTF-8 and canonical
 read_again : (text : List ℕ) (r : Request) → text ≡ canonical_text r → IsUtf8 text → IsInRange r → meaning text ≡ Ok r
 read_again text r is utf8 range = ap meaning is ∙ meaning-canonical_text r range (subst IsUtf8 is utf8)
 

@@ -1,4 +1,4 @@
--- `from_slice` speaks of UTF-8 as a fact, and the definition as a test.
+-- In `from_slice` UTF-8 is a fact, and in the definition a test.
 use Rattle.std.proofs.Common.{◌≡◌, Bool, true, false, cond, Option, None, refl, sym, rules}
 use Rattle.std.proofs.lemmas.Str.{is_utf8-from_IsUtf8, IsUtf8-from_is_utf8}
 use Rattle.std.specs.Str.{is_utf8}

@@ -1,4 +1,4 @@
--- The reports so far, and what is read of the items that are left, make what is read of all.
+-- The reports so far, with what is read of the other items, are what is read of all.
 use Rattle.std.proofs.Common.{◌≡◌, ◌++◌, drop, option_map}
 use Rattle.serde_json.specs.View.{items_view}
 use Rattle.rpc_records.specs.Values.{all_in, report_in}

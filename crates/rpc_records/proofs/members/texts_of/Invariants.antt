@@ -1,4 +1,4 @@
--- The texts so far, and what is read of the items that are left, make what is read of all.
+-- The texts so far, with what is read of the other items, are what is read of all.
 use Rattle.std.proofs.Common.{◌≡◌, ◌++◌, drop, option_map}
 use Rattle.serde_json.specs.View.{items_view}
 use Rattle.rpc_records.specs.Values.{text_in, all_in}

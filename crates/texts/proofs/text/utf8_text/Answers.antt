@@ -1,4 +1,4 @@
--- Bytes are read as text exactly where they are UTF-8.
+-- Bytes are read as text exactly if they are UTF-8.
 use Rattle.std.proofs.Common.{arith}
 use Rattle.std.proofs.lemmas.Str.{is_utf8-from_IsUtf8, IsUtf8-from_is_utf8}
 use Rattle.texts.proofs.text.utf8_text.Goals as goal

@@ -1,4 +1,4 @@
--- UTC is at no distance from the instant.
+-- UTC has no offset from the instant.
 use Rattle.std.proofs.Common.{arith, ◌≡◌, ◌∙◌, ap, pos, ◌+ℤ◌, refl, w64, to_z}
 use Rattle.std.proofs.lemmas.Int.{to_z_pos}
 use Rattle.jiff.specs.Words.{civil_nanos, nanos_of_seconds, plain_zoned}

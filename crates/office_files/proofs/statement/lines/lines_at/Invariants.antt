@@ -2,7 +2,7 @@ use Rattle.std.proofs.Common.{◌≡◌, ◌++◌, drop}
 use Rattle.office_files.specs.Statements.{lines_at}
 use Rattle.office_files.proofs.statement.lines.lines_at.Given as goal
 
--- the lines so far, and those of the places that are left, are all
+-- the lines so far, and those of the other places, are all
 abbrev pub invariant-loop-place : goal.invariant-loop-place
 invariant-loop-place g l = record {
   reads : g.D.Units.reads l.fn.desk l.desk;

@@ -1,4 +1,4 @@
--- Behind the last line no credit is left.
+-- After the last line no credit is left.
 use Rattle.std.proofs.Common.{◌≡◌, ap, arith, drop}
 use Rattle.std.proofs.lemmas.List.{drop_all}
 use Rattle.office_files.specs.Statements.{total_credit}

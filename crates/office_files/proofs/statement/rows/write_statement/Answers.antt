@@ -1,4 +1,4 @@
--- The header, the lines and the total, one behind the other.
+-- The header, the lines and the total, one after the other.
 use Rattle.std.proofs.Common.{[], ◌++◌, subst}
 use Rattle.std.specs.Prelude.{OnOk}
 use Rattle.std.specs.List.{flat_map}

@@ -4,7 +4,7 @@ use Rattle.sched_server.specs.Arrivals.{Came, StoreStandsFor, HandledInTurn, fol
 use Rattle.sched_server.specs.Views.{store_of, key_of}
 use Rattle.sched_server.proofs.service.Service.run.Given as goal
 
--- the arrivals so far were answered, and the store stands for what came before and for them
+-- the arrivals so far were answered, and the store agrees with what came before and with them
 abbrev pub invariant-loop-arrival : goal.invariant-loop-arrival
 invariant-loop-arrival g l =
     (g.S.Units.honest (store_of l.self) → g.S.Units.honest (store_of l.fn.self))

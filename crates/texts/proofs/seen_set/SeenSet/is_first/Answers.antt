@@ -1,4 +1,4 @@
--- One key more came by.
+-- One more key was seen.
 use Rattle.std.proofs.Common.{◌∙◌, sym, ap}
 use Rattle.std.specs.BTreeSet.{contains}
 use Rattle.std.specs.Ordering.{is_eq}
