@@ -11,7 +11,9 @@ import project as bench_project
 CALLS = 300
 
 
-def life_of(seed: int, calls: int = CALLS, made: type[bench_project.Project] = bench_project.Project) -> bench_project.Project:
+def life_of(
+    seed: int, calls: int = CALLS, made: type[bench_project.Project] = bench_project.Project,
+) -> bench_project.Project:
     """A project of the plain scheduler that lived so many calls. Its lines are those of the life."""
     chosen = bench_project.random
     try:

@@ -67,15 +67,15 @@ class Twin:
         self.process.communicate(timeout=END)
 
 
-def tools(*words, seconds=60):
+def tools(*words: object, seconds: float = 60) -> tuple[int, str, str]:
     """What the tools print, and their status."""
-    words = [sys.executable, "-m", "bsched_tools", *map(str, words)]
+    command = [sys.executable, "-m", "bsched_tools", *map(str, words)]
     own = {"PYTHONPATH": str(TOOLS), "PYTHONDONTWRITEBYTECODE": "1"}
-    told = subprocess.run(words, capture_output=True, text=True, timeout=seconds, env={**os.environ, **own})
+    told = subprocess.run(command, capture_output=True, text=True, timeout=seconds, env={**os.environ, **own})
     return told.returncode, told.stdout, told.stderr
 
 
-def rows_of(path, query):
+def rows_of(path: Path, query: str) -> list[Any]:
     """The rows of a query over a file."""
     connection = sqlite3.connect(path)
     try:

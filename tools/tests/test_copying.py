@@ -8,6 +8,9 @@ import subprocess
 import sys
 import threading
 import time
+from collections.abc import Callable
+from pathlib import Path
+from typing import Any
 
 import pytest
 from small_project import END, TOOLS, Twin, make_tables, rows_of, tools
@@ -22,13 +25,13 @@ FROM kept4 JOIN host ON host.id = host_id JOIN account ON account.id = account_i
 """
 
 
-def state_of(pid):
+def state_of(pid: int) -> str:
     """The state of a process."""
     with open(f"/proc/{pid}/stat") as file:
         return file.read().rpartition(")")[2].split()[0]
 
 
-def goes_on(twin):
+def goes_on(twin: Twin) -> bool:
     """Whether a process goes on, at the latest after a second."""
     ends = time.monotonic() + 1
     while state_of(twin.process.pid) == "T" and time.monotonic() < ends:
@@ -36,7 +39,7 @@ def goes_on(twin):
     return state_of(twin.process.pid) != "T"
 
 
-def counted_parts(monkeypatch):
+def counted_parts(monkeypatch: pytest.MonkeyPatch) -> list[tuple[int, ...]]:
     """The files that are copied as a whole, one for each time."""
     parts, copy_bytes = [], taking.copy_bytes
     monkeypatch.setattr(taking, "copy_bytes", lambda *files: (parts.append(files), copy_bytes(*files)))
@@ -46,27 +49,27 @@ def counted_parts(monkeypatch):
 class Load:
     """Clients that call all the time."""
 
-    def __init__(self, twin, users=3):
+    def __init__(self, twin: Twin, users: int = 3) -> None:
         self.twin, self.told, self.is_over = twin, dict.fromkeys(range(1, users + 1), 0), False
         self.threads = [threading.Thread(target=self.live, args=(user,), daemon=True) for user in self.told]
         for thread in self.threads:
             thread.start()
 
-    def live(self, user):
+    def live(self, user: int) -> None:
         seqno = 0
         while not self.is_over:
             seqno += 1
             self.twin.call(user, seqno)
             self.told[user] = seqno
 
-    def end(self):
+    def end(self) -> None:
         self.is_over = True
         for thread in self.threads:
             thread.join(END)
             assert not thread.is_alive()
 
 
-def test_copies_under_load_have_what_was_answered(project, twin, copies):
+def test_copies_under_load_have_what_was_answered(project: Path, twin: Twin, copies: Path) -> None:
     load = Load(twin)
     try:
         for _ in range(15):
@@ -83,7 +86,9 @@ def test_copies_under_load_have_what_was_answered(project, twin, copies):
     assert len(list(copies.iterdir())) == 15  # no log, and nothing else, is left beside the copies
 
 
-def test_a_file_that_was_not_written_for_long_is_copied_before_the_stop(project, twin, copies, monkeypatch):
+def test_a_file_that_was_not_written_for_long_is_copied_before_the_stop(
+    project: Path, twin: Twin, copies: Path, monkeypatch: pytest.MonkeyPatch,
+) -> None:
     twin.call(1, 1)
     parts = counted_parts(monkeypatch)
     first = copying.copy_tables(project, copies)
@@ -93,10 +98,12 @@ def test_a_file_that_was_not_written_for_long_is_copied_before_the_stop(project,
     assert [dict(rows_of(copied.path, SEQNOS))["k1"] for copied in (first, second)] == [1, 2]
 
 
-def test_a_file_that_is_written_after_the_early_copy_is_copied_again(project, twin, copies, monkeypatch):
+def test_a_file_that_is_written_after_the_early_copy_is_copied_again(
+    project: Path, twin: Twin, copies: Path, monkeypatch: pytest.MonkeyPatch,
+) -> None:
     early = taking.Work.copy_early
 
-    def written_afterwards(work, descriptor):
+    def written_afterwards(work: taking.Work, descriptor: int) -> tuple[int, ...] | None:
         mark = early(work, descriptor)
         os.utime(project)
         return mark
@@ -107,7 +114,9 @@ def test_a_file_that_is_written_after_the_early_copy_is_copied_again(project, tw
     assert len(parts) == 2
 
 
-def test_a_file_that_is_always_written_is_copied_in_the_stop(project, twin, copies, monkeypatch):
+def test_a_file_that_is_always_written_is_copied_in_the_stop(
+    project: Path, twin: Twin, copies: Path, monkeypatch: pytest.MonkeyPatch,
+) -> None:
     monkeypatch.setattr(taking, "SETTLE_SECONDS", 0.1)
     monkeypatch.setattr(taking, "FINE_SECONDS", 1000)
     parts = counted_parts(monkeypatch)
@@ -116,10 +125,12 @@ def test_a_file_that_is_always_written_is_copied_in_the_stop(project, twin, copi
     assert len(parts) == 1 and dict(rows_of(copied.path, SEQNOS)) == {"k1": 1}
 
 
-def test_a_file_that_is_written_during_the_early_copy_is_copied_again(project, twin, copies, monkeypatch):
+def test_a_file_that_is_written_during_the_early_copy_is_copied_again(
+    project: Path, twin: Twin, copies: Path, monkeypatch: pytest.MonkeyPatch,
+) -> None:
     copy_bytes, parts = taking.copy_bytes, []
 
-    def written_meanwhile(*files):
+    def written_meanwhile(*files: int) -> None:
         copy_bytes(*files)
         parts.append(files)
         if len(parts) == 1:
@@ -130,13 +141,13 @@ def test_a_file_that_is_written_during_the_early_copy_is_copied_again(project, t
     assert len(parts) == 2
 
 
-def test_times_of_whole_seconds_are_not_trusted_soon(project):
+def test_times_of_whole_seconds_are_not_trusted_soon(project: Path) -> None:
     os.utime(project, (1, 1))
     with open(project) as file:
         assert taking.write_mark(file.fileno()) is None
 
 
-def killed_after(seconds, project, copies):
+def killed_after(seconds: float, project: Path, copies: Path) -> None:
     """Begins a copy, and kills it after some time."""
     words = [sys.executable, "-m", "bsched_tools", "copy", "--tables", str(project), "--to", str(copies)]
     path = {"PYTHONPATH": str(TOOLS)}
@@ -145,7 +156,7 @@ def killed_after(seconds, project, copies):
         copier.kill()
 
 
-def test_serving_goes_on_where_the_tool_is_killed(project, twin, copies):
+def test_serving_goes_on_where_the_tool_is_killed(project: Path, twin: Twin, copies: Path) -> None:
     chance = random.Random(1)
     for number in range(25):
         killed_after(chance.uniform(0.05, 0.25), project, copies)
@@ -153,7 +164,7 @@ def test_serving_goes_on_where_the_tool_is_killed(project, twin, copies):
         assert twin.call(1, number + 1)["rpc_seqno"] == number + 1
 
 
-def test_serving_goes_on_where_the_tool_is_killed_while_it_stands_still(project, twin):
+def test_serving_goes_on_where_the_tool_is_killed_while_it_stands_still(project: Path, twin: Twin) -> None:
     """The parent is killed within the stop: its child continues the process."""
     script = (
         "import sys, time; from bsched_tools import stopping\n"
@@ -171,7 +182,7 @@ def test_serving_goes_on_where_the_tool_is_killed_while_it_stands_still(project,
         assert goes_on(twin)
 
 
-def test_no_process_stands_still_beyond_the_limit(twin, monkeypatch):
+def test_no_process_stands_still_beyond_the_limit(twin: Twin, monkeypatch: pytest.MonkeyPatch) -> None:
     monkeypatch.setattr(stopping, "STILL_SECONDS", 0.2)
     with pytest.raises(Fault, match="within 0 seconds"), stopping.process_of(twin.process.pid) as process:
         with stopping.stopped(process):
@@ -180,7 +191,7 @@ def test_no_process_stands_still_beyond_the_limit(twin, monkeypatch):
     assert goes_on(twin)
 
 
-def test_a_process_that_ran_meanwhile_voids_the_copy(twin):
+def test_a_process_that_ran_meanwhile_voids_the_copy(twin: Twin) -> None:
     with pytest.raises(stopping.Retry, match="went on"), stopping.process_of(twin.process.pid) as process:
         with stopping.stopped(process):
             os.kill(twin.process.pid, signal.SIGCONT)
@@ -190,7 +201,9 @@ def test_a_process_that_ran_meanwhile_voids_the_copy(twin):
     assert goes_on(twin)
 
 
-def test_a_process_that_does_not_stop_goes_on(project, twin, copies, monkeypatch):
+def test_a_process_that_does_not_stop_goes_on(
+    project: Path, twin: Twin, copies: Path, monkeypatch: pytest.MonkeyPatch,
+) -> None:
     monkeypatch.setattr(stopping, "STOP_SECONDS", 0.01)
     monkeypatch.setattr(stopping, "is_still", lambda _states: False)
     monkeypatch.setattr(taking, "SEEK_SECONDS", 0.2)
@@ -210,7 +223,7 @@ time.sleep(60)
 """
 
 
-def test_locks_of_open_files(project, copies):
+def test_locks_of_open_files(project: Path, copies: Path) -> None:
     """bsched locks the file and its log by locks of the kind that names no process."""
     log = project.with_name("project.db-wal")
     log.write_bytes(b"")
@@ -225,14 +238,14 @@ def test_locks_of_open_files(project, copies):
             holder.kill()
 
 
-def test_a_process_that_stood_still_before_goes_on_too(project, twin, copies):
+def test_a_process_that_stood_still_before_goes_on_too(project: Path, twin: Twin, copies: Path) -> None:
     """So a copy mends what a killed tool left whose child was killed with it."""
     os.kill(twin.process.pid, signal.SIGSTOP)
     copied = copying.copy_tables(project, copies)
     assert copied.still_seconds is not None and goes_on(twin)
 
 
-def test_a_copy_has_the_owner_of_the_tables(project, copies):
+def test_a_copy_has_the_owner_of_the_tables(project: Path, copies: Path) -> None:
     try:
         os.chown(project, 1234, 1235)
     except PermissionError:
@@ -241,10 +254,12 @@ def test_a_copy_has_the_owner_of_the_tables(project, copies):
     assert (found.st_uid, found.st_gid) == (1234, 1235)
 
 
-def test_a_process_that_stops_at_the_second_try(project, twin, copies, monkeypatch):
+def test_a_process_that_stops_at_the_second_try(
+    project: Path, twin: Twin, copies: Path, monkeypatch: pytest.MonkeyPatch,
+) -> None:
     is_still, tries = stopping.is_still, []
 
-    def too_late_at_first(states):
+    def too_late_at_first(states: stopping.Threads) -> bool:
         tries.append(states)
         return len(tries) > 20 and is_still(states)
 
@@ -253,17 +268,19 @@ def test_a_process_that_stops_at_the_second_try(project, twin, copies, monkeypat
     assert copying.copy_tables(project, copies).still_seconds is not None and goes_on(twin)
 
 
-def test_tables_that_nobody_has(project, copies):
+def test_tables_that_nobody_has(project: Path, copies: Path) -> None:
     copied = copying.copy_tables(project, copies)
     assert copied.still_seconds is None
     assert rows_of(copied.path, "SELECT count(*) FROM unit") == [(20,)]
     assert copied.path.stat().st_mode & 0o777 == 0o600
 
 
-def test_nobody_begins_while_a_copy_is_made(project, copies, monkeypatch):
+def test_nobody_begins_while_a_copy_is_made(
+    project: Path, copies: Path, monkeypatch: pytest.MonkeyPatch,
+) -> None:
     rest, tried = taking.Work.copy_rest, []
 
-    def tries_to_begin(work, *words):
+    def tries_to_begin(work: taking.Work, *words: Any) -> bytes:
         with pytest.raises(sqlite3.OperationalError, match="locked"):
             sqlite3.connect(project, timeout=0).execute("UPDATE setting SET value = 1")
         with open(project, "rb+") as file:  # as bsched does
@@ -277,7 +294,7 @@ def test_nobody_begins_while_a_copy_is_made(project, copies, monkeypatch):
     Twin(project).end()
 
 
-def test_a_reader_is_named(project, copies, monkeypatch):
+def test_a_reader_is_named(project: Path, copies: Path, monkeypatch: pytest.MonkeyPatch) -> None:
     monkeypatch.setattr(taking, "SEEK_SECONDS", 0)
     reads = "c.execute('SELECT * FROM unit')"
     script = f"import sqlite3; c = sqlite3.connect({str(project)!r}); {reads}; input()"
@@ -290,7 +307,9 @@ def test_a_reader_is_named(project, copies, monkeypatch):
         reader.stdin.close()
 
 
-def test_the_process_is_found_by_the_file_and_not_by_its_name(project, twin, copies, tmp_path):
+def test_the_process_is_found_by_the_file_and_not_by_its_name(
+    project: Path, twin: Twin, copies: Path, tmp_path: Path,
+) -> None:
     os.rename(project, tmp_path / "other.db")
     os.rename(f"{project}-wal", tmp_path / "other.db-wal")
     os.symlink("other.db", tmp_path / "link.db")
@@ -299,7 +318,9 @@ def test_the_process_is_found_by_the_file_and_not_by_its_name(project, twin, cop
     assert copied.path.name.startswith("other-")
 
 
-def test_another_log_in_the_place_of_the_one_that_is_written(project, twin, copies, monkeypatch):
+def test_another_log_in_the_place_of_the_one_that_is_written(
+    project: Path, twin: Twin, copies: Path, monkeypatch: pytest.MonkeyPatch,
+) -> None:
     monkeypatch.setattr(taking, "SEEK_SECONDS", 0)
     os.remove(f"{project}-wal")
     (project.parent / "project.db-wal").write_bytes(b"")
@@ -308,7 +329,9 @@ def test_another_log_in_the_place_of_the_one_that_is_written(project, twin, copi
     assert goes_on(twin)
 
 
-def test_copies_of_the_same_tables_take_turns(project, copies, monkeypatch):
+def test_copies_of_the_same_tables_take_turns(
+    project: Path, copies: Path, monkeypatch: pytest.MonkeyPatch,
+) -> None:
     monkeypatch.setattr(copying, "TURN_SECONDS", 0)
     with open(project) as file:
         fcntl.flock(file, fcntl.LOCK_EX)
@@ -316,7 +339,7 @@ def test_copies_of_the_same_tables_take_turns(project, copies, monkeypatch):
             copying.copy_tables(project, copies)
 
 
-def test_keep_removes_older_copies_of_the_project_alone(project, copies, tmp_path):
+def test_keep_removes_older_copies_of_the_project_alone(project: Path, copies: Path, tmp_path: Path) -> None:
     (tmp_path / "else").mkdir()
     other = make_tables(tmp_path / "else" / "project.db", units=3)
     of_other = copying.copy_tables(other, copies).path
@@ -328,7 +351,7 @@ def test_keep_removes_older_copies_of_the_project_alone(project, copies, tmp_pat
     assert sorted(copies.iterdir()) == sorted([spoiled, of_other, paths[3], copied.path])
 
 
-def test_the_newest_good_copy_is_never_removed(project, copies):
+def test_the_newest_good_copy_is_never_removed(project: Path, copies: Path) -> None:
     first = copying.copy_tables(project, copies, keep=1)
     later = copies / "project-29990101T000000.000Z.db"  # as a clock that was wrong named it
     os.rename(first.path, later)
@@ -336,7 +359,7 @@ def test_the_newest_good_copy_is_never_removed(project, copies):
     assert second.removed == [later] and second.path.exists()
 
 
-def test_a_bad_copy_removes_nothing_and_gets_no_name(project, copies):
+def test_a_bad_copy_removes_nothing_and_gets_no_name(project: Path, copies: Path) -> None:
     first = copying.copy_tables(project, copies).path
     with pytest.raises(Fault, match="the copy was not good, and is not kept"):
         copying.copy_tables(project, copies, keep=1, program="/bin/false")
@@ -349,7 +372,9 @@ def test_a_bad_copy_removes_nothing_and_gets_no_name(project, copies):
     ("", 1, False),
     ("{}", 0, False),
 ])
-def test_the_program_opens_the_copy(project, copies, tmp_path, told, status, is_good):
+def test_the_program_opens_the_copy(
+    project: Path, copies: Path, tmp_path: Path, told: str, status: int, is_good: bool,
+) -> None:
     program = tmp_path / "program"
     words = 'test "$1 $2 $4 $5" = "statement --tables --host 1" || exit 3'
     program.write_text(f"#!/bin/sh\n{words}\ntouch $3-wal\nprintf '%s' '{told}'\nexit {status}\n")
@@ -362,7 +387,7 @@ def test_the_program_opens_the_copy(project, copies, tmp_path, told, status, is_
             copying.copy_tables(project, copies, program=program)
 
 
-def test_a_name_is_never_used_twice(project, copies):
+def test_a_name_is_never_used_twice(project: Path, copies: Path) -> None:
     target = copies / "copy.db"
     copying.copy_tables(project, target)
     with pytest.raises(Fault, match="copy.db: it exists"):
@@ -373,7 +398,7 @@ def test_a_name_is_never_used_twice(project, copies):
         copying.copy_tables(project, target)
 
 
-def test_what_a_killed_copy_left_is_cleared(project, copies):
+def test_what_a_killed_copy_left_is_cleared(project: Path, copies: Path) -> None:
     left, fresh = copies / ".bsched-copy-left", copies / ".bsched-copy-fresh"
     for folder in (left, fresh):
         folder.mkdir()
@@ -383,7 +408,7 @@ def test_what_a_killed_copy_left_is_cleared(project, copies):
     assert not left.exists() and fresh.exists()
 
 
-def test_a_full_disk(project, twin, small_disk):
+def test_a_full_disk(project: Path, twin: Twin, small_disk: Path) -> None:
     status, told, fault = tools("copy", "--tables", project, "--to", small_disk)
     assert (status, told) == (1, "")
     assert fault == f"bsched-tools: {small_disk}: No space left on device\n"
@@ -397,7 +422,9 @@ def test_a_full_disk(project, twin, small_disk):
     (lambda _whole: b"text\n" * 500, "it is spoiled or cut off (file is not a database)"),
     (lambda _whole: b"", "it has no tables of bsched"),
 ])
-def test_tables_that_are_not_whole(project, copies, cut, told):
+def test_tables_that_are_not_whole(
+    project: Path, copies: Path, cut: Callable[[bytes], bytes], told: str,
+) -> None:
     project.write_bytes(cut(project.read_bytes()))
     status, _, fault = tools("copy", "--tables", project, "--to", copies)
     wanted = f"bsched-tools: {project}: the copy was not good, and is not kept: {told}"
@@ -405,7 +432,7 @@ def test_tables_that_are_not_whole(project, copies, cut, told):
     assert list(copies.iterdir()) == []
 
 
-def test_tables_of_another_program(tmp_path, copies):
+def test_tables_of_another_program(tmp_path: Path, copies: Path) -> None:
     other = tmp_path / "other.db"
     connection = sqlite3.connect(other)
     connection.execute("CREATE TABLE message (text TEXT)")
@@ -420,13 +447,13 @@ def test_tables_of_another_program(tmp_path, copies):
     assert list(copies.iterdir()) == []
 
 
-def test_a_journal_that_sqlite_left(project, copies):
+def test_a_journal_that_sqlite_left(project: Path, copies: Path) -> None:
     project.with_name("project.db-journal").write_bytes(b"\xd9")
     with pytest.raises(Fault, match="project.db-journal is left of SQLite"):
         copying.copy_tables(project, copies)
 
 
-def test_the_command_line(project, copies):
+def test_the_command_line(project: Path, copies: Path) -> None:
     status, told, fault = tools("copy", "--tables", project, "--to", copies, "--keep", "1")
     assert (status, fault) == (0, "")
     assert told.endswith(" bytes, nobody had the tables\n")
@@ -437,7 +464,7 @@ def test_the_command_line(project, copies):
     assert tools("copy", "--tables", project, "--to", copies / "x.db", "--keep", "1")[0] == 1
 
 
-def test_names_of_copies_are_in_the_order_of_time(project):
+def test_names_of_copies_are_in_the_order_of_time(project: Path) -> None:
     source = taking.source_of(project)
     names = [copies_module.copy_name(source, moment) for moment in (0.0, 1.0011, 86400.5, 1.8e9)]
     assert names == sorted(names) and names[1] == "project-19700101T000001.001Z.db"

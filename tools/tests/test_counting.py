@@ -2,10 +2,12 @@
 import json
 import os
 import re
+from pathlib import Path
 
+import pytest
 from hypothesis import given, settings, strategies
 from lives import Stored, life_of, stored_life
-from small_project import make_tables, rows_of, tools
+from small_project import Twin, make_tables, rows_of, tools
 
 from bsched_tools import copying, counts
 
@@ -18,7 +20,7 @@ SAMPLE = re.compile(r'bsched_[a-z_]+(\{[a-z]+="[a-z_]+"\})? [0-9.]+')
 
 @settings(max_examples=8, deadline=None, database=None)
 @given(seed=strategies.integers(0, 2**32))
-def test_counts_are_those_of_the_plain_scheduler(tmp_path_factory, seed):
+def test_counts_are_those_of_the_plain_scheduler(tmp_path_factory: pytest.TempPathFactory, seed: int) -> None:
     lived = life_of(seed)
     path = stored_life(lived, tmp_path_factory.mktemp("life") / "project.db")
     os.utime(path, (lived.now, lived.now))
@@ -53,7 +55,7 @@ def test_counts_are_those_of_the_plain_scheduler(tmp_path_factory, seed):
     }
 
 
-def test_who_called_in_the_last_day(project, twin, copies):
+def test_who_called_in_the_last_day(project: Path, twin: Twin, copies: Path) -> None:
     twin.call(1, 1)
     twin.call(2, 1)
     older = copying.copy_tables(project, copies).path
@@ -68,7 +70,7 @@ def test_who_called_in_the_last_day(project, twin, copies):
     assert told["hosts"] == 4
 
 
-def test_several_files_have_each_user_and_host_once(tmp_path):
+def test_several_files_have_each_user_and_host_once(tmp_path: Path) -> None:
     first = Stored(tmp_path / "1.db")
     first.answer(life_of(5).lines)
     second = tmp_path / "2.db"
@@ -81,7 +83,7 @@ def test_several_files_have_each_user_and_host_once(tmp_path):
     assert both.limits == alone.limits
 
 
-def test_the_forms(tmp_path):
+def test_the_forms(tmp_path: Path) -> None:
     path = make_tables(tmp_path / "project.db")
     status, told, fault = tools("counts", "--tables", path, "--json")
     assert (status, fault) == (0, "")
@@ -97,7 +99,7 @@ def test_the_forms(tmp_path):
     assert tools("counts", "--tables", path, "--json", "--prometheus")[0] == 64
 
 
-def test_nothing_in_the_tables_changes(tmp_path):
+def test_nothing_in_the_tables_changes(tmp_path: Path) -> None:
     path = make_tables(tmp_path / "project.db")
     before = path.read_bytes()
     assert tools("counts", "--tables", path)[0] == 0

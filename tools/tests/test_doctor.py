@@ -2,13 +2,15 @@
 import os
 import re
 import sqlite3
+from collections.abc import Callable
 from contextlib import closing
+from pathlib import Path
 
 import plain_tables
 import pytest
 from hypothesis import given, settings, strategies
 from lives import life_of, stored_life
-from small_project import SETTINGS, TOOLS, WORKUNITS, make_tables, request, tools
+from small_project import SETTINGS, TOOLS, WORKUNITS, Twin, make_tables, request, tools
 
 from bsched_tools import doctor
 
@@ -23,18 +25,18 @@ NAMED = {
 }
 
 
-def statements_of(name):
+def statements_of(name: str) -> list[str]:
     """The statements of a list in the tests of the program: each spoils tables, which it is to refuse."""
     block = STORED_TESTS.read_text().partition(f"const {name}: &[&str] = &[")[2].partition("];")[0]
     return re.findall(r'^    "(.*)",$', block, re.MULTILINE)
 
 
-def told_of(path):
+def told_of(path: Path) -> list[str]:
     """What the doctor says of tables."""
     return list(doctor.tables_faults(path))
 
 
-def short_life(path):
+def short_life(path: Path) -> Path:
     """Two users, three workunits: one is done by host 1, one is given to it, and one waits."""
     plain_tables.create(path, {**SETTINGS, "daily_result_quota": 4})
     tables = plain_tables.Tables(path, synchronous="OFF")
@@ -51,20 +53,20 @@ def short_life(path):
     return path
 
 
-def test_good_tables(tmp_path):
+def test_good_tables(tmp_path: Path) -> None:
     assert told_of(make_tables(tmp_path / "1.db")) == []
     assert told_of(short_life(tmp_path / "2.db")) == []
 
 
 @settings(max_examples=6, deadline=None, database=None)
 @given(seed=strategies.integers(0, 2**32))
-def test_the_tables_of_random_lives_are_good(tmp_path_factory, seed):
+def test_the_tables_of_random_lives_are_good(tmp_path_factory: pytest.TempPathFactory, seed: int) -> None:
     path = stored_life(life_of(seed), tmp_path_factory.mktemp("life") / "project.db")
     assert told_of(path) == []
 
 
 @pytest.mark.parametrize("statement", statements_of("SPOILED"))
-def test_rows_that_the_program_refuses(tmp_path, statement):
+def test_rows_that_the_program_refuses(tmp_path: Path, statement: str) -> None:
     path = short_life(tmp_path / "project.db")
     with closing(sqlite3.connect(path, isolation_level=None)) as connection:
         changed = connection.execute(statement).rowcount
@@ -75,7 +77,7 @@ def test_rows_that_the_program_refuses(tmp_path, statement):
     assert told[-1].startswith("no scheduler wrote such rows")
 
 
-def test_a_row_is_named_with_its_column(tmp_path):
+def test_a_row_is_named_with_its_column(tmp_path: Path) -> None:
     path = short_life(tmp_path / "project.db")
     with closing(sqlite3.connect(path, isolation_level=None)) as connection:
         connection.execute("UPDATE unit SET delay_bound = 0 WHERE id = 2")
@@ -86,7 +88,7 @@ def test_a_row_is_named_with_its_column(tmp_path):
     ]
 
 
-def test_secrets_are_not_printed(tmp_path):
+def test_secrets_are_not_printed(tmp_path: Path) -> None:
     path = short_life(tmp_path / "project.db")
     with closing(sqlite3.connect(path, isolation_level=None)) as connection:
         connection.execute("UPDATE account SET auth = 'my secret' WHERE id = 1")
@@ -96,7 +98,7 @@ def test_secrets_are_not_printed(tmp_path):
 
 
 @pytest.mark.parametrize("statement", statements_of("OTHERS"))
-def test_other_schemas(tmp_path, statement):
+def test_other_schemas(tmp_path: Path, statement: str) -> None:
     path = short_life(tmp_path / "project.db")
     with closing(sqlite3.connect(path, isolation_level=None)) as connection:
         connection.execute(statement)
@@ -104,13 +106,13 @@ def test_other_schemas(tmp_path, statement):
     assert "its tables are" in told
 
 
-def test_who_has_the_tables(project, twin):
+def test_who_has_the_tables(project: Path, twin: Twin) -> None:
     told, = told_of(project)
     assert told.startswith(f"process {twin.process.pid} (python3")
     assert "has it, so no other program can open it" in told
 
 
-def test_files(tmp_path):
+def test_files(tmp_path: Path) -> None:
     path = make_tables(tmp_path / "project.db")
     told, = told_of(tmp_path / "none.db")
     assert told == "no such file: make it with `bsched create`, or look at the name"
@@ -159,20 +161,20 @@ resend_lost_results = true
     (lambda text: text + "[table]\n", ["table is no setting: remove it"]),
     (lambda text: "=" + text, ["it is not TOML: Invalid statement (at line 1, column 1)"]),
 ])
-def test_settings(tmp_path, change, wanted):
+def test_settings(tmp_path: Path, change: Callable[[str], str], wanted: list[str]) -> None:
     path = tmp_path / "settings.toml"
     path.write_text(change(GOOD))
     assert list(doctor.examined(None, path)) == [f"{path}: {fault}" for fault in wanted]
 
 
-def test_settings_that_are_no_text(tmp_path):
+def test_settings_that_are_no_text(tmp_path: Path) -> None:
     path = tmp_path / "settings.toml"
     path.write_bytes(b"max_hosts = 1\n\xff\n")
     assert list(doctor.examined(None, path)) == [f"{path}: line 2: it is not UTF-8"]
     assert list(doctor.examined(None, tmp_path)) == [f"{tmp_path}: Is a directory"]
 
 
-def test_the_command_line(tmp_path, project):
+def test_the_command_line(tmp_path: Path, project: Path) -> None:
     assert tools("doctor", "--tables", project) == (0, "good: nothing is found that bsched refuses\n", "")
     status, told, fault = tools("doctor", "--tables", tmp_path / "none", "--settings", tmp_path / "none")
     assert (status, fault) == (1, "") and len(told.splitlines()) == 2

@@ -2,31 +2,39 @@
 import json
 import os
 import re
+from collections.abc import Iterable
 from html.parser import HTMLParser
+from pathlib import Path
+from typing import Any
 
 import plain_tables
 import pytest
 from lives import Stored, life_of
+from project import Project
 from small_project import LIMITS, SETTINGS, WORKUNITS, make_tables, request, tools
 
 from bsched_tools import history, page
 from bsched_tools.counts import counted
 from bsched_tools.faults import Fault
 
+Attributes = list[tuple[str, str | None]]
 VOID = {"meta", "br"}
 
 
 class Read(HTMLParser):
     """Reads a page: each element must end, and the cells of each table are kept."""
 
-    def __init__(self, text):
+    def __init__(self, text: str) -> None:
         super().__init__()
-        self.open, self.tags, self.tables, self.cell = [], [], [], None
+        self.open: list[str] = []
+        self.tags: list[tuple[str, dict[str, str | None]]] = []
+        self.tables: list[list[list[str]]] = []
+        self.cell: str | None = None
         self.feed(text)
         self.close()
         assert self.open == []
 
-    def handle_starttag(self, tag, attrs):
+    def handle_starttag(self, tag: str, attrs: Attributes) -> None:
         self.tags.append((tag, dict(attrs)))
         if tag not in VOID:
             self.open.append(tag)
@@ -37,41 +45,41 @@ class Read(HTMLParser):
         if tag in ("td", "th"):
             self.cell = ""
 
-    def handle_startendtag(self, tag, attrs):
+    def handle_startendtag(self, tag: str, attrs: Attributes) -> None:
         self.tags.append((tag, dict(attrs)))
 
-    def handle_endtag(self, tag):
+    def handle_endtag(self, tag: str) -> None:
         assert self.open.pop() == tag
         if tag in ("td", "th"):
             self.tables[-1][-1].append(self.cell)
             self.cell = None
 
-    def handle_data(self, data):
+    def handle_data(self, data: str) -> None:
         if self.cell is not None:
             self.cell += data
 
-    def rows(self, header):
+    def rows(self, header: Iterable[str]) -> list[list[str]]:
         """The rows of the table that begins with a header."""
         found, = [table[1:] for table in self.tables if table[0][:len(header)] == list(header)]
         return found
 
 
 @pytest.fixture
-def folder(tmp_path):
+def folder(tmp_path: Path) -> Path:
     """The folder of the page."""
     made = tmp_path / "page"
     made.mkdir()
     return made
 
 
-def reported(path, folder, moment=None):
+def reported(path: Path, folder: Path, moment: float | None = None) -> Read:
     """The page of a copy."""
     if moment is not None:
         os.utime(path, (moment, moment))
     return Read(page.write_report(path, folder).read_text())
 
 
-def lived_in_parts(tmp_path, folder, parts=4):
+def lived_in_parts(tmp_path: Path, folder: Path, parts: int = 4) -> tuple[Project, Path, Read]:
     """Reports over a life; the last one."""
     lived = life_of(21, calls=600)
     stored, size = Stored(tmp_path / "project.db"), len(lived.lines) // parts + 1
@@ -84,7 +92,7 @@ def lived_in_parts(tmp_path, folder, parts=4):
     return lived, copy, read
 
 
-def test_the_page_has_the_counts(tmp_path, folder):
+def test_the_page_has_the_counts(tmp_path: Path, folder: Path) -> None:
     lived, copy, read = lived_in_parts(tmp_path, folder)
     counts = counted([copy])
     rows = {row[0]: int(row[1]) for row in read.rows(("what", "number"))}
@@ -97,7 +105,7 @@ def test_the_page_has_the_counts(tmp_path, folder):
     assert users == {name: f"{credit // 1000}.{credit % 1000:03}" for name, credit in wanted.items()}
 
 
-def test_hosts_with_errors(tmp_path, folder):
+def test_hosts_with_errors(tmp_path: Path, folder: Path) -> None:
     lived, _, read = lived_in_parts(tmp_path, folder)
     wanted = {}
     for unit in lived.service.machine.places:
@@ -113,7 +121,7 @@ def test_hosts_with_errors(tmp_path, folder):
     assert rows == {host: wanted[host] for host in worst[:20]} and list(rows) == worst[:20]
 
 
-def test_each_plot_has_a_text_and_a_table(tmp_path, folder):
+def test_each_plot_has_a_text_and_a_table(tmp_path: Path, folder: Path) -> None:
     _, _, read = lived_in_parts(tmp_path, folder)
     plots = [attrs for tag, attrs in read.tags if tag == "svg"]
     assert len(plots) == 7
@@ -128,7 +136,7 @@ def test_each_plot_has_a_text_and_a_table(tmp_path, folder):
     assert used <= set(ids)
 
 
-def test_the_history(tmp_path, folder):
+def test_the_history(tmp_path: Path, folder: Path) -> None:
     _, copy, _ = lived_in_parts(tmp_path, folder)
     path = folder / "history.jsonl"
     before = path.read_text()
@@ -146,11 +154,11 @@ def test_the_history(tmp_path, folder):
     assert len(history.History(folder).entries) == 5
 
 
-def test_turnaround_is_at_most_what_it_is_said(tmp_path, folder):
+def test_turnaround_is_at_most_what_it_is_said(tmp_path: Path, folder: Path) -> None:
     path = tmp_path / "project.db"
     make_tables(path, units=4)
 
-    def run(now, call):
+    def run(now: int, call: bytes) -> Any:
         tables = plain_tables.Tables(path, synchronous="OFF")
         plain_tables.Service(tables).scheduler(call, now)
         tables.connection.close()
@@ -163,7 +171,7 @@ def test_turnaround_is_at_most_what_it_is_said(tmp_path, folder):
     assert sum(run(13_200, request(1, 3))) == 0
 
 
-def test_names_are_text(tmp_path, folder):
+def test_names_are_text(tmp_path: Path, folder: Path) -> None:
     path = tmp_path / "project.db"
     plain_tables.create(path, SETTINGS)
     tables = plain_tables.Tables(path)
@@ -181,7 +189,7 @@ def test_names_are_text(tmp_path, folder):
     assert read.rows(("user", "credit"))[0][0] == name.replace("\x07", "\ufffd")
 
 
-def test_marked_workunits_that_wait_for_good(tmp_path, folder):
+def test_marked_workunits_that_wait_for_good(tmp_path: Path, folder: Path) -> None:
     path = make_tables(tmp_path / "project.db")
     tables = plain_tables.Tables(path)
     service = plain_tables.Service(tables)
@@ -194,12 +202,12 @@ def test_marked_workunits_that_wait_for_good(tmp_path, folder):
     assert read.rows(("workunit", "class")) == [["m1", "old"]]
 
 
-def test_no_half_page(tmp_path, folder, monkeypatch):
+def test_no_half_page(tmp_path: Path, folder: Path, monkeypatch: pytest.MonkeyPatch) -> None:
     path = make_tables(tmp_path / "project.db")
     reported(path, folder)
     before = (folder / "index.html").read_bytes()
 
-    def full(*_words):
+    def full(*_words: object) -> None:
         raise Fault("index.html: No space left on device")
 
     monkeypatch.setattr(page, "replace_file", full)
@@ -208,7 +216,7 @@ def test_no_half_page(tmp_path, folder, monkeypatch):
     assert (folder / "index.html").read_bytes() == before
 
 
-def test_the_command_line(tmp_path, folder):
+def test_the_command_line(tmp_path: Path, folder: Path) -> None:
     path = make_tables(tmp_path / "project.db")
     assert tools("report", "--tables", path, "--to", folder) == (0, f"{folder}/index.html\n", "")
     assert tools("report", "--tables", path, "--to", folder / "none")[0] == 1

@@ -3,46 +3,48 @@ import contextlib
 import sqlite3
 import subprocess
 import sys
+from collections.abc import Callable
+from pathlib import Path
 
 import plain_tables
 import pytest
-from small_project import TOOLS, make_tables, tools
+from small_project import TOOLS, Twin, make_tables, tools
 
 COMMANDS = {
     "results": [], "counts": [], "statistics": ["--to", "DIR"], "report": ["--to", "DIR"],
 }
 
 
-def other_program(path, _good):
+def other_program(path: Path, _good: Path) -> None:
     connection = sqlite3.connect(path)
     connection.execute("CREATE TABLE message (text TEXT)")
     connection.close()
 
 
-def cut_off(path, good):
+def cut_off(path: Path, good: Path) -> None:
     path.write_bytes(good.read_bytes()[:-4096])
 
 
-def cut_in_a_page(path, good):
+def cut_in_a_page(path: Path, good: Path) -> None:
     path.write_bytes(good.read_bytes()[:-100])
 
 
-def spoiled(path, good):
+def spoiled(path: Path, good: Path) -> None:
     told = bytearray(good.read_bytes())
     told[4096:] = b"\xa5" * (len(told) - 4096)
     path.write_bytes(told)
 
 
-def older(path, good):
+def older(path: Path, good: Path) -> None:
     plain_tables.make_former(str(path), str(good))
 
 
-def second(path, good):
+def second(path: Path, good: Path) -> None:
     plain_tables.make_former(str(path), str(good))
     plain_tables.upgrade(path, 2)
 
 
-def newer(path, good):
+def newer(path: Path, good: Path) -> None:
     path.write_bytes(good.read_bytes())
     connection = sqlite3.connect(path)
     connection.execute("CREATE TABLE further (id INTEGER PRIMARY KEY) STRICT")
@@ -51,7 +53,7 @@ def newer(path, good):
     connection.close()
 
 
-def changed(path, good):
+def changed(path: Path, good: Path) -> None:
     path.write_bytes(good.read_bytes())
     connection = sqlite3.connect(path)
     connection.execute("DROP INDEX instance_sent")
@@ -76,7 +78,9 @@ FILES = [
 
 @pytest.mark.parametrize("command", COMMANDS)
 @pytest.mark.parametrize("make, wanted", FILES, ids=[wanted for _, wanted in FILES])
-def test_what_is_no_copy(tmp_path, command, make, wanted):
+def test_what_is_no_copy(
+    tmp_path: Path, command: str, make: Callable[[Path, Path], object], wanted: str,
+) -> None:
     good = make_tables(tmp_path / "good.db")
     path = tmp_path / "copy.db"
     make(path, good)
@@ -87,7 +91,7 @@ def test_what_is_no_copy(tmp_path, command, make, wanted):
 
 
 @pytest.mark.parametrize("command", COMMANDS)
-def test_tables_that_a_program_serves(project, twin, tmp_path, command):
+def test_tables_that_a_program_serves(project: Path, twin: Twin, tmp_path: Path, command: str) -> None:
     words = [str(word).replace("DIR", str(tmp_path)) for word in COMMANDS[command]]
     status, told, fault = tools(command, "--tables", project, *words)
     assert (status, told) == (1, "")
@@ -102,7 +106,7 @@ def test_tables_that_a_program_serves(project, twin, tmp_path, command):
     (["statistics", "--to", "DISK"], "user.gz"),
     (["report", "--to", "DISK"], "history.jsonl"),
 ])
-def test_a_full_disk(project, small_disk, words, wanted):
+def test_a_full_disk(project: Path, small_disk: Path, words: list[str], wanted: str) -> None:
     with (small_disk / "full").open("wb", buffering=0) as full, contextlib.suppress(OSError):
         while full.write(b"x" * 4096):
             pass
@@ -112,7 +116,7 @@ def test_a_full_disk(project, small_disk, words, wanted):
 
 
 @pytest.mark.parametrize("command", ["results", "counts"])
-def test_a_full_output(project, command):
+def test_a_full_output(project: Path, command: str) -> None:
     words = [sys.executable, "-m", "bsched_tools", command, "--tables", str(project)]
     path = {"PYTHONPATH": str(TOOLS)}
     with open("/dev/full", "w") as full:

@@ -2,6 +2,8 @@
 import csv
 import io
 import json
+from pathlib import Path
+from typing import Any
 
 import pytest
 from hypothesis import given, settings, strategies
@@ -16,19 +18,19 @@ NOW, NEXT = "1970-01-01T00:16:40Z", "\n"
 REASONS = {"errors": "errors", "success": "successes", "total": "total"}
 
 
-def rows_of(*paths, **more):
+def rows_of(*paths: Path, **more: Any) -> list[dict[str, str]]:
     """The rows of comma-separated results."""
     file = io.StringIO()
     results.write_results(paths, file=file, **more)
     return list(csv.DictReader(io.StringIO(file.getvalue())))
 
 
-def verdicts_of(unit):
+def verdicts_of(unit: workunits.Workunit) -> dict[str, bool | None]:
     """The verdict of each result of a workunit."""
     return {one.name: one.is_valid for one in unit.results}
 
 
-def lines_of(*paths, **more):
+def lines_of(*paths: Path, **more: Any) -> list[dict[str, Any]]:
     """The lines of results as JSON."""
     file = io.StringIO()
     results.write_results(paths, as_lines=True, file=file, **more)
@@ -37,7 +39,9 @@ def lines_of(*paths, **more):
 
 @settings(max_examples=10, deadline=None, database=None)
 @given(seed=strategies.integers(0, 2**32))
-def test_results_are_those_of_the_plain_scheduler(tmp_path_factory, seed):
+def test_results_are_those_of_the_plain_scheduler(
+    tmp_path_factory: pytest.TempPathFactory, seed: int,
+) -> None:
     lived = life_of(seed)
     path = stored_life(lived, tmp_path_factory.mktemp("life") / "project.db")
     with tables.opened(path) as opened:
@@ -50,7 +54,7 @@ def test_results_are_those_of_the_plain_scheduler(tmp_path_factory, seed):
     assert len(wanted) > 10
 
 
-def test_both_forms_have_the_hosts_users_and_credits_of_the_plain_scheduler(tmp_path):
+def test_both_forms_have_the_hosts_users_and_credits_of_the_plain_scheduler(tmp_path: Path) -> None:
     lived = life_of(7, calls=600)
     path = stored_life(lived, tmp_path / "project.db")
     machine = lived.service.machine
@@ -76,7 +80,9 @@ def test_both_forms_have_the_hosts_users_and_credits_of_the_plain_scheduler(tmp_
 
 @settings(max_examples=6, deadline=None, database=None)
 @given(seed=strategies.integers(0, 2**32), parts=strategies.integers(2, 12))
-def test_with_a_cursor_each_result_comes_once(tmp_path_factory, seed, parts):
+def test_with_a_cursor_each_result_comes_once(
+    tmp_path_factory: pytest.TempPathFactory, seed: int, parts: int,
+) -> None:
     folder = tmp_path_factory.mktemp("cursor")
     lived = life_of(seed)
     stored, cursor, came = Stored(folder / "project.db"), folder / "cursor", []
@@ -90,7 +96,7 @@ def test_with_a_cursor_each_result_comes_once(tmp_path_factory, seed, parts):
     wanted = rows_of(copy)
     assert len(came) == len(wanted) > 0
 
-    def without_late(rows):
+    def without_late(rows: list[dict[str, str]]) -> list[tuple[str, ...]]:
         return sorted(tuple(value for name, value in row.items() if name != "late") for row in rows)
 
     assert without_late(came) == without_late(wanted)
@@ -98,10 +104,10 @@ def test_with_a_cursor_each_result_comes_once(tmp_path_factory, seed, parts):
     assert set(first) == {row["workunit"] for row in wanted}
 
 
-def test_a_result_that_comes_late_is_marked(tmp_path):
+def test_a_result_that_comes_late_is_marked(tmp_path: Path) -> None:
     stored = Stored(tmp_path / "project.db")
 
-    def call(host, seqno, *reports):
+    def call(host: str, seqno: int, *reports: tuple[str, str]) -> None:
         said = {
             "authenticator": host, "rpc_seqno": seqno, "platform_name": "x", "work_req_seconds": 1,
             "host_info": {"host_cpid": "c", "p_fpops": 1, "m_nbytes": 1, "d_free": 1},
@@ -137,7 +143,7 @@ def test_a_result_that_comes_late_is_marked(tmp_path):
     }
 
 
-def test_the_worked_example_of_a_quorum():
+def test_the_worked_example_of_a_quorum() -> None:
     """One of three disagrees: 10, 13 and 12, which are to agree within 2."""
     good = [
         workunits.Instance(f"w_{number}", number, "u", 1, output, number + 1)
@@ -153,12 +159,12 @@ def test_the_worked_example_of_a_quorum():
     (1, "1", "3", False), (5, "-2", "3", True), (5, "01", "1", False), (5, "-0", "0", False),
     (5, "", "", True), (5, "x", "x", True), (9, "1" + "0" * 18, "1" + "0" * 17 + "1", False),
 ])
-def test_outputs_that_agree(agreement, one, other, wanted):
+def test_outputs_that_agree(agreement: int | None, one: str, other: str, wanted: bool) -> None:
     assert workunits.agree(agreement, one, other) is wanted
 
 
 @pytest.mark.parametrize("seed", [5, 6, 7])
-def test_the_query_of_the_profile(tmp_path, seed):
+def test_the_query_of_the_profile(tmp_path: Path, seed: int) -> None:
     """docs/PROFILE.md has a query for the workunits whose outputs must be equal."""
     path = stored_life(life_of(seed), tmp_path / "project.db")
     page = (TOOLS.parent / "docs" / "PROFILE.md").read_text()
@@ -169,7 +175,7 @@ def test_the_query_of_the_profile(tmp_path, seed):
     assert len(told) > 4
 
 
-def test_after_a_workunit(tmp_path):
+def test_after_a_workunit(tmp_path: Path) -> None:
     path = stored_life(life_of(3), tmp_path / "project.db")
     names = list(dict.fromkeys(row["workunit"] for row in rows_of(path)))
     after = list(dict.fromkeys(row["workunit"] for row in rows_of(path, after=names[4])))
@@ -178,7 +184,7 @@ def test_after_a_workunit(tmp_path):
         rows_of(path, after="nobody")
 
 
-def test_several_files(tmp_path):
+def test_several_files(tmp_path: Path) -> None:
     first = stored_life(life_of(3), tmp_path / "2025.db")
     second = stored_life(life_of(4), tmp_path / "2026.db")
     alone = rows_of(first) + rows_of(second)
@@ -188,12 +194,12 @@ def test_several_files(tmp_path):
     assert rows_of(second, first, cursor=cursor) == []
 
 
-def test_a_cursor_is_written_only_after_the_output(tmp_path):
+def test_a_cursor_is_written_only_after_the_output(tmp_path: Path) -> None:
     path = stored_life(life_of(3), tmp_path / "project.db")
     cursor = tmp_path / "cursor"
 
     class Full(io.StringIO):
-        def flush(self):
+        def flush(self) -> None:
             raise OSError(28, "No space left on device")
 
     with pytest.raises(OSError, match="No space"):
@@ -202,7 +208,7 @@ def test_a_cursor_is_written_only_after_the_output(tmp_path):
     assert rows_of(path, cursor=cursor) == rows_of(path)
 
 
-def test_a_new_file_is_whole_and_is_never_written_over(tmp_path):
+def test_a_new_file_is_whole_and_is_never_written_over(tmp_path: Path) -> None:
     path = stored_life(life_of(3), tmp_path / "project.db")
     cursor, target = tmp_path / "cursor", tmp_path / "new"
     results.write_results([path], as_lines=True, cursor=cursor, target=target)
@@ -217,12 +223,12 @@ def test_a_new_file_is_whole_and_is_never_written_over(tmp_path):
     assert target.read_text() == ""
 
 
-def test_a_stop_before_the_cursor_is_written(tmp_path, monkeypatch):
+def test_a_stop_before_the_cursor_is_written(tmp_path: Path, monkeypatch: pytest.MonkeyPatch) -> None:
     """Then what is new comes again."""
     path = stored_life(life_of(3), tmp_path / "project.db")
     cursor, target = tmp_path / "cursor", tmp_path / "new"
 
-    def stopped(_cursor):
+    def stopped(_cursor: results.Cursor) -> None:
         raise KeyboardInterrupt
 
     monkeypatch.setattr(results.Cursor, "write", stopped)
@@ -235,7 +241,7 @@ def test_a_stop_before_the_cursor_is_written(tmp_path, monkeypatch):
     assert target.read_text() == first and len(first) > 100
 
 
-def test_what_is_no_cursor(tmp_path):
+def test_what_is_no_cursor(tmp_path: Path) -> None:
     path = stored_life(life_of(3, calls=50), tmp_path / "project.db")
     cursor = tmp_path / "cursor"
     for text in ("", "[]", "{}", '{"format": 2, "given": {}}', '{"format": 1, "given": {"x": 1}}'):
@@ -245,7 +251,7 @@ def test_what_is_no_cursor(tmp_path):
         assert cursor.read_text() == text
 
 
-def test_the_command_line(tmp_path):
+def test_the_command_line(tmp_path: Path) -> None:
     path = stored_life(life_of(3), tmp_path / "project.db")
     status, told, fault = tools("results", "--tables", path)
     assert (status, fault) == (0, "")

@@ -2,6 +2,7 @@
 import gzip
 import json
 import os
+from pathlib import Path
 from xml.etree import ElementTree
 
 import plain_tables
@@ -15,26 +16,26 @@ from bsched_tools.faults import Fault
 DAY = 86400
 
 
-def read(folder, name):
+def read(folder: Path, name: str) -> list[dict[str, str]]:
     """The elements of a file, each with its members."""
     root = ElementTree.fromstring(gzip.decompress((folder / name).read_bytes()))
     return [{member.tag: member.text or "" for member in one} for one in root]
 
 
-def totals(folder):
+def totals(folder: Path) -> dict[str, str | None]:
     """What tables.xml says."""
     return {member.tag: member.text for member in ElementTree.fromstring((folder / "tables.xml").read_text())}
 
 
 @pytest.fixture
-def folder(tmp_path):
+def folder(tmp_path: Path) -> Path:
     """The folder of the files."""
     made = tmp_path / "stats"
     made.mkdir()
     return made
 
 
-def test_averages_as_worked_out():
+def test_averages_as_worked_out() -> None:
     """10 on the first day, then 5 a day later, then nothing for 7 days."""
     first = averages.average_after(None, 0.5, 10)
     second = averages.average_after(first, 1, 5)
@@ -46,7 +47,7 @@ def test_averages_as_worked_out():
     assert averages.average_after(10, 7, -3) == 5
 
 
-def test_the_files_of_a_life(tmp_path, folder):
+def test_the_files_of_a_life(tmp_path: Path, folder: Path) -> None:
     lived = life_of(11, calls=600)
     path = stored_life(lived, tmp_path / "project.db")
     os.utime(path, (lived.now, lived.now))
@@ -71,10 +72,10 @@ def test_the_files_of_a_life(tmp_path, folder):
     assert len({host["host_cpid"] for host in hosts}) == len(hosts)
 
 
-def test_averages_over_runs(tmp_path, folder):
+def test_averages_over_runs(tmp_path: Path, folder: Path) -> None:
     path = make_tables(tmp_path / "project.db")
 
-    def run(moment, millicredits, seqno):
+    def run(moment: int, millicredits: int, seqno: int) -> tuple[float, int, int]:
         tables = plain_tables.Tables(path, synchronous="OFF")
         tables.put([("host", (1, 1, "c1", "linux", 10**9, 10**9, 10**9, 4, 0, millicredits))])
         tables.put([("kept4", (1, 0, seqno, "{}", "{}"))])
@@ -90,7 +91,7 @@ def test_averages_over_runs(tmp_path, folder):
     assert run(18 * DAY, 15_000, 2) == (4.76431, 10 * DAY, 11 * DAY)
 
 
-def test_nobody_is_named_who_did_not_agree(tmp_path, folder):
+def test_nobody_is_named_who_did_not_agree(tmp_path: Path, folder: Path) -> None:
     lived = life_of(11)
     path = stored_life(lived, tmp_path / "project.db")
     assert exports.export([path], folder, None, False).agreed == 0
@@ -105,7 +106,7 @@ def test_nobody_is_named_who_did_not_agree(tmp_path, folder):
         exports.export([path], folder, tmp_path / "none", False)
 
 
-def test_several_files_are_summed_by_authenticator(tmp_path, folder):
+def test_several_files_are_summed_by_authenticator(tmp_path: Path, folder: Path) -> None:
     first = Stored(tmp_path / "2025.db")
     first.answer(life_of(11).lines)
     second = first.copy(tmp_path / "2026.db")
@@ -118,7 +119,7 @@ def test_several_files_are_summed_by_authenticator(tmp_path, folder):
     assert sum(alone.values()) > 0
 
 
-def test_names_are_text(tmp_path, folder):
+def test_names_are_text(tmp_path: Path, folder: Path) -> None:
     path = tmp_path / "project.db"
     plain_tables.create(path, SETTINGS)
     tables = plain_tables.Tables(path)
@@ -128,13 +129,13 @@ def test_names_are_text(tmp_path, folder):
     assert [user["name"] for user in read(folder, "user.gz")] == ['<b> & \ufffd"é\n']
 
 
-def test_no_half_file(tmp_path, folder, monkeypatch):
+def test_no_half_file(tmp_path: Path, folder: Path, monkeypatch: pytest.MonkeyPatch) -> None:
     path = stored_life(life_of(11), tmp_path / "project.db")
     exports.export([path], folder, None, True)
     before = {one.name: one.read_bytes() for one in folder.iterdir()}
     kept = exports.state_of(folder).read_bytes()
 
-    def full(_descriptor):
+    def full(_descriptor: int) -> None:
         raise OSError(28, "No space left on device")
 
     monkeypatch.setattr(files.os, "fsync", full)
@@ -144,7 +145,7 @@ def test_no_half_file(tmp_path, folder, monkeypatch):
     assert exports.state_of(folder).read_bytes() == kept
 
 
-def test_what_is_kept(tmp_path, folder):
+def test_what_is_kept(tmp_path: Path, folder: Path) -> None:
     path = stored_life(life_of(11), tmp_path / "project.db")
     exports.export([path], folder, None, True)
     kept = exports.state_of(folder)
@@ -156,7 +157,7 @@ def test_what_is_kept(tmp_path, folder):
             exports.export([path], folder, None, True)
 
 
-def test_the_command_line(tmp_path, folder):
+def test_the_command_line(tmp_path: Path, folder: Path) -> None:
     path = make_tables(tmp_path / "project.db")
     status, told, fault = tools("statistics", "--tables", path, "--to", folder)
     assert (status, fault) == (0, "")
