@@ -7,7 +7,7 @@ use std::io::ErrorKind;
 use std::{fmt, io};
 use texts::Memory;
 
-/// How an order ended that was carried out.
+/// How an order ended that was done.
 #[derive(Clone, Copy, Debug, PartialEq, Eq)]
 pub enum Outcome {
     /// All of it was done.
@@ -26,18 +26,18 @@ impl Outcome {
     }
 }
 
-/// Why an order was not carried out.
+/// Why an order was not done.
 #[derive(Clone, Copy, Debug, PartialEq, Eq)]
 pub enum Failure {
-    /// The file of settings tells none.
+    /// The settings file has no settings in it.
     Settings,
-    /// A file, a socket or a stream failed, or a file is none of tables.
+    /// A file, a socket or a stream failed, or a file has no tables of this program.
     File,
-    /// The tables are of an older schema: they have to be upgraded.
+    /// The tables are of an older schema. They must be upgraded.
     OldSchema,
-    /// The line of this number, from 1, of a replay is none.
+    /// This line of a replay is no message. Lines count from 1.
     Line(u32),
-    /// Memory was wanting, or the disk failed.
+    /// Memory ran out, or the disk failed.
     Unavailable,
 }
 

@@ -15,7 +15,7 @@ use texts::utf8_text;
 /// The longest file of settings, in bytes.
 const MOST_SETTINGS_BYTES: usize = 65_536;
 
-/// What a file holds: of a longer one, one byte more than the most that is taken.
+/// Reads a file. Of a file with more than `most` bytes, it reads one byte more than that.
 pub(crate) fn bytes_of(rt: &HostRuntime, path: &str, most: usize) -> Result<Vec<u8>, Failure> {
     let file = File::open(rt, path)?;
     let mut bytes = Vec::new(rt.alloc());
@@ -24,7 +24,7 @@ pub(crate) fn bytes_of(rt: &HostRuntime, path: &str, most: usize) -> Result<Vec<
     Ok(bytes)
 }
 
-/// The settings that a file tells.
+/// Reads the settings in a file.
 pub(crate) fn settings_in(rt: &HostRuntime, path: &str) -> Result<Settings, Failure> {
     let bytes = bytes_of(rt, path, MOST_SETTINGS_BYTES)?;
     settings_told(rt.alloc(), &bytes)
@@ -44,12 +44,12 @@ fn settings_told(alloc: Global, bytes: &[u8]) -> Result<Settings, Failure> {
     }
 }
 
-/// What is done with a database, whatever it is stored in.
+/// What is done with a database, for any store below it.
 pub trait Visit {
-    /// What comes of it.
+    /// Its result.
     type Found;
 
-    /// Does it with the database of a connection, which is closed then.
+    /// Does it with the database of a connection, and closes the connection.
     fn visit<S: Alter + Drop>(
         &self,
         rt: &HostRuntime,
@@ -57,7 +57,7 @@ pub trait Visit {
     ) -> Result<Self::Found, Failure>;
 }
 
-/// Pays a visit to the database in a file, which is made where none stands.
+/// Visits the database in a file. If there is no file, it is made.
 pub fn visit_file<V: Visit>(rt: &HostRuntime, path: &str, visit: &V) -> Result<V::Found, Failure> {
     visit.visit(rt, Connection::open(rt, path)?)
 }
@@ -77,7 +77,7 @@ impl Visit for Creation<'_> {
     }
 }
 
-/// Carries tables over to the newest schema, and tells its number.
+/// Upgrades tables to the newest schema, and returns its number.
 pub(crate) struct Upgrade;
 
 impl Visit for Upgrade {

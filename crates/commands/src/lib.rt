@@ -1,13 +1,14 @@
 //! What the program does at each order of an operator.
 //!
-//! Nothing here has a clause but that it is safe and ends: what is printed, files and sockets are shown by tests. What an
-//! order does to the tables is done by [`sched_server::Service::handle`], [`sched_tables::Tables::create`] and
-//! [`sched_tables::upgrade`], which have.
+//! All that is proved here is that it is safe and ends. What is printed, files and sockets are tested. The tables are changed
+//! by [`sched_server::Service::handle`], [`sched_tables::Tables::create`] and [`sched_tables::upgrade`], whose contracts say
+//! what they do.
 #![tactic(auto)]
 
 mod connection;
 mod ending;
 mod files;
+mod new_file;
 mod orders;
 mod serving;
 

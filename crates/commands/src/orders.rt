@@ -7,6 +7,7 @@ use crate::ending::{Failure, Outcome, ended};
 use crate::files::{
     Creation, Upgrade, Visit, bytes_of, open_in, service_over, settings_in, visit_file,
 };
+use crate::new_file::make_file;
 use crate::serving::serve_on;
 use command_line::Order;
 use http_requests::{import_request, statement_request, tick_request};
@@ -25,7 +26,7 @@ use std::{fs, io};
 use stores::Store;
 use texts::{Memory, Text};
 
-/// What an order wants of the service over the tables of a file.
+/// What the service over the tables of a file is to do.
 #[derive(Drop)]
 enum Task<'a> {
     Serve {
@@ -45,11 +46,11 @@ enum Task<'a> {
     },
 }
 
-/// Carries out an order.
+/// Does what an order says.
 ///
 /// # Errors
 ///
-/// A [`Failure`] where a file, a socket or a stream fails, or memory is wanting.
+/// A [`Failure`] if a file, a socket or a stream fails, or if memory runs out.
 pub fn perform(rt: &HostRuntime, order: &Order) -> Result<Outcome, Failure> {
     let (tables, task) = match order {
         Order::Create { settings, tables } => {
@@ -87,7 +88,7 @@ pub fn perform(rt: &HostRuntime, order: &Order) -> Result<Outcome, Failure> {
     perform_on(rt, tables.as_str(), &task)
 }
 
-/// Does a task over the tables of a file. A file that does not stand is not made.
+/// Does a task over the tables of a file. If there is no such file, none is made.
 fn perform_on(rt: &HostRuntime, tables: &str, task: &Task<'_>) -> Result<Outcome, Failure> {
     fs::metadata(rt, tables)?;
     visit_file(rt, tables, task)
@@ -119,9 +120,10 @@ fn perform_by<S: Store>(
     }
 }
 
-/// Makes tables in a file, with the settings of another.
+/// Makes tables in a file, with the settings in another file.
 fn create(rt: &HostRuntime, settings: &str, tables: &str) -> Result<Outcome, Failure> {
     let settings = settings_in(rt, settings)?;
+    make_file(rt, tables)?;
     visit_file(
         rt,
         tables,
@@ -133,7 +135,7 @@ fn create(rt: &HostRuntime, settings: &str, tables: &str) -> Result<Outcome, Fai
     Ok(Outcome::Done)
 }
 
-/// Carries the tables in a file over to the newest schema. A file that does not stand is not made.
+/// Upgrades the tables in a file to the newest schema. If there is no such file, none is made.
 fn upgrade(rt: &HostRuntime, tables: &str) -> Result<Outcome, Failure> {
     fs::metadata(rt, tables)?;
     let schema = visit_file(rt, tables, &Upgrade)?;
@@ -141,7 +143,7 @@ fn upgrade(rt: &HostRuntime, tables: &str) -> Result<Outcome, Failure> {
     Ok(Outcome::Done)
 }
 
-/// Serves so many connections on a port of 127.0.0.1, or as many as come before a fault of the disk.
+/// Serves `count` connections on a port of 127.0.0.1. It ends early if a fault of the disk shuts the tables.
 fn serve<S: Store>(
     rt: &HostRuntime,
     service: &mut Service<S>,
@@ -153,7 +155,7 @@ fn serve<S: Store>(
     Ok(Outcome::Done)
 }
 
-/// Imports the batch in a file, at moment 0: nothing of an import depends on it.
+/// Imports the batch in a file. Its moment is 0, since an import does not depend on it.
 fn import<S: Store>(
     rt: &HostRuntime,
     service: &mut Service<S>,
@@ -166,7 +168,7 @@ fn import<S: Store>(
     answer(rt, service, 0, &message)
 }
 
-/// Lets time go by up to a moment.
+/// Sends a tick at a moment.
 fn tick<S: Store>(
     rt: &HostRuntime,
     service: &mut Service<S>,
@@ -187,7 +189,7 @@ fn statement<S: Store>(
     answer(rt, service, 0, &message)
 }
 
-/// Hands a message to the service at a moment, in seconds since 1970-01-01T00:00:00Z, and prints the body of its answer.
+/// Passes a message to the service at a moment, in seconds since 1970-01-01T00:00:00Z, and prints the body of the answer.
 fn answer<S: Store>(
     rt: &HostRuntime,
     service: &mut Service<S>,
@@ -203,7 +205,7 @@ fn answer<S: Store>(
     }
 }
 
-/// Prints a body, and a line feed where it has none of its own.
+/// Prints a body, and a line feed if it does not end with one.
 fn print(rt: &HostRuntime, answer: &Answer) -> io::Result<()> {
     let mut writer = io::writer(rt);
     writer.write_all(answer.body().as_bytes())?;
@@ -213,7 +215,7 @@ fn print(rt: &HostRuntime, answer: &Answer) -> io::Result<()> {
     writer.flush()
 }
 
-/// Answers the lines of standard input over tables in memory, with the settings of a file or the default ones.
+/// Answers the lines of standard input over tables in memory, with the settings in a file or the default ones.
 fn replay_input(rt: &HostRuntime, settings: Option<&Text>) -> Result<Outcome, Failure> {
     let settings = match settings {
         Some(path) => settings_in(rt, path.as_str())?,
@@ -234,7 +236,7 @@ fn replay_over<S: Store + Drop>(rt: &HostRuntime, store: S) -> Result<Outcome, F
     ended(replay(rt.alloc(), &mut service, reader, writer))
 }
 
-/// What a replay takes where no settings are told.
+/// The settings of a replay for which no file of settings is named.
 pub fn default_settings(alloc: Global) -> Result<Settings, Memory>
     ensures { IfOk result AreSettingsInLimits }
 {

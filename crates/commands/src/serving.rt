@@ -8,17 +8,18 @@ use std::net::{TcpListener, TcpStream};
 use std::time::SystemTime;
 use stores::Store;
 
-/// How long a message may take, from the accept of its connection to its last byte, and how long its answer, in seconds.
+/// How long a message may take, from the accept of its connection to its last byte, and how long its answer may take, in seconds.
 const MOST_SECONDS: u64 = 10;
 
-/// Serves so many connections, one after the other: of each, a message is read and answered, at the moment at which the
-/// connection came. One that fails counts as served, and one whose message has not come whole in 10 seconds, or whose
-/// client has not taken its answer in 10 seconds, fails. Where the clock tells no moment the answer is `unavailable`.
+/// Serves `count` connections, one after the other. It reads one message from each and answers it, at the moment at which the
+/// connection was accepted. A connection that fails counts as served. It fails if the whole message does not arrive within
+/// 10 seconds, or if the client does not take the answer within 10 seconds. If the clock can't be read, the answer is
+/// `unavailable`.
 ///
 /// # Errors
 ///
-/// [`Failure::Unavailable`] behind the connection at which a fault of the disk shut the store. Opened again, it has all that
-/// was answered.
+/// [`Failure::Unavailable`] after the connection at which a fault of the disk shut the store. Opened again, the store has
+/// everything that was answered.
 pub fn serve_on<S: Store>(
     rt: &HostRuntime,
     service: &mut Service<S>,
@@ -36,16 +37,12 @@ pub fn serve_on<S: Store>(
     Ok(())
 }
 
-/// Serves a connection. One that was answered lingers, and a fault in that is nobody's.
+/// Serves a connection. After an answer it lingers, and a fault in that has no effect.
 fn serve_stream<'a, S: Store>(
     rt: &'a HostRuntime,
     service: &mut Service<S>,
     stream: &'a TcpStream,
 ) {
-    // (so that the second write of an answer, its body, is sent at once)
-    let Ok(()) = stream.set_nodelay(true) else {
-        return;
-    };
     let mut reader = Timed::new(rt, stream, MOST_SECONDS);
     let mut writer = Timed::new(rt, stream, MOST_SECONDS);
     let served = serve_one(
@@ -56,11 +53,11 @@ fn serve_stream<'a, S: Store>(
         &mut FromWrite(&mut writer),
     );
     if served.is_ok() {
-        let _lingered = linger(rt, stream);
+        let _lingered = linger(stream, reader);
     }
 }
 
-/// The seconds since 1970-01-01T00:00:00Z, or what is no moment where the clock tells none.
+/// The seconds since 1970-01-01T00:00:00Z, or a number that is no moment if the clock can't be read.
 fn seconds_now(rt: &HostRuntime) -> u64 {
     let Ok(now) = SystemTime::now(rt) else {
         return u64::MAX;
