@@ -174,8 +174,8 @@ module _ (q : Place → Bool) (from : Place) where
       turn true (suc m) later is = later m is
       turn false n later is = later n is
 
-  -- Take the places that pass from one place on. Those from one of them on, with or without it, are exactly those that pass from a later place on.
-  -- For no place before it passes from there on, and a place after it passes from there on exactly if it passed from the first place on.
+  -- Take the places that pass from one place on, and one of them. It and those after it, or only those after it, are the ones that pass from a later
+  -- place on. This needs that no place before it passes from there on, and that each place after it passes from both places on or from neither.
   module _ (it late : Place) (stays : Bool) (before : (p : Place) → IsBefore p it → keeps late p ≡ false) (itself : keeps from it ≡ true → keeps late it ≡ stays)
       (above : (r : Place) → keeps from it ≡ true → IsBefore it r → is_before r from ≡ is_before r late) where
     all_above : keeps from it ≡ true → (ps : List Place) → AllByRecursion (IsBefore it) ps → filter (keeps late) ps ≡ filter (keeps from) ps

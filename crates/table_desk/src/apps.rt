@@ -146,9 +146,9 @@ fn version_among<S: Alter>(
     Ok(None)
 }
 
-/// The version that a host runs of the application at this place, of all applications: the newest for the first of the
-/// host's platforms that has any. For any rows, it is unavailable if the version has no class, or if one of its values
-/// is out of its range. What the connection shows is unchanged.
+/// The version that a host runs of the application at this place. It is the newest one for the first of the host's
+/// platforms that has any. `apps` are all applications. For any rows, it is unavailable if the version has no class, or
+/// if one of its values is out of its range. What the connection shows is unchanged.
 pub fn version_for<S: Alter>(
     alloc: Global,
     conn: &mut Connection<S>,

@@ -1,5 +1,5 @@
-//! What is counted: of a workunit, read from its row; of a user, read from the rows of the user's hosts; and of a host
-//! that has no row.
+//! What is counted of a workunit, read from its row, and of a user, read from the rows of the user's hosts. Also what
+//! is counted of a host that has no row.
 
 ghost use Rattle.std.specs.Prelude.{◌≡◌, [], length, sum_by, unsigned_abs, IfOk, OnOk};
 ghost use Rattle.sqlite.specs.Held.{state};

@@ -151,11 +151,11 @@ fn offer_on<S: Alter, K: KnownUnits, T: Taker>(
     }
 }
 
-/// Offers the instances of open workunits that were given to nobody, in the order of their places, from this place on,
-/// until the taker says stop. `apps` are all applications. A candidate that the taker passes over is not offered. If
-/// the page that was read last was read from this place on, or has the place, the offers begin on that page. If not,
-/// another page is read and replaces it. A workunit is read if it is not known. If the tables are unavailable, the
-/// offers end early. What the connection shows is unchanged.
+/// Offers the instances of open workunits that were given to nobody, in the order of their places, from this place on.
+/// The offers end when the taker says stop, and a candidate that the taker passes over is not offered. `apps` are all
+/// applications. If the page that was read last was read from this place on, or has the place, the offers begin on that
+/// page. If not, another page is read and replaces it. A workunit is read if it is not known. If the tables are
+/// unavailable, the offers end early. What the connection shows is unchanged.
 pub fn unsent_from<S: Alter, K: KnownUnits, T: Taker>(
     alloc: Global,
     conn: &mut Connection<S>,

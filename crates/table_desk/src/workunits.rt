@@ -33,7 +33,7 @@ pub fn unit_by_name<S: Alter>(
 }
 
 /// The workunit at this place. `apps` are all applications. For any rows, it is unavailable if the workunit has no
-/// mark, or if its row or its mark has a value out of its range. What the connection shows is unchanged.
+/// mark, or if its row or mark has a value out of its range. What the connection shows is unchanged.
 pub fn unit_at<S: Alter>(
     alloc: Global,
     conn: &mut Connection<S>,
@@ -84,7 +84,7 @@ fn instances(alloc: Global, rows: &[StoredInstance]) -> Result<Listed<Instance>,
 }
 
 /// The instances of the workunit at this place, by number. For any rows, it is unavailable if there are more than a
-/// workunit may have, or if a row has a value out of its range. What the connection shows is unchanged.
+/// workunit may have, or if one has a value out of its range. What the connection shows is unchanged.
 pub fn instances_at<S: Alter>(
     alloc: Global,
     conn: &mut Connection<S>,
