@@ -52,7 +52,7 @@ module _ {X : Type 0} (P : X → Type 0) where
         cases true = all
         cases false = all_modified_at xs (n - 1) all
 
--- ---- no instance passes a test, as one fact of each
+-- ---- that no instance passes a test, as a fact of each instance
 
 abbrev Fails : (Instance → Bool) → Instance → Type 0
 Fails test x = test x ≡ false

@@ -17,7 +17,7 @@ use Rattle.sched_tables.specs.declared.remembered.Remembered.{Remembered}
 abbrev pub IsHonest : State → Type 0
 IsHonest s = HasCleanDisk s × IsTrue s.is_open
 
--- No transaction is open, and nothing waits for a commit. The tables hold the world with what they keep, and its rows determine it.
+-- No transaction is open, and no change waits for a commit. The tables hold the world with what they keep, and its rows determine it.
 pub record AreWellKept (s : State) (w : World) : Type 0 where
   pub idle : s.in_transaction ≡ false
   pub rests : s.now ≡ s.committed

@@ -14,7 +14,7 @@ use crate::tables::Tables;
 use sched_book::{Candidate, Flow, Place, Taker, Unavailable, copy_of};
 use sqlite::Alter;
 
-/// The workunits of so many offers of one look-up are remembered.
+/// The workunits of at most so many offers of one look-up are remembered.
 const MOST_NOTED: usize = 16;
 
 /// A taker that passes each offer on to another taker, and notes the workunits of the first ones.
@@ -32,7 +32,7 @@ impl<'a, T> Drop for Noting<'a, T> {
     }
 }
 
-/// Notes the workunit of a candidate, if few were noted and there is memory for it.
+/// Notes the workunit of a candidate, if fewer than `MOST_NOTED` were noted and there is memory for it.
 fn note(noted: &mut Vec<UnitRead>, candidate: &Candidate)
     ensures { (w : World) → IsCandidateOf w candidate.now → All (IsUnitOf w) noted.old.items → All (IsUnitOf w) noted.new.items }
 {

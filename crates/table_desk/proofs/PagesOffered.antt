@@ -35,7 +35,7 @@ module _ {T : Type 0} (takes : T → Candidate → Flow → T → Type 0) where
   pub leads_on : (old mid new : T) (all more left : List Candidate) → Leads takes old all mid more → Leads takes mid more new left → Leads takes old all new left
   leads_on old mid new all more left first second = record { to_all = λ last h. first.to_all last (second.to_all last h); to_some = λ last h. first.to_some last (second.to_some last h) }
 
-  -- one was offered, and the taker goes on to the others
+  -- one was offered, and the taker continues with the others
   pub leads_one : (old new : T) (c : Candidate) (cs : List Candidate) → takes old c GoOn new → Leads takes old (c ∷ cs) new cs
   leads_one old new c cs taken = record { to_all = λ last h. inr (new, taken, h); to_some = λ last h. inr (inr (new, taken, h)) }
 

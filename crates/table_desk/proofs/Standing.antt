@@ -60,7 +60,7 @@ module _ {X : Type 0} (columns : ℕ × X → Row) (test : Row → Bool) (p : X 
   abbrev first_row : ℕ → List X → Option Row
   first_row from xs = slice_get (filter test (map columns (enumerate_from from xs))) 0
 
-  -- either none passes, and there is no row, or the first row is that of the first that passes
+  -- either no item passes and there is no row, or the first row is that of the first item that passes
   abbrev First : ℕ → List X → Type 0
   First from xs = ((first_row from xs ≡ None) × (position_from p from xs ≡ None) × (find p xs ≡ None))
       ⊎ ((n : ℕ) × (i : ℕ) × (x : X) × (first_row from xs ≡ Some (columns (n, x))) × (position_from p from xs ≡ Some n) × (n ≡ from + i) × (slice_get xs i ≡ Some x)

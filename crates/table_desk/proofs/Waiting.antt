@@ -1,5 +1,5 @@
--- What is unsent is, place by place, what waits in the tables. What waits from a place of a page on is the rest of the page and what is after the
--- page.
+-- What is unsent is, place by place, what waits in the tables. What waits from a place of a page on is the rest of the page and what comes
+-- after it.
 use Rattle.std.proofs.Common.{◌≡◌, ℕ, zero, suc, ◌+◌, ◌≤◌, Bool, true, false, true≢false, ◌&&◌, cond, not, List, [], ◌∷◌, ◌++◌, filter, length, map, take, drop, slice_get, Option, Some, None, option_map, refl, sym, ap, ap₂, subst, ◌∙◌, arith, nat_le, nat_lt, is_none}
 use Rattle.std.specs.Prelude.{◌==◌, ◌||◌, option_and_then, unwrap_or}
 use Rattle.std.specs.List.{AllByRecursion, cons_option}

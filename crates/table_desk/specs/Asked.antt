@@ -15,7 +15,7 @@ pub record Tell (db : Database) (w : World) : Type 0 where
   pub holds : HoldWorld db w calls batches
   pub readable : IsReadable w
 
--- Suppose the disk returned what was written, the connection is open, and nothing was waiting for a commit. Then this holds of each
+-- Suppose the disk returned what was written, the connection is open, and no change was waiting for a commit. Then this holds of each
 -- world that the tables held before the look-up.
 abbrev pub Asked : {S : Type 0} → Ghosts S → Held S → Held S → (World → Type 0) → Type 0
 Asked store old new says = HasCleanDisk (state store new) → IsTrue (state store new).is_open → (state store old).now ≡ (state store old).committed → (w : World) → Tell (state store old).now w → says w
