@@ -1,4 +1,4 @@
--- Nothing is due before a moment: in the world that was looked through, and in a world with changes made.
+-- Moments before which nothing is due: in the world that was looked through, and in a world with changes made.
 use Rattle.std.proofs.Common.{◌≡◌, ℕ, zero, suc, ◌+◌, ◌-◌, ◌≤◌, max, Bool, true, false, ◌&&◌, cond, eqb, List, [], ◌∷◌, ◌++◌, length, Option, Some, None, refl, sym, ◌⊎◌, inl, inr, arith}
 use Rattle.std.specs.Prelude.{◌==◌, nat_lt, slice_set, replicate}
 use Rattle.std.specs.List.{AllByRecursion}
@@ -52,7 +52,7 @@ module _ {X : Type 0} (P : X → Type 0) where
         cases true = all
         cases false = all_modified_at xs (n - 1) all
 
--- ---- no instance passes a test, as one fact of each
+-- ---- that no instance passes a test, as a fact of each instance
 
 abbrev Fails : (Instance → Bool) → Instance → Type 0
 Fails test x = test x ≡ false
@@ -109,7 +109,7 @@ lower_due : (bs : List UnitBook) (due_from lower : ℕ) → lower ≤ due_from �
 lower_due bs due_from lower below none =
     all_weaker (HasNone (is_overdue due_from)) (HasNone (is_overdue lower)) (λ b. all_weaker (Fails (is_overdue due_from)) (Fails (is_overdue lower)) (not_sooner due_from lower below) b.instances) bs none
 
--- A lower one is one too, and 0 is one of each world.
+-- A lower moment is also one before which nothing is due, and 0 is one in each world.
 pub lower_due_from : (w : World) (due_from lower : ℕ) → lower ≤ due_from → NothingIsDueBefore w due_from → NothingIsDueBefore w lower
 lower_due_from w due_from lower below is = is_due_from w lower (lower_due w.units due_from lower below (none_due w due_from is))
 
@@ -129,7 +129,7 @@ none_before w = is_due_from w 0 (of_each w.units)
     of_each [] = tt
     of_each (b ∷ bs) = (each b.instances, of_each bs)
 
--- Where nothing is due at a moment, the moment is one.
+-- If nothing is due at a moment, nothing is due before it.
 pub raised_is : (w : World) (due_from now : ℕ) (due : List Place) → due ≡ overdue w now → NothingIsDueBefore w due_from → NothingIsDueBefore w (raised due_from now due)
 raised_is w due_from now [] none is = cases (max due_from now) (let either : (max due_from now ≤ due_from) ⊎ (max due_from now ≤ now) = grind arith in either)
   where
@@ -165,7 +165,7 @@ lowered_one w due_from (change.Instance p x) is =
 lowered_one w due_from (change.Class unit class) is =
     is_due_from (applied_one w (change.Class unit class)) due_from (all_modified (HasNone (is_overdue due_from)) (with_class class) (λ b none. none) w.units unit (none_due w due_from is))
 
--- Lowered by changes it is one of the world after.
+-- Lowered by changes, the moment is one for the world after them.
 pub lowered_then : (w : World) (due_from : ℕ) (cs : List Change) → NothingIsDueBefore w due_from → NothingIsDueBefore (applied w cs) (lowered due_from cs)
 lowered_then w due_from [] is = is
 lowered_then w due_from (c ∷ cs) is = lowered_then (applied_one w c) (lowered_by due_from c) cs (lowered_one w due_from c is)
@@ -174,6 +174,6 @@ lowered_below : (due_from : ℕ) (cs : List Change) → lowered due_from cs ≤ 
 lowered_below due_from [] = omega arith
 lowered_below due_from (c ∷ cs) = let first = below_due_from due_from c in let later = lowered_below (lowered_by due_from c) cs in omega arith
 
--- and of the world before
+-- and for the world before them
 pub lowered_before : (w : World) (due_from : ℕ) (cs : List Change) → NothingIsDueBefore w due_from → NothingIsDueBefore w (lowered due_from cs)
 lowered_before w due_from cs is = lower_due_from w due_from (lowered due_from cs) (lowered_below due_from cs) is

@@ -1,4 +1,4 @@
--- A commit keeps its entry, and all else as it was.
+-- A commit keeps its entry, and leaves everything else as it was.
 use Rattle.std.proofs.Common.{◌≡◌, ℕ, Bool, true, false, ◌&&◌, ◌||◌, cond, eqb, List, [], ◌∷◌, Option, Some, None, option_map, take, length, refl, sym, ap, ap₂, subst, ◌∙◌, true≢false, arith, IsTrue}
 use Rattle.std.specs.Str.{bytes_eq}
 use Rattle.std.specs.Prelude.{IfSome, is_some, nat_le, nat_lt}
@@ -57,11 +57,11 @@ same_bytes a b = (bytes_eq-Decides a b).0
 other_key : (a b : RowKey) → (same_key a b || false) ≡ false → a ≡ b → ⊥
 other_key a b apart same = absurd (true≢false (sym (ap (λ k. same_key k b || false) same ∙ ap (λ c. c || false) (key_itself b)) ∙ apart))
 
--- the calls in slots with one more
+-- the calls in slots, with one more
 abbrev pub with_call : ℕ → ℕ → Kept → SlotCalls → SlotCalls
 with_call host slot k calls id other = cond (eqb host id) (with_slot slot k (calls id) other) (calls id other)
 
--- the imports with one more
+-- the imports, with one more
 abbrev pub with_import : Kind → List ℕ → KeptBatch → Imports → Imports
 with_import kind name b batches k n = cond (bytes_eq (kind_name kind) k && bytes_eq name n) (Some (b.text, b.answer)) (batches k n)
 
@@ -157,7 +157,7 @@ are_kept_then w entry.Nothing row calls batches is = record {
   batches_then = λ kind name. refl;
 }
 
--- ---- what an entry keeps may stand beside a world
+-- ---- what an entry keeps may be kept with a world
 
 kind_told : (kind : Kind) → is_some (kind_of (kind_name kind)) ≡ true
 kind_told Accounts = refl
@@ -165,7 +165,7 @@ kind_told Apps = refl
 kind_told Versions = refl
 kind_told Workunits = refl
 
--- beside what was kept before
+-- what is kept afterwards may be kept with the world, if what was kept before may
 pub beside_entry : (w : World) (e : Entry) (row : Option StoredRow) (calls : SlotCalls) (batches : Imports) (is : IsRowOf calls e row) → MayBeKept w e → MayStandBeside w calls batches
     → MayStandBeside w (are_kept_then w e row calls batches is).calls' (are_kept_then w e row calls batches is).batches'
 unfolding are_kept_then
@@ -217,9 +217,9 @@ module _ (db : Database) (w : World) (calls : SlotCalls) (batches : Imports) (ho
   pub held_with_kept : HoldWorld db w (calls_in db.trees) (batches_in db.trees)
   held_with_kept = subst (λ (c : SlotCalls). HoldWorld db w c (batches_in db.trees)) (λ i host slot. sym (calls_back host slot) i) (subst (λ (b : Imports). HoldWorld db w calls b) (λ i kind name. sym (batches_back kind name) i) holds)
 
--- ---- what is kept beside the tables
+-- ---- what is in memory
 
--- changes leave the settings, and bring applications
+-- changes leave the settings as they are, and bring applications
 apps_brought : (w : World) (cs : List Change) → (applied w cs).apps ≡ apps_with w.apps cs
 apps_brought w [] = refl
 apps_brought w (change.Account a ∷ cs) = apps_brought (applied_one w (change.Account a)) cs
@@ -249,7 +249,7 @@ module _ (old new : Database) (w : World) (cs : List Change) (e : Entry) (holds 
   batches_then kind name = ap (option_map kept_batch) (batches_back new (applied w cs) after.calls' after.batches' now_held (kind_name kind) name) ∙ after.batches_then kind name
 
 module _ (old new : State) (w : World) (cs : List Change) (e : Entry) (kept : AreWellKept old w) (made : MakesWith w cs e old.now new.now) where
-  -- the rows tell the world with the changes made
+  -- the rows represent the world with the changes made
   pub world_then : world_in new.now.trees ≡ applied w cs
   world_then = held_is_read_back new.now (applied w cs) _ _ (now_held old.now new.now w cs e kept.holds made) made.2.readable
 
@@ -269,7 +269,7 @@ module _ (old new : State) (w : World) (cs : List Change) (e : Entry) (kept : Ar
     batches_are = batches_then old.now new.now w cs e kept.holds made;
   }
 
-  -- what is kept beside the tables is the world's, with the applications that the changes bring
+  -- what is in memory agrees with the world, with the applications that the changes bring
   pub beside_then : (calls : SlotCalls) (settings : Settings) (apps apps' : List App) (read read' : Remembered) (due_from due_from' : ℕ) → AreBeside w calls settings apps read due_from → apps' ≡ apps_with apps cs → AreRemembered (world_in new.now.trees) (calls_in new.now.trees) read' → NothingIsDueBefore (world_in new.now.trees) due_from'
       → AreBeside (world_in new.now.trees) (calls_in new.now.trees) settings apps' read' due_from'
   beside_then calls settings apps apps' read read' due_from due_from' beside brought rows marked = record {

@@ -1,4 +1,4 @@
--- Rows put lead from tables that hold a world to tables that hold the next one.
+-- Putting rows leads from tables that hold a world to tables that hold the next one.
 use Rattle.std.proofs.Common.{◌≡◌, IsTrue, List, [], ◌++◌, Option, true, false, true≢false, Result, Ok, Err, is_err, OnOk, OnErr, sym, subst, arith}
 use Rattle.std.specs.List.{cons_option}
 use Rattle.sqlite.specs.Effect.{Database}
@@ -27,7 +27,7 @@ leads w cs rows all more old new changes pushed puts = λ calls calls' batches b
     hold_same new _ _ (world_settled w cs rows changes calls calls' batches batches' (cons_option more []) keeps.each keeps.other_calls keeps.other_batches)
     (subst (PutsRows old new) pushed puts (contents_of w calls batches) holds)
 
--- so rows put make the changes
+-- so putting rows makes the changes
 makes : (w : World) (cs : List Change) (more : Option StoredRow) (rows : List StoredRow) (old new : Database) → ArePut w cs more rows → PutsRows old new rows → HaveUtf8 rows → Makes w cs more old new
 makes w cs more rows old new put puts utf8 = record {
   leads = leads w cs put.changed rows more old new put.are put.all puts;
@@ -35,17 +35,17 @@ makes w cs more rows old new put puts utf8 = record {
   texts = λ calls batches holds. utf8_then old new (contents_of w calls batches) rows puts utf8 holds;
 }
 
--- with what an entry puts
+-- and so with what an entry puts
 makes_with : (w : World) (cs : List Change) (e : Entry) (rows : List StoredRow) (old new : Database) → ArePutWith w cs (calls_in old.trees) e rows → PutsRows old new rows → HaveUtf8 rows → MakesWith w cs e old new
 makes_with w cs e rows old new put puts utf8 = (put.0, put.1, makes w cs put.0 rows old new put.2 puts utf8)
 
--- rows put behind a read that left what stood
+-- rows put after a read that left everything as it was
 pub puts_all : (old mid new : State) (w : World) (cs : List Change) (e : Entry) (rows : List StoredRow) → mid.now ≡ old.now → new.now ≡ new.committed → ArePutWith w cs (calls_in old.now.trees) e rows
     → PutsRows mid.now new.committed rows → HaveUtf8 rows → MakesWith w cs e old.now new.now
 puts_all old mid new w cs e rows same rest put puts utf8 =
     makes_with w cs e rows old.now new.now put (subst (λ (d : Database). PutsRows d new.now rows) same (subst (λ (d : Database). PutsRows mid.now d rows) (sym rest) puts)) utf8
 
--- and what a stop leaves of rows put behind a read is the changes made
+-- and what a stop leaves of rows put after a read is what it could leave before, or the changes made
 pub leaves_made : (old mid new : State) (w : World) (cs : List Change) (e : Entry) (rows : List StoredRow) (Kept : Type 0) → Reads old mid
     → Survives mid new (λ trees. IsTrue mid.is_open × HaveUtf8 rows × (db : Database) × PutsRows mid.now db rows × (trees ≡ db.trees)) → (IsHonest mid → Kept → ArePutWith w cs (calls_in old.now.trees) e rows) → (Kept → old.now ≡ old.committed)
     → Survives old new (λ trees. IsTrue old.is_open × (Kept → (db : Database) × MakesWith w cs e old.now db × (trees ≡ db.trees)))
@@ -76,7 +76,7 @@ pub all_err : {T E : Type 0} (r : Result T E) (A B : Type 0) → OnErr r A → (
 all_err (Ok x) A B a f = tt
 all_err (Err e) A B a f = f a
 
--- what follows of either way holds
+-- what follows in both cases holds
 pub either_way : {T E : Type 0} (r : Result T E) (A B C : Type 0) → OnOk r A → OnErr r B → (A → C) → (B → C) → C
 either_way (Ok x) A B C a b f g = f a
 either_way (Err e) A B C a b f g = g b

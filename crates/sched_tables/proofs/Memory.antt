@@ -15,7 +15,7 @@ pub memory_never_fails : NeverFails over_memory
 unfolding doubt
 memory_never_fails s = (refl, refl)
 
--- what tables in memory say of a clean disk they say with no premise
+-- what tables in memory say of a clean disk, they say with no premise
 pub without_premise : (r : Result (Tables MemStore) OpenFault) (P : Tables MemStore → Type 0) → IfOk r (λ t. HasCleanDisk (state_of over_memory t) → P t) → IfOk r P
 without_premise (Ok t) P says = says (memory_is_clean t.conn)
 without_premise (Err e) P says = tt

@@ -1,4 +1,4 @@
--- New tables hold the world in which nothing stands, and keep nothing.
+-- New tables hold the empty world, and keep nothing.
 use Rattle.std.proofs.Common.{◌≡◌, List, [], None, false, option_map, subst, sym, ap, ◌∙◌}
 use Rattle.stores.specs.Held.{IsNew}
 use Rattle.stores.specs.Kinds.{kind_name}
@@ -36,7 +36,7 @@ use Rattle.table_rows.specs.Utf8.{HaveUtf8}
 nothing_held : (s : Settings) (db : Database) → HoldJust db (setting_rows s) → HoldWorld db (empty_world s) (λ _ _. None) (λ _ _. None)
 nothing_held s db just = hold_same db _ _ (new_world s) just
 
--- the world in which nothing stands is told by its rows
+-- the rows of the empty world determine it
 empty_readable : (s : Settings) → IsReadable (empty_world s)
 empty_readable s = record { versions = All-nil _; units = All-nil _; hosts = All-nil _ }
 
@@ -44,7 +44,7 @@ module _ (s : Settings) (st : State) (rests : st.now ≡ st.committed) (just : H
   held : HoldWorld st.now (empty_world s) (λ _ _. None) (λ _ _. None)
   held = nothing_held s st.now (subst (λ db. HoldJust db (setting_rows s)) (sym rests) just)
 
-  -- the rows tell that world
+  -- the rows represent that world
   pub new_world_is : world_in st.now.trees ≡ empty_world s
   new_world_is = held_is_read_back st.now (empty_world s) (λ _ _. None) (λ _ _. None) held (empty_readable s)
 
@@ -56,7 +56,7 @@ module _ (s : Settings) (st : State) (rests : st.now ≡ st.committed) (just : H
     readable = subst IsReadable (sym new_world_is) (empty_readable s);
   }
 
-  -- where that world is sound, and the texts of its settings are in UTF-8, they can be opened again
+  -- if that world is sound, and the texts of its settings are in UTF-8, the tables can be opened again
   pub new_can_be_opened : Sound (empty_world s) → HaveUtf8 (setting_rows s) → CanBeOpened st.now
   new_can_be_opened sound utf8 =
       held_can_be_opened st.now (empty_world s) (λ _ _. None) (λ _ _. None) sound (record { calls_fit = λ host slot. tt; imports_fit = λ kind text. tt }) held

@@ -1,4 +1,4 @@
--- What another is handed on of what is offered, and what is noted of it.
+-- What a taker that notes passes on to another, and what it notes.
 use Rattle.std.proofs.Common.{◌≡◌, ℕ, suc, ◌+◌, Bool, true, false, cond, List, [], ◌∷◌, ◌++◌, Some, refl, sym, ap, subst, ◌∙◌, inl, inr, arith}
 use Rattle.std.specs.Prelude.{All, slice_get, option_map}
 use Rattle.std.specs.List.{AllByRecursion}
@@ -45,9 +45,10 @@ module _ (w : World) (from : Place) where
   pub candidates_stand : AllByRecursion (IsCandidateOf w) (unsent w from)
   candidates_stand = of_each 1 w.units (λ i n b at is. subst (λ m. unit_at w m ≡ Some b) (sym at) (nth_next w.units i ∙ is))
 
--- ---- offers that are handed on
+-- ---- offers that are passed on
 
--- how an offer of a taker is one of another, and what it leaves of a third thing
+-- Suppose each offer to one taker is also one to a taker within it, and a relation holds from before it to after it. Then this is so of several
+-- offers, too.
 module _ {N T : Type 0} (notes : N → Candidate → Flow → N → Type 0) (takes : T → Candidate → Flow → T → Type 0) (taker : N → T)
     (Fits : Candidate → Type 0) (Leaves : N → N → Type 0) (none : (n : N) → Leaves n n) (on : (a b c : N) → Leaves a b → Leaves b c → Leaves a c)
     (each : (old new : N) (c : Candidate) (flow : Flow) → Fits c → notes old c flow new → takes (taker old) c flow (taker new) × Leaves old new) where
@@ -66,14 +67,14 @@ module _ {N T : Type 0} (notes : N → Candidate → Flow → N → Type 0) (tak
       let one = each old mid c _ fit.0 go in
       let rest = some_on cs mid new fit.1 more in (inr (inr (taker mid, one.0, rest.0)), on old mid new one.1 rest.1)
 
--- a taker that notes, over another one
+-- a taker that notes, and passes offers on to another one
 module _ {T : Type 0} (takes : T → Candidate → Flow → T → Type 0) (w : World) where
   abbrev pub Notes : Noting T → Candidate → Flow → Noting T → Type 0
   Notes old c flow new =
       takes old.taker.now c flow new.taker.now × ((v : World) → IsCandidateOf v c → All (IsUnitOf v) old.noted.now.items → All (IsUnitOf v) new.noted.now.items)
       × (new.taker.ghost_name ≡ old.taker.ghost_name) × (new.noted.ghost_name ≡ old.noted.ghost_name)
 
-  -- what is noted goes on to be the world's, and the same is borrowed
+  -- what is noted stays the world's, and the same values are borrowed
   abbrev pub NotesOn : Noting T → Noting T → Type 0
   NotesOn old new =
       (All (IsUnitOf w) old.noted.now.items → All (IsUnitOf w) new.noted.now.items) × (new.taker.ghost_name ≡ old.taker.ghost_name) × (new.noted.ghost_name ≡ old.noted.ghost_name)

@@ -33,7 +33,7 @@ module _ (taken read : State) (opens : HasCleanDisk taken → Opens taken) (know
     sound : Sound (world_in taken.now.trees)
     sound = from.2.sound
 
-    -- the rows tell the world that was read
+    -- the rows represent the world that was read
     pub opened_world : world_in read.now.trees ≡ world_in taken.now.trees
     opened_world = ap (λ (db : Database). world_in db.trees) shows_the_same
 

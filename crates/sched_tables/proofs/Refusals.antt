@@ -37,7 +37,7 @@ use Rattle.table_rows.specs.Refusing.{fault_of, refusal_for, given_back}
 use Rattle.sched_tables.specs.Held.{NeverFails}
 use Rattle.sched_tables.specs.Refusals.{AreRefusedFor}
 
--- ---- the row that tells the schema
+-- ---- the row that names the schema
 
 tells_newest : (v : SettingValue) → setting_value v ≡ whole newest → v ≡ Number newest
 tells_newest (Number n) is = cc
@@ -46,7 +46,7 @@ tells_newest (Word w) is = cc
 no_text : (n : ℕ) → equal Binary (whole n) (Text (codes "schema")) ≡ true → ⊥
 no_text n is = let same : whole n ≡ Text (codes "schema") = same_cell (whole n) (Text (codes "schema")) refl refl is in cc
 
--- only the setting of that name begins with it and has that value
+-- a row that begins with `schema`, and then has the number of the newest one, is the row of the schema
 is_schema_row : (r : StoredRow) → equal Binary (column (columns_of r) 0) (Text (codes "schema")) ≡ true → column (columns_of r) 1 ≡ whole newest → r ≡ schema_row
 is_schema_row (stored.Setting s) named is =
     ap₂ (λ n v. stored.Setting (record { name = n; value = v })) ((bytes_eq-Decides s.name (codes "schema")).0 (sym (equal_texts s.name (codes "schema")) ∙ named)) (tells_newest s.value is)
@@ -61,7 +61,7 @@ is_schema_row (stored.Batch r) named is = cc
 is_schema_row (stored.VersionClass r) named is = absurd (no_text _ named)
 is_schema_row (stored.UnitMark r) named is = absurd (no_text _ named)
 
--- a row of the settings has a name where it begins with that
+-- a row of the settings at the key of a name begins with the name
 begins_with : (text : List ℕ) (raw : Row) → has_key (setting_key text) raw ≡ true → equal Binary (column (shown name.Setting raw) 0) (Text text) ≡ true
 unfolding first_key
 begins_with text raw own = first_of (equal Binary (column (shown name.Setting raw) 0) (Text text)) own
@@ -70,7 +70,7 @@ begins_with text raw own = first_of (equal Binary (column (shown name.Setting ra
     first_of true own = refl
     first_of false own = own
 
--- where no setting tells the newest schema, the tables do not say that they are of it
+-- if no setting names the newest schema, the tables do not say that they are of it
 not_said : (trees : Trees) → HasOtherSchema trees → schema_said trees ≡ Some (whole newest) → ⊥
 not_said trees other said = elim (found (has_key key) (trees (tree_of name.Setting))) [
   | inl none ↦ none-some (whole newest) (sym (ap (option_map (λ row. column (shown name.Setting row) 1)) none.0) ∙ of_shown (find (has_key key) (trees (tree_of name.Setting))) ∙ said)
@@ -93,7 +93,7 @@ not_said trees other said = elim (found (has_key key) (trees (tree_of name.Setti
 
 -- ---- tables of the newest schema
 
--- are of no earlier one
+-- they are of no earlier schema
 pub none_earlier : (db : Database) → AreKnown db → (n : ℕ) → ¬ AreEarlier n db
 none_earlier db known n earlier = elim (of_two n earlier.earlier.0 earlier.earlier.1) [
   | inl one ↦
@@ -107,9 +107,9 @@ none_earlier db known n earlier = elim (of_two n earlier.earlier.0 earlier.earli
     of_two : (n : ℕ) → 1 ≤ n → n < 3 → (n ≡ 1) ⊎ (n ≡ 2)
     of_two n least most = grind arith
 
--- ---- what a refusal tells
+-- ---- what a refusal says
 
--- one that is given back before any row but that of the schema is looked at
+-- a refusal before any row is read except that of the schema
 pub told_by_schema : {S : Type 0} (store : Ghosts S) (db : Database) (r : Refused S) → ((n : ℕ) (c : Held S) → r ≡ refused.OldSchema n c → HasCleanDisk (state store c) → AreEarlier n db)
     → ((c : Held S) → r ≡ refused.NotTables c → HasCleanDisk (state store c) → db.schema ≢ stored_schema) → ((c : Held S) → r ≡ refused.NotTables c → HasCleanDisk (state store c) → (n : ℕ) → ¬ AreEarlier n db)
     → ((c : Held S) → r ≢ refused.BadRow c) → IfSome (given_back r) (λ c. HasCleanDisk (state store c) → AreRefusedFor (fault_of r) db)
@@ -118,7 +118,7 @@ told_by_schema store db (refused.OldSchema n c) old other neither fits = old n c
 told_by_schema store db (refused.BadRow c) old other neither fits = absurd (fits c refl)
 told_by_schema store db refused.Unavailable old other neither fits = tt
 
--- one for a fault of reading tables of the newest schema
+-- a refusal for a fault in reading tables of the newest schema
 pub told_by_rows : {S : Type 0} (store : Ghosts S) (db : Database) (e : OpenFault) (conn : Held S) → ((n : ℕ) → e ≢ fault.OldSchema n) → (HasCleanDisk (state store conn) → AreKnown db)
     → (HasCleanDisk (state store conn) → e ≡ fault.NotTables → HasOtherSchema db.trees) → (HasCleanDisk (state store conn) → e ≡ fault.BadRow → HasBadTable db.trees ⊎ StandForNone db.trees)
     → (r : Refused S) → r ≡ refusal_for e conn → IfSome (given_back r) (λ c. HasCleanDisk (state store c) → AreRefusedFor (fault_of r) db)
@@ -145,14 +145,14 @@ given_same {S} P e conn holds r is = subst (λ (r : Refused S). IfSome (given_ba
 
 -- ---- a store that never fails
 
--- the connection that a refusal gives back has a clean disk, so the refusal tells what the tables are refused for
+-- the connection that a refusal gives back has a clean disk, so the refusal says why the tables are refused
 pub told_of_all : {S : Type 0} (store : Ghosts S) → NeverFails store → (r : Refused S) (db : Database) → IfSome (given_back r) (λ c. HasCleanDisk (state store c) → AreRefusedFor (fault_of r) db) → AreRefusedFor (fault_of r) db
 told_of_all store never (refused.NotTables c) db told = told (never c.store).1
 told_of_all store never (refused.OldSchema n c) db told = told (never c.store).1
 told_of_all store never (refused.BadRow c) db told = told (never c.store).1
 told_of_all store never refused.Unavailable db told = tt
 
--- ---- a database in which nothing stands
+-- ---- an empty database
 
 -- a fault that blames neither a schema nor a row
 pub unavailable_alone : {T A : Type 0} (r : Result T OpenFault) → ¬ A → IfErr r (λ e. e ≡ fault.NotTables → A) → IfErr r (λ e. e ≢ fault.BadRow) → IfErr r (λ e. (n : ℕ) → e ≢ fault.OldSchema n) → IfErr r (λ e. e ≡ fault.Unavailable)

@@ -1,4 +1,4 @@
--- What can be opened again, and what a read and a commit leave of that.
+-- What can be opened again, and what a read and a commit leave of this.
 use Rattle.std.proofs.Common.{◌≡◌, ◌⊎◌, ℕ, true, ◌&&◌, List, Option, Some, None, codes, option_map, refl, sym, ap, subst, ◌∙◌, inl, inr, arith, IsTrue}
 use Rattle.std.specs.Prelude.{IfSome, is_some, nat_le, nat_lt}
 use Rattle.std.proofs.lemmas.Bool.{and_from, and_parts}
@@ -44,7 +44,7 @@ use Rattle.sched_tables.proofs.TextsKept.{texts_of}
 
 -- ---- tables that hold a sound world
 
--- they say of which schema they are
+-- they say that they are of the newest schema
 says_newest : (db : Database) (w : World) (calls : SlotCalls) (batches : Imports) → HoldWorld db w calls batches → AreNewest db
 says_newest db w calls batches holds = record { known = holds.known; said = ap (option_map (λ row. column row 1)) (holds.rows (setting_key (codes "schema"))) }
 
@@ -75,13 +75,13 @@ opened_are_taken db can = go
         ])
     go Unavailable refused = refl
 
--- ---- at rest, and behind a read
+-- ---- with no open transaction, and after a read
 
 -- well kept tables whose rows were read can be opened again
 pub kept_can_be_opened : (s : State) → AreWellKept s (world_in s.now.trees) → ReadFrom s.now.trees (world_in s.now.trees) → AreUtf8 s.now.trees → CanBeOpened s.now
 kept_can_be_opened s kept read utf8 = record { newest = says_newest s.now (world_in s.now.trees) _ _ kept.holds; rows = read; texts = utf8 }
 
--- another database with the same rows is the same
+-- another database with the same rows is the same one
 same_can_be_opened : (db other : Database) → IsDatabase other → other.trees ≡ db.trees → CanBeOpened db → CanBeOpened other
 same_can_be_opened db other sound same can = subst CanBeOpened (sym (one_database other db same sound can.newest.known.sound)) can
 
@@ -92,7 +92,7 @@ rest_reopens s is_open rests settled can = record {
   stop = λ clean db sound left. same_can_be_opened s.now db sound (settled db.trees (is_open clean) left ∙ ap (λ (d : Database). d.trees) (sym (rests clean))) (can clean);
 }
 
--- ---- what is kept beside a world with changes made
+-- ---- what is kept with a world with changes made
 
 host_stays : (w : World) (cs : List Change) (host : ℕ) → is_some (host_at w host) ≡ true → is_some (host_at (applied w cs) host) ≡ true
 host_stays w cs host stands = go (host_at (applied w cs) host) refl
@@ -116,7 +116,7 @@ beside_changes w cs calls batches beside = record { calls_fit = λ host slot. go
 
 -- ---- a commit
 
--- what is asked of a commit that leaves what can be opened again
+-- what is required of a commit that leaves tables that can be opened again
 abbrev pub MayReopen : State → List Change → Entry → Type 0 → Type 0
 MayReopen old cs e Kept = IsHonest old → Kept × Sound (applied (world_in old.now.trees) cs) × MayBeKept (applied (world_in old.now.trees) cs) e
 

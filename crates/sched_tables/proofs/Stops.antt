@@ -14,8 +14,7 @@ use Rattle.sched_tables.specs.Stops.{MayBeFound}
 use Rattle.sched_tables.specs.StopLaws.{found_before, read_as_held}
 use Rattle.sched_tables.proofs.EntriesKept.{now_held, calls_then, batches_then}
 
--- During a commit, a stop leaves what it could leave before, or the whole of the commit, and this only where the
--- connection was open.
+-- During a commit, a stop leaves what it could leave before or, if the connection was open, the whole of the commit.
 pub found_is_ahead : (old new : State) (w : World) (held : Held) (cs : List Change) (e : Entry) (Kept : Type 0) → (Kept → AreWellKept old w)
     → Survives old new (λ trees. IsTrue old.is_open × (Kept → (db : Database) × MakesWith w cs e old.now db × (trees ≡ db.trees))) → MayBeFound new held
     → MayBeFound old held ⊎ (IsHonest old × (Kept → IsKeptSoundly cs e (record { world = w; calls = calls_of old.now.trees; batches = batches_of old.now.trees }) held))

@@ -1,4 +1,4 @@
--- Texts in UTF-8 stay so: rows that are put have them so, and what none of them is stands as it stood.
+-- Texts in UTF-8 stay so: the rows that are put have such texts, and every other row stays as it was.
 use Rattle.std.proofs.Common.{Bool, true, false, cond, List, [], ◌∷◌, Option, Some, None, option_map, sym, subst}
 use Rattle.std.specs.Prelude.{IfSome}
 use Rattle.sqlite.specs.Effect.{Database}
@@ -11,7 +11,7 @@ use Rattle.table_reading.proofs.HeldRows.{HaveTexts}
 use Rattle.table_reading.specs.Reading.{AreUtf8}
 use Rattle.table_rows.specs.Utf8.{HasUtf8, HaveUtf8}
 
--- what is said of the columns of a row that may stand is said of the row
+-- what is said of the columns of a row, if there is one, is said of the row
 pub of_columns : (o : Option StoredRow) → IfSome (option_map columns_of o) HasUtf8 → IfSome o (λ r. HasUtf8 (columns_of r))
 of_columns None texts = tt
 of_columns (Some r) texts = texts
@@ -35,10 +35,10 @@ put_texts (row ∷ rows) contents texts utf8 = put_texts rows (with_row contents
     one key true = utf8.0
     one key false = texts key
 
--- rows put leave texts in UTF-8
+-- putting rows leaves texts in UTF-8
 pub utf8_then : (old new : Database) (contents : Contents) (rows : List StoredRow) → PutsRows old new rows → HaveUtf8 rows → Hold old contents → AreUtf8 old.trees → AreUtf8 new.trees
 utf8_then old new contents rows puts put holds utf8 = utf8_of new (with_rows contents rows) (puts contents holds) (put_texts rows contents (texts_of old contents holds utf8) put)
 
--- and so do rows that are all that there is
+-- and so are the texts of tables with just these rows
 pub just_utf8 : (db : Database) (rows : List StoredRow) → HoldJust db rows → HaveUtf8 rows → AreUtf8 db.trees
 just_utf8 db rows just put = utf8_of db (with_rows (λ key. None) rows) just (put_texts rows (λ key. None) (λ key. tt) put)

@@ -1,4 +1,4 @@
--- What is asked of tables that are well kept is said of their world.
+-- The answers of look-ups of well kept tables are those of their world.
 use Rattle.std.proofs.Common.{◌≡◌, subst, ◌∙◌}
 use Rattle.sched_book.specs.declared.world.World.{World}
 use Rattle.sqlite_trees.specs.declared.store.Store.{Ghosts}
@@ -39,7 +39,7 @@ read_on store first mid last on later = (
       due_from_before (state_of store first) (state_of store mid) on.0 then kept.0 last.due_from (later.4 honest (kept_on store first mid on then kept)),
 )
 
--- an answer behind another read is of the world before both
+-- an answer after another read is that of the world before both
 pub told_later : {S : Type 0} (store : Ghosts S) (first mid : Tables S) (after : Held S) (says : World → Type 0) → AreReadOn store first mid → Reads (state_of store mid) (state store after) → Asked store mid.conn after says
     → IsHonest (state store after) → AreKept store first → says (world_of store first)
 told_later store first mid after says on reads asked honest kept =

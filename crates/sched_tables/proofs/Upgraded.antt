@@ -1,4 +1,4 @@
--- What an upgrade leaves of a world, and what is told of it then.
+-- What an upgrade leaves of a world, and what tables say of it afterwards.
 use Rattle.std.proofs.Common.{◌≡◌, option_map, ap, IsTrue}
 use Rattle.sqlite.specs.Effect.{Database}
 use Rattle.sqlite.specs.State.{State, Survives}
@@ -20,7 +20,7 @@ use Rattle.sched_tables.specs.Upgrading.{held_with}
 use Rattle.sched_tables.specs.Views.{held_in}
 use Rattle.sched_tables.proofs.EntriesKept.{calls_back, batches_back}
 
--- what a stop leaves of an upgrade carries a world over, too
+-- what a stop leaves of an upgrade also holds the world
 pub survives_world : (old new : State) → Survives old new (λ trees. IsTrue old.is_open × (db : Database) × IsLeftBehind old.now db × (trees ≡ db.trees))
     → Survives old new (λ trees. IsTrue old.is_open × (db : Database) × IsLeftBehindWorld old.now db × (trees ≡ db.trees))
 survives_world old new = survives_weaker old new _ _ (λ _ trees left. (left.0, left.1, left_world old.now left.1 left.2, left.3))

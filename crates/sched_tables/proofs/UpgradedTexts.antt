@@ -1,4 +1,4 @@
--- Upgraded tables have their texts in UTF-8, as those before had, so they can be opened.
+-- The texts of upgraded tables are in UTF-8, as they were before, so the tables can be opened.
 use Rattle.std.proofs.Common.{◌≡◌, ◌≢◌, ℕ, zero, suc, Bool, true, false, cond, Option, Some, None, codes, option_map, refl, sym, ap, subst, arith}
 use Rattle.std.specs.Prelude.{IfSome}
 use Rattle.sqlite.specs.Effect.{Database}
@@ -36,7 +36,7 @@ use Rattle.sched_tables.proofs.TextsKept.{of_columns, utf8_of}
 abbrev HasTexts : Option StoredRow → Type 0
 HasTexts o = IfSome o (λ r. HasUtf8 (columns_of r))
 
--- what tables of a schema hold has its texts in UTF-8
+-- if the texts in tables of a schema are in UTF-8, so are those of their contents
 texts_at : (n : ℕ) (db : Database) (contents : Contents) → HoldAt n db contents → AreUtf8At n db.trees → (key : RowKey) → has_table n (table_at key) ≡ true → HasTexts (contents key)
 texts_at n db contents holds utf8 key has = of_columns (contents key) (subst (λ (o : Option Row). IfSome o HasUtf8) (holds.rows key has) (utf8 key has))
 
@@ -55,7 +55,7 @@ module _ (w : World) (unclassed : IsUnclassed w) where
       let none = all_nth (λ (u : UnitBook). IsUnmarked u.unit) w.units id b is unclassed.units in
       (tt, (tt, (subst (λ (rule : ClassRule). IsUtf8Value (or_null Text (class_of rule))) (sym none) tt, tt)))
 
--- the call that the first schema keeps of a host, in its slots
+-- the call that the first schema keeps of a host, in the host's slots
 slot_texts : (calls : SlotCalls) → ((host slot : ℕ) → slot ≢ 0 → calls host slot ≡ None) → ((host : ℕ) → IfSome (option_map (former_columns host) (calls host 0)) HasUtf8) → (host slot : ℕ)
     → HasTexts (option_map (λ k. stored.Kept (call_row host slot k)) (calls host slot))
 slot_texts calls others utf8 host zero = go (calls host 0) (utf8 host)
@@ -65,7 +65,7 @@ slot_texts calls others utf8 host zero = go (calls host 0) (utf8 host)
     go (Some k) utf8 = (tt, (tt, (tt, (utf8.1.1.0, (utf8.1.1.1.0, tt)))))
 slot_texts calls others utf8 host (suc slot) = subst (λ (o : Option Kept). HasTexts (option_map (λ k. stored.Kept (call_row host (suc slot) k)) o)) (sym (others host (suc slot) (λ same. omega (arith, same)))) tt
 
--- ---- all texts of a world are in UTF-8 where those of the tables of a schema are
+-- ---- all texts of a world are in UTF-8 if those of the tables of a schema are
 
 module _ (n : ℕ) (is : IsSchema n) (w : World) (calls : SlotCalls) (batches : Imports) (fits : FitsSchema n w) where
   abbrev all : Contents
@@ -75,7 +75,7 @@ module _ (n : ℕ) (is : IsSchema n) (w : World) (calls : SlotCalls) (batches : 
   HasThem key = HasTexts (all key)
 
   module _ (texts : (key : RowKey) → has_table n (table_at key) ≡ true → HasTexts (with_row all (schema_row_of n) key)) (kept : n ≡ 1 → (host slot : ℕ) → HasThem (kept_key host slot)) where
-    -- the tables that later schemas gained
+    -- the tables that later schemas added
     gained : (m : ℕ) → n ≡ m → ((host slot : ℕ) → HasThem (kept_key host slot)) × ((id : ℕ) → HasThem (version_key id) → HasThem (class_key id)) × ((id : ℕ) → HasThem (mark_key id))
     gained zero same = absurd (omega (arith, same, is.0))
     gained (suc zero) same = let old = fits (omega (arith, same)) in (kept same, λ id. class_texts w old id (nth w.versions id) refl, λ id. mark_texts w old id (unit_at w id) refl)

@@ -20,29 +20,31 @@ Imports = List ℕ → List ℕ → Option BatchText
 abbrev pub is_among : List StoredRow → RowKey → Bool
 is_among rows key = list_any (λ row. same_key key (key_of row)) rows
 
--- These rows lead from what is kept to what is kept then: each is what stands then, and what none of them is stays.
+-- These rows lead from what was kept to what is kept afterwards. Each row is what its key has afterwards, and every call or batch at
+-- another key stays the same.
 pub record Keeps (w : World) (rows : List StoredRow) (calls : SlotCalls) (batches : Imports) (calls' : SlotCalls) (batches' : Imports) : Type 0 where
   pub each : AllByRecursion (λ r. contents_of w calls' batches' (key_of r) ≡ Some r) rows
   pub other_calls : (host slot : ℕ) → is_among rows (kept_key host slot) ≡ false → calls host slot ≡ calls' host slot
   pub other_batches : (kind name : List ℕ) → is_among rows (batch_key kind name) ≡ false → batches kind name ≡ batches' kind name
 
--- These rows lead from a world to that with changes made, with one row more behind them, and that world is told by its rows.
+-- These rows lead from a world to the one with the changes made, and one more row follows if there is one. The rows of the new world
+-- determine it.
 pub record ArePut (w : World) (cs : List Change) (more : Option StoredRow) (rows : List StoredRow) : Type 0 where
   pub changed : List StoredRow
   pub are : AreChanges w (applied w cs) changed
   pub all : rows ≡ changed ++ cons_option more []
   pub readable : IsReadable (applied w cs)
 
--- Tables that held a world hold it with changes made and one row more, whatever is kept.
+-- If the old tables held a world, the new ones hold it with the changes made and one more row, for any calls and batches.
 abbrev pub LeadsTo : World → List Change → Option StoredRow → Database → Database → Type 0
 LeadsTo w cs more old new = (calls calls' : SlotCalls) (batches batches' : Imports)
     → Keeps (applied w cs) (cons_option more []) calls batches calls' batches' → HoldWorld old w calls batches → HoldWorld new (applied w cs) calls' batches'
 
--- Tables that held a world, with texts in UTF-8, have them so.
+-- If the old tables held a world and their texts were in UTF-8, those of the new ones are too.
 abbrev pub KeepsUtf8 : World → Database → Database → Type 0
 KeepsUtf8 w old new = (calls : SlotCalls) (batches : Imports) → HoldWorld old w calls batches → AreUtf8 old.trees → AreUtf8 new.trees
 
--- They do, the world after is told by its rows, and texts in UTF-8 stay so.
+-- The new tables hold the new world, its rows determine it, and texts in UTF-8 stay so.
 pub record Makes (w : World) (cs : List Change) (more : Option StoredRow) (old new : Database) : Type 0 where
   pub leads : LeadsTo w cs more old new
   pub readable : IsReadable (applied w cs)
@@ -57,7 +59,7 @@ brings_app (change.Host number h) = false
 brings_app (change.Instance p x) = false
 brings_app (change.Class unit class) = false
 
--- the applications with one that a change brings, and with those of each change
+-- the applications, with the one that a change brings, and with those that several changes bring
 abbrev pub app_with : List App → Change → List App
 app_with apps (change.App a) = apps ++ a ∷ []
 app_with apps other = apps

@@ -1,4 +1,4 @@
--- Rule. What an entry puts into the tables, and what they keep then.
+-- Rule. What an entry puts into the tables, and what they keep afterwards.
 use Rattle.std.specs.Prelude.{◌≡◌, ℕ, List, Option, Some, None, option_map}
 use Rattle.sqlite.specs.Effect.{Database}
 use Rattle.sqlite_trees.specs.Tree.{Trees}
@@ -22,11 +22,11 @@ IsRowOf calls (entry.Kept host k) row = (slot : ℕ) × IsSlotFor (calls host) s
 IsRowOf calls (entry.Batch kind name b) row = row ≡ Some (stored.Batch (record { kind = kind_name kind; name = name; text = b.text; answer = b.answer }))
 IsRowOf calls entry.Nothing row = row ≡ None
 
--- These rows lead from a world to that with changes made, with what the entry puts behind them.
+-- These rows lead from a world to the one with the changes made, and the row that the entry puts is the last.
 abbrev pub ArePutWith : World → List Change → SlotCalls → Entry → List StoredRow → Type 0
 ArePutWith w cs calls e rows = (row : Option StoredRow) × IsRowOf calls e row × ArePut w cs row rows
 
--- Tables that held a world hold it with changes made, and with what the entry puts.
+-- If the old tables held a world, the new ones hold it with the changes made, and with what the entry puts.
 abbrev pub MakesWith : World → List Change → Entry → Database → Database → Type 0
 MakesWith w cs e old new = (row : Option StoredRow) × IsRowOf (calls_in old.trees) e row × Makes w cs row old new
 

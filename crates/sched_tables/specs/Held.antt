@@ -1,4 +1,4 @@
--- Promise. When tables stand for a world.
+-- Promise. When tables represent a world.
 use Rattle.std.specs.Prelude.{◌≡◌, ℕ, false, List, IsTrue}
 use Rattle.sqlite.specs.State.{State, HasCleanDisk}
 use Rattle.sqlite_trees.specs.View.{doubt}
@@ -17,21 +17,21 @@ use Rattle.sched_tables.specs.declared.remembered.Remembered.{Remembered}
 abbrev pub IsHonest : State → Type 0
 IsHonest s = HasCleanDisk s × IsTrue s.is_open
 
--- nothing waits for a commit, and the tables hold the world with what they keep, which is told by its rows
+-- No transaction is open, and no change waits for a commit. The tables hold the world with what they keep, and its rows determine it.
 pub record AreWellKept (s : State) (w : World) : Type 0 where
   pub idle : s.in_transaction ≡ false
   pub rests : s.now ≡ s.committed
   pub holds : HoldWorld s.now w (calls_in s.now.trees) (batches_in s.now.trees)
   pub readable : IsReadable w
 
--- The settings and the applications that are kept beside the tables are the world's, what is remembered is what the tables hold, and
--- nothing is due in the world before `due_from`.
+-- What is in memory agrees with the tables. The settings and the applications are the world's, what is remembered is what the tables
+-- hold, and nothing is due in the world before `due_from`.
 pub record AreBeside (w : World) (calls : SlotCalls) (settings : Settings) (apps : List App) (read : Remembered) (due_from : ℕ) : Type 0 where
   pub settings_are : settings ≡ w.settings
   pub apps_are : apps ≡ w.apps
   pub rows_are : AreRemembered w calls read
   pub due_from_is : NothingIsDueBefore w due_from
 
--- The store below tables never fails: no fault of it is counted, and it is clean.
+-- The store under the tables never fails: it counts no fault, and it is clean.
 abbrev pub NeverFails : {S : Type 0} → store.Ghosts S → Type 0
 NeverFails {S} g = (s : S) → (g.faults s ≡ 0) × (doubt (g.view s).is_clean ≡ 0)

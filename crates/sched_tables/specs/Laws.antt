@@ -1,4 +1,4 @@
--- Rule. What ties tables to what a stop left of them.
+-- Rule. What tables hold after a stop or an upgrade, and when they can be opened.
 use Rattle.std.specs.Prelude.{◌≡◌, ℕ, true, IfSome}
 use Rattle.sqlite_trees.specs.Tree.{Trees}
 use Rattle.sqlite_trees.specs.declared.store.Store.{Ghosts}
@@ -20,21 +20,21 @@ use Rattle.sched_tables.specs.Stops.{MayBeFound}
 use Rattle.sched_tables.specs.Views.{state_of, world_of, held_of, AreKept}
 use Rattle.sched_tables.specs.declared.tables.Tables.{Tables}
 
--- Tables that are opened over the rows that a stop left hold what was left.
+-- Tables that are opened over the rows that a stop left hold what it left.
 abbrev pub ReopenedHolds : {S R : Type 0} → Ghosts S → Ghosts R → Type 0
 ReopenedHolds {S} {R} before after =
     (old : Tables S) (t : Tables R) → AreKept after t → Sound (world_of after t) → (h : Held) → (found : MayBeFound (state_of before old) h)
     → found.trees ≡ (state_of after t).now.trees → IsLeft (held_of after t) h
 
--- Tables that hold a sound world, with what may be kept beside it and with texts in UTF-8, can be opened again.
+-- Tables can be opened again if they hold a sound world, with what may be kept with it, and their texts are in UTF-8.
 abbrev pub HeldCanBeOpened : Type 0
 HeldCanBeOpened = (db : Database) (w : World) (calls : SlotCalls) (batches : Imports) → Sound w → MayStandBeside w calls batches → HoldWorld db w calls batches → AreUtf8 db.trees → CanBeOpened db
 
--- Tables that can be opened again are taken.
+-- An opening takes tables that can be opened again.
 abbrev pub OpenedAreTaken : Type 0
 OpenedAreTaken = (db : Database) → CanBeOpened db → AreTaken db
 
--- What tables of a schema held of a world is held: the world, the calls in the slots, and the imports.
+-- What tables of any schema held of a sound world is now held: the world, the calls in the slots, and the imports.
 abbrev pub UpgradedHold : Database → Held → Type 0
 UpgradedHold old held =
     (n : ℕ) → IsSchema n → (w : World) (calls : SlotCalls) (batches : Imports) → Sound w → FitsSchema n w → HoldWorldAt n old w calls batches → IsLeft (held_with w calls batches) held
@@ -51,7 +51,8 @@ AreUtf8At n trees = (key : RowKey) → has_table n (table_at key) ≡ true → I
 abbrev pub AreCallsUtf8 : Trees → Type 0
 AreCallsUtf8 trees = (host : ℕ) → IfSome (former_call trees host) HasUtf8
 
--- Tables that hold a sound world, with what may be kept beside it and with texts in UTF-8, can be opened once they are upgraded.
+-- Suppose tables of any schema hold a sound world, with what may be kept with it, and their texts are in UTF-8. Once they are upgraded,
+-- they can be opened.
 abbrev pub UpgradedOpen : Database → Database → Type 0
 UpgradedOpen old new =
     (n : ℕ) → IsSchema n → (w : World) (calls : SlotCalls) (batches : Imports) → Sound w → FitsSchema n w → MayStandBeside w calls batches → HoldWorldAt n old w calls batches

@@ -1,4 +1,4 @@
--- Rule. What a read leaves of tables: proved from their definitions alone.
+-- Rule. What a read leaves of tables, proved from the definitions alone.
 use Rattle.std.proofs.Common.{◌≡◌, ℕ, false, List, sym, ap, subst, ◌∙◌, inl, inr, arith}
 use Rattle.sqlite.specs.Effect.{Database}
 use Rattle.sqlite.specs.State.{State, HasCleanDisk, Survives}
@@ -22,7 +22,7 @@ use Rattle.sched_tables.specs.declared.remembered.Remembered.{Remembered}
 -- ---- tables whose rows stay as they are
 
 module _ (old new : State) (shown : new.now ≡ old.now) (committed : new.committed ≡ old.committed) (kept : AreWellKept old (world_in old.now.trees)) where
-  -- the world that they tell stays
+  -- the world that they hold stays the same
   pub left_world : world_in new.now.trees ≡ world_in old.now.trees
   left_world = ap (λ (db : Database). world_in db.trees) shown
 
@@ -35,7 +35,7 @@ module _ (old new : State) (shown : new.now ≡ old.now) (committed : new.commit
     readable = subst (λ (db : Database). IsReadable (world_in db.trees)) (sym shown) kept.readable;
   }
 
-  -- and what is kept beside them stays the world's
+  -- and what is in memory still agrees with the world
   pub left_beside : (settings settings' : Settings) (apps apps' : List App) (read read' : Remembered) (due_from due_from' : ℕ) → settings' ≡ settings → apps' ≡ apps → AreRemembered (world_in old.now.trees) (calls_in old.now.trees) read'
       → NothingIsDueBefore (world_in old.now.trees) due_from' → AreBeside (world_in old.now.trees) (calls_in old.now.trees) settings apps read due_from → AreBeside (world_in new.now.trees) (calls_in new.now.trees) settings' apps' read' due_from'
   left_beside settings settings' apps apps' read read' due_from due_from' same also rows marked beside = record {
@@ -48,7 +48,7 @@ module _ (old new : State) (shown : new.now ≡ old.now) (committed : new.commit
 -- ---- a read
 
 module _ (old new : State) (reads : Reads old new) (honest : IsHonest new) (kept : AreWellKept old (world_in old.now.trees)) where
-  -- leaves the rows as they are
+  -- it leaves the rows as they are
   pub stays_shown : new.now ≡ old.now
   stays_shown = (reads.same honest.0 honest.1 kept.rests).0
 
@@ -67,15 +67,15 @@ module _ (old new : State) (reads : Reads old new) (honest : IsHonest new) (kept
 
 -- ---- tables after a read
 
--- what was honest to the end was so before
+-- what is honest after a read was honest before it
 pub was_honest : (old new : State) → Reads old new → IsHonest new → IsHonest old
 was_honest old new reads honest = (omega (arith, reads.survives.clean, honest.0), reads.was_open honest.0 honest.1)
 
--- and what was clean to the end
+-- and what is clean after it was clean before it
 pub was_clean : (old new : State) → Reads old new → HasCleanDisk new → HasCleanDisk old
 was_clean old new reads clean = omega (arith, reads.survives.clean, clean)
 
--- they hold what they held
+-- tables hold what they held before
 pub reads_hold : (old new : State) → Reads old new → IsHonest new → AreWellKept old (world_in old.now.trees) → IsLeft (held_in old.now.trees) (held_in new.now.trees)
 reads_hold old new reads honest kept =
     let shown = stays_shown old new reads honest kept in record {
@@ -84,14 +84,14 @@ reads_hold old new reads honest kept =
       batches_are = λ kind batch. ap (λ (db : Database). batches_of db.trees kind batch) shown;
     }
 
--- well kept tables stay so, where what was read is the world's, and nothing is due before `due_from`
+-- well kept tables stay so, if what was read is the world's and nothing is due before `due_from`
 pub stays_both : (old new : State) → Reads old new → IsHonest new → (settings settings' : Settings) (apps apps' : List App) (read read' : Remembered) (due_from due_from' : ℕ) → settings' ≡ settings → apps' ≡ apps
     → AreRemembered (world_in old.now.trees) (calls_in old.now.trees) read' → NothingIsDueBefore (world_in old.now.trees) due_from' → AreWellKept old (world_in old.now.trees) × AreBeside (world_in old.now.trees) (calls_in old.now.trees) settings apps read due_from
     → AreWellKept new (world_in new.now.trees) × AreBeside (world_in new.now.trees) (calls_in new.now.trees) settings' apps' read' due_from'
 stays_both old new reads honest settings settings' apps apps' read read' due_from due_from' same also rows marked kept =
     (stays_kept old new reads honest kept.0, stays_beside old new reads honest kept.0 settings settings' apps apps' read read' due_from due_from' same also rows marked kept.1)
 
--- what was read later is what they held before, and so is a later `due_from`
+-- what was read later is what the tables held before, and a later `due_from` is one for the world before
 pub rows_before : (old new : State) → Reads old new → IsHonest new → AreWellKept old (world_in old.now.trees) → (read : Remembered) → AreRemembered (world_in new.now.trees) (calls_in new.now.trees) read
     → AreRemembered (world_in old.now.trees) (calls_in old.now.trees) read
 rows_before old new reads honest kept read rows = subst (λ (db : Database). AreRemembered (world_in db.trees) (calls_in db.trees) read) (stays_shown old new reads honest kept) rows
@@ -99,7 +99,7 @@ rows_before old new reads honest kept read rows = subst (λ (db : Database). Are
 pub due_from_before : (old new : State) → Reads old new → IsHonest new → AreWellKept old (world_in old.now.trees) → (due_from : ℕ) → NothingIsDueBefore (world_in new.now.trees) due_from → NothingIsDueBefore (world_in old.now.trees) due_from
 due_from_before old new reads honest kept due_from marked = subst (λ w. NothingIsDueBefore w due_from) (stays_same old new reads honest kept) marked
 
--- a store below them that never fails is never shut
+-- if the store under the tables never fails, it is never shut
 pub never_shut : (old new : State) (Commits : Trees → Type 0) → old.faults ≡ 0 → new.faults ≡ 0 → HasCleanDisk new → Survives old new Commits → IsHonest old → IsHonest new
 never_shut old new Commits none none_later clean survives honest = elim (survives.closes clean honest.1) [
   | inl is_open ↦ (clean, is_open)

@@ -1,4 +1,4 @@
--- Rule. What tables are refused for when they are opened, as they stand in the file.
+-- Rule. Why tables are refused when they are opened, by what is in the file.
 use Rattle.std.specs.Prelude.{◌≡◌, ◌⊎◌, ⊤, ℕ, Some}
 use Rattle.sqlite.specs.Effect.{Database}
 use Rattle.table_meaning.specs.Holding.{AreKnown}
@@ -14,18 +14,18 @@ pub record AreNewest (db : Database) : Type 0 where
   pub known : AreKnown db
   pub said : schema_said db.trees ≡ Some (whole newest)
 
--- They are those of no schema, or do not say of which.
+-- They are those of no schema, or do not say of which one.
 pub record AreOthers (db : Database) : Type 0 where
   pub not_newest : ¬ AreNewest db
   pub not_earlier : (n : ℕ) → ¬ AreEarlier n db
 
--- They are those of the newest schema, but a row has not the format of its table (invariant 2 of docs/STORED.md), or the rows are
--- those of no sound world with what may be kept beside it (2 to 12).
+-- They are those of the newest schema, but one of two things is wrong. Some row does not have the format of its table (invariant 2 of
+-- docs/STORED.md). Or the rows are not those of a sound world with what may be kept with it (2 to 12).
 pub record AreSpoiled (db : Database) : Type 0 where
   pub known : AreKnown db
   pub rows : HasBadTable db.trees ⊎ StandForNone db.trees
 
--- This is what they are refused for. Nothing is said of memory and the disk.
+-- The tables are refused for this fault. Nothing is said about memory and the disk.
 abbrev pub AreRefusedFor : OpenFault → Database → Type 0
 AreRefusedFor NotTables db = AreOthers db
 AreRefusedFor (OldSchema n) db = AreEarlier n db

@@ -1,5 +1,5 @@
--- Rule. What can be opened again stays so behind a read, and holds what may stand in a store: what the tables owe as a store, proved from
--- their definitions alone.
+-- Rule. Tables that can be opened still can be after a read, and hold what a store may hold. The tables owe this as a store. It is proved
+-- from the definitions alone.
 use Rattle.std.proofs.Common.{◌≡◌, ℕ, Bool, true, false, ◌&&◌, cond, nat_le, nat_lt, List, [], ◌∷◌, fold, length, Option, Some, None, option_map, sym, subst, inl, inr, arith, IsTrue}
 use Rattle.std.specs.Prelude.{All, IfSome, filter_map, is_some}
 use Rattle.std.specs.List.{cons_option}
@@ -31,7 +31,7 @@ use Rattle.sched_tables.specs.Reopening.{CanBeOpened, Reopens}
 use Rattle.sched_tables.specs.Slots.{put_in_order, slots}
 use Rattle.sched_tables.specs.Views.{held_in}
 
--- A read leaves what can be opened again so.
+-- Tables that can be opened again still can be after a read.
 pub reads_reopen : (old new : State) → Reads old new → (IsHonest old → old.now ≡ old.committed) → Reopens old → Reopens new
 reads_reopen old new reads rests reopens = record {
   now = λ honest. let before = was_honest old new reads honest in subst CanBeOpened (sym (reads.same honest.0 honest.1 (rests before)).0) (reopens.now before);
@@ -64,7 +64,7 @@ all_found P calls each (x ∷ xs) = go (calls x) (each x) (all_found P calls eac
     go None one later = later
     go (Some k) one later = All-cons P k (filter_map calls xs) one later
 
--- ---- what stands beside a world may stand in a store
+-- ---- what may be kept with a world may be kept in a store
 
 call_may : (w : World) (host slot : ℕ) (o : Option Kept) → IfSome o (λ k. IsTrue (is_call_of w (stored.Kept (call_row host slot k)))) → IfSome o (λ k. MayBeKept w (entry.Kept host k))
 call_may w host slot None fits = tt
@@ -82,7 +82,7 @@ import_may w kind name (Some b) fits =
     let short : nat_le (length b.0) most_import_bytes ≡ true = rest.1 in
     (rest.0, grind (arith, nat_tests, short))
 
--- What can be opened holds what may stand in a store.
+-- Tables that can be opened hold what a store may hold.
 pub held_may_stand : (db : Database) → CanBeOpened db → MayStand (held_in db.trees)
 held_may_stand db can =
     let w = world_in db.trees in

@@ -9,18 +9,18 @@ use Rattle.table_worlds.specs.StoredWorld.{world_in}
 use Rattle.sched_tables.specs.Held.{IsHonest}
 use Rattle.sched_tables.specs.Refusals.{AreNewest, AreRefusedFor}
 
--- Nothing that they say refuses them: an opening takes them, but for memory and the disk.
+-- Nothing in the tables is a reason to refuse them. An opening takes them, unless memory or the disk fails.
 abbrev pub AreTaken : Database → Type 0
 AreTaken db = (e : OpenFault) → AreRefusedFor e db → e ≡ Unavailable
 
--- They are those of the newest schema, and say so; their rows are those of a sound world, with what may be kept beside it; and
--- their texts are in UTF-8 (invariants 1 to 12 of docs/STORED.md).
+-- The tables are those of the newest schema, and say so. Their rows are those of a sound world, with what may be kept with it. Their
+-- texts are in UTF-8. (Invariants 1 to 12 of docs/STORED.md.)
 pub record CanBeOpened (db : Database) : Type 0 where
   pub newest : AreNewest db
   pub rows : ReadFrom db.trees (world_in db.trees)
   pub texts : AreUtf8 db.trees
 
--- They can be opened again, as they stand, and as a stop may leave them now.
+-- The tables can be opened again, as they are and as a stop may leave them now.
 pub record Reopens (s : State) : Type 0 where
   pub now : IsHonest s → CanBeOpened s.now
   pub stop : HasCleanDisk s → (db : Database) → IsDatabase db → s.may_leave db.trees → CanBeOpened db

@@ -7,8 +7,8 @@ use Rattle.stores.specs.declared.kind.Kind.{Kind}
 use Rattle.table_reading.specs.Reading.{ReadFrom}
 use Rattle.sched_tables.specs.Entries.{calls_of, batches_of}
 
--- What a stop may leave of tables, where the disk returned what was written: rows that an open after it may find, with the
--- world that is read from them, and what they keep.
+-- What a stop may leave of tables, if the disk returned what was written: rows that a later opening may find. The world is read from these
+-- rows, and so is what is kept.
 pub record MayBeFound (s : State) (held : Held) : Type 0 where
   pub trees : Trees
   pub clean : HasCleanDisk s

@@ -8,6 +8,6 @@ use Rattle.sched_tables.specs.Commits.{Imports}
 use Rattle.sched_tables.specs.Entries.{kept_batch}
 use Rattle.sched_tables.specs.Slots.{calls_in_slots}
 
--- A world, the calls of each host in its slots, and imports. Of a host with one slot that is its one call, if it has one.
+-- A world, the calls of each host in its slots, and imports. If a host has one slot, its calls are the one in that slot, if there is one.
 abbrev pub held_with : World → SlotCalls → Imports → Held
 held_with w calls batches = record { world = w; calls = λ host. calls_in_slots (calls host); batches = λ kind name. option_map kept_batch (batches (kind_name kind) name) }

@@ -1,4 +1,4 @@
--- Rule. What tables are seen as: the state of their connection, and the world that their rows tell.
+-- Rule. How tables are seen: as the state of their connection, and as the world that their rows represent.
 use Rattle.std.specs.Prelude.{◌≡◌}
 use Rattle.sqlite_trees.specs.Tree.{Trees}
 use Rattle.sqlite_trees.specs.declared.store.Store.{Ghosts}
@@ -33,12 +33,12 @@ held_in trees = record { world = world_in trees; calls = calls_of trees; batches
 abbrev pub held_of : {S : Type 0} → Ghosts S → Tables S → Held
 held_of store t = held_in (state_of store t).now.trees
 
--- they are well kept, and what is kept beside them is their world's
+-- they are well kept, and what is in memory agrees with their world
 abbrev pub AreKept : {S : Type 0} → Ghosts S → Tables S → Type 0
 AreKept store t = AreWellKept (state_of store t) (world_of store t) × AreBeside (world_of store t) (slots_of store t) t.settings t.apps t.remembered t.due_from
 
--- Tables after a read: the connection shows what it showed, and what is kept beside the tables is what it was, or was read
--- just now, and nothing is due in the world before `due_from`.
+-- Tables after a read. What the connection shows is unchanged, and so are the settings and the applications. If the tables are honest and
+-- were well kept, what is remembered is what they held, and nothing is due in their world before `due_from`.
 abbrev pub AreReadOn : {S : Type 0} → Ghosts S → Tables S → Tables S → Type 0
 AreReadOn store old new = Reads (state_of store old) (state_of store new) × (new.settings ≡ old.settings) × (new.apps ≡ old.apps) × (IsHonest (state_of store new) → AreKept store old → AreRemembered (world_of store old) (slots_of store old) new.remembered)
     × (IsHonest (state_of store new) → AreKept store old → NothingIsDueBefore (world_of store old) new.due_from)

@@ -1,4 +1,4 @@
-//! Changes of the world and what is kept of a message, put into the tables at once.
+//! Changes of the world, and what is kept of a message, put into the tables in one transaction.
 
 ghost use Rattle.std.specs.Prelude.{◌≡◌, false, unwrap_or, IsTrue, IfOk, OnOk, OnErr};
 ghost use Rattle.std.specs.List.{list_any};
@@ -38,7 +38,7 @@ fn bring_apps(changes: &[Change]) -> bool
     changes.iter().any(brings_app)
 }
 
-/// The applications with those that changes bring, where they bring any.
+/// The applications with those that the changes bring, or `None` if they bring none.
 fn apps_with(apps: &Listed<App>, delta: &Delta) -> Result<Option<Listed<App>>, Memory>
     ensures { IfOk result (λ all. unwrap_or all apps.now ≡ apps_then apps.now delta.now) }
 {
@@ -54,7 +54,7 @@ fn apps_with(apps: &Listed<App>, delta: &Delta) -> Result<Option<Listed<App>>, M
     Ok(Some(all))
 }
 
-/// Puts these applications in the place of others, where there are any.
+/// Replaces applications by these, if there are any.
 fn keep_apps(apps: &mut Listed<App>, all: Option<Listed<App>>)
     ensures { apps.new ≡ unwrap_or all apps.old }
 {
@@ -64,7 +64,7 @@ fn keep_apps(apps: &mut Listed<App>, all: Option<Listed<App>>)
 }
 
 impl<S: Alter> Tables<S> {
-    /// The row that an entry puts, where it puts one.
+    /// The row that an entry puts, if it puts one.
     fn row_of(&mut self, entry: &Entry) -> Result<Option<RowChange>, Unavailable>
         ensures reads { AreReadOn S.Store self.old self.new }
         ensures row { IsHonest (state_of S.Store self.new) → AreKept S.Store self.old → IfOk result (IsRowOf (slots_of S.Store self.old) entry.now) }
@@ -93,7 +93,7 @@ impl<S: Alter> Tables<S> {
         }
     }
 
-    /// The rows that these changes put, and the row of an entry behind them.
+    /// The rows that these changes put, and after them the row of an entry.
     fn rows_with(&mut self, delta: &Delta, entry: &Entry) -> Result<Listed<RowChange>, Unavailable>
         ensures reads { AreReadOn S.Store self.old self.new }
         ensures rows { IsHonest (state_of S.Store self.new) → AreKept S.Store self.old
@@ -104,14 +104,14 @@ impl<S: Alter> Tables<S> {
         Ok(rows)
     }
 
-    /// Makes these changes and keeps what the entry tells, in one transaction: where it is unavailable, neither is done,
-    /// unless a fault has shut the connection. Where it is good, the connection is open. It puts the rows that the changes
-    /// touch, and looks at no others. What was read of a row that is put is renewed or forgotten, so that what is remembered
-    /// is what the tables then hold; and `due_from` is lowered to the least deadline that the changes give to what is held, so
-    /// that whatever comes of the commit, nothing that is held has a deadline before it. A stop at any moment leaves what a
-    /// stop could leave before, or the whole, and this only where the connection was open. Where the changes leave a sound
-    /// world, and what the entry keeps may stand beside it, tables that could be opened again still can, and so can whatever a
-    /// stop leaves.
+    /// Makes these changes and keeps what the entry says, in one transaction. If it is unavailable, neither is done,
+    /// unless a fault has shut the connection. If it is good, the connection is open. It puts the rows that the changes
+    /// touch, and looks at no others. What was read of a row that is put is renewed or forgotten, so what is remembered
+    /// is what the tables then hold. `due_from` is lowered to the least deadline that the changes give to a held
+    /// instance. So no held instance has a deadline before it, whether the commit succeeds or fails. A stop at any
+    /// moment leaves what a stop could leave before or, if the connection was open, the whole commit. Suppose the
+    /// changes leave a sound world, and what the entry keeps may be kept with it. Then tables that could be opened
+    /// again still can be, and so can anything that a stop leaves.
     pub fn commit(&mut self, delta: &Delta, entry: &Entry) -> Result<(), Unavailable>
         ensures honest { IsHonest (state_of S.Store self.new) → IsHonest (state_of S.Store self.old) }
         ensures open { HasCleanDisk (state_of S.Store self.new) → OnOk result (IsTrue (state_of S.Store self.new).is_open) }

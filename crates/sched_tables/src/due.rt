@@ -24,7 +24,7 @@ fn raised(due_from: u64, now: u64, due: &[Place]) -> u64
     }
 }
 
-/// `due_from`, lowered to the least deadline that changes give to an instance that is held.
+/// `due_from`, lowered to the least deadline that changes give to a held instance.
 pub(crate) fn lowered(due_from: u64, delta: &Delta) -> u64
     ensures { result ≡ lowered due_from delta.now }
 {
@@ -39,7 +39,7 @@ pub(crate) fn lowered(due_from: u64, delta: &Delta) -> u64
 
 impl<S: Alter> Tables<S> {
     /// The places of the held instances whose deadline is before the moment `now`, in order, by a statement over the
-    /// deadlines from `due_from` on. If there is none, `due_from` rises to that moment.
+    /// deadlines from `due_from` on. If there is none, `due_from` rises to `now`.
     pub(crate) fn read_due(&mut self, alloc: Global, now: u64) -> Result<Listed<Place>, Unavailable>
         ensures reads { AreReadOn S.Store self.old self.new }
         ensures answer { IsHonest (state_of S.Store self.new) → AreKept S.Store self.old → IfOk result (λ r. r ≡ overdue (world_of S.Store self.old) now) }
@@ -49,7 +49,8 @@ impl<S: Alter> Tables<S> {
         Ok(due)
     }
 
-    /// Raises `due_from` to the moment that was asked about last, if nothing is held any more that was due then.
+    /// Raises `due_from` to the moment for which what is due was last looked up, if nothing that was due then is still
+    /// held.
     pub(crate) fn raise_due_from(&mut self, alloc: Global) -> Result<(), Unavailable>
         ensures reads { AreReadOn S.Store self.old self.new }
     {

@@ -1,5 +1,5 @@
-//! What waits is offered: the page of it that was read last goes on where it has the place, and it is remembered with the
-//! workunits that are offered first.
+//! What waits is offered. If the page that was read last has the place, the offers begin on it. The page is remembered,
+//! and so are the workunits of the first offers.
 
 ghost use Rattle.std.specs.Prelude.{◌≡◌, All, OnErr, OnOk};
 ghost use Rattle.sched_book.specs.Offers.{OffersAll, OffersSome, unsent};
@@ -14,10 +14,10 @@ use crate::tables::Tables;
 use sched_book::{Candidate, Flow, Place, Taker, Unavailable, copy_of};
 use sqlite::Alter;
 
-/// Of so many offers of one look-up the workunit is remembered.
+/// The workunits of at most so many offers of one look-up are remembered.
 const MOST_NOTED: usize = 16;
 
-/// A taker that hands each offer on to another, and takes note of the workunits of the first ones.
+/// A taker that passes each offer on to another taker, and notes the workunits of the first ones.
 pub(crate) struct Noting<'a, T> {
     pub(crate) taker: &'a mut T,
     pub(crate) noted: &'a mut Vec<UnitRead>,
@@ -32,7 +32,7 @@ impl<'a, T> Drop for Noting<'a, T> {
     }
 }
 
-/// Takes note of the workunit of a candidate, where there is memory for it and few were noted.
+/// Notes the workunit of a candidate, if fewer than `MOST_NOTED` were noted and there is memory for it.
 fn note(noted: &mut Vec<UnitRead>, candidate: &Candidate)
     ensures { (w : World) → IsCandidateOf w candidate.now → All (IsUnitOf w) noted.old.items → All (IsUnitOf w) noted.new.items }
 {
@@ -67,8 +67,8 @@ impl<'a, T: Taker> Taker for Noting<'a, T> {
 }
 
 impl<S: Alter> Tables<S> {
-    /// Offers what waits from this place on, and takes note of the workunits that are offered first. The page with which the
-    /// offers begin is remembered.
+    /// Offers what waits from this place on, and notes the workunits of the first offers. The page on which the offers
+    /// begin is remembered.
     pub(crate) fn offer_from<T: Taker>(
         &mut self,
         from: Place,

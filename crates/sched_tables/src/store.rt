@@ -1,4 +1,4 @@
-//! The tables are a store: a desk that keeps calls and imports, with one commit for all that a message changes.
+//! The tables are a store: a desk that keeps calls and imports, with one commit for everything that a message changes.
 
 use crate::tables::Tables;
 use reply_register::Kept;

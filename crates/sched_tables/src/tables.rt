@@ -1,4 +1,4 @@
-//! The stored tables, with what is kept beside them.
+//! The stored tables, and what is kept in memory with them.
 
 ghost use Rattle.std.specs.Prelude.{◌≡◌};
 ghost use Rattle.sqlite.specs.State.{HasCleanDisk};
@@ -14,8 +14,8 @@ use sqlite::{Alter, Connection};
 use std::alloc::Global;
 use texts::Listed;
 
-/// The stored tables as a desk. What seldom changes is kept beside them: the settings, which never do, and the
-/// applications, of which there are at most a hundred. All else is read by its key or by an index, where it is not
+/// The stored tables as a desk. What seldom changes is kept in memory: the settings, which never change, and the
+/// applications, of which there are at most a hundred. Everything else is read by its key or by an index, if it is not
 /// remembered. What is due is looked for from the moment `due_from` on, which is not stored.
 pub struct Tables<S: Alter> {
     pub(crate) alloc: Global,
@@ -23,15 +23,15 @@ pub struct Tables<S: Alter> {
     pub(crate) settings: Settings,
     pub(crate) apps: Listed<App>,
     pub(crate) remembered: Remembered,
-    /// No instance that is held has its deadline before this moment, in seconds since 1970-01-01T00:00:00Z.
+    /// No held instance has its deadline before this moment, in seconds since 1970-01-01T00:00:00Z.
     pub(crate) due_from: u64,
-    /// The moment about which was asked last what is due.
+    /// The moment for which what is due was last looked up, in seconds since 1970-01-01T00:00:00Z.
     pub(crate) asked: u64,
 }
 
 impl<S: Alter> Tables<S> {
-    /// Hands the connection back, with its tables as they are. A stop leaves of it what it could leave of them, and it can be
-    /// opened again if they could.
+    /// Gives the connection back, with its tables as they are. A stop leaves of it only what it could leave of the
+    /// tables. It can be opened again if they could.
     pub fn into_connection(self) -> Connection<S>
         ensures same { ((state S.Store result).now ≡ (state_of S.Store self).now) × ((state S.Store result).committed ≡ (state_of S.Store self).committed) }
         ensures honest { IsHonest (state_of S.Store self) → IsHonest (state S.Store result) }
@@ -52,7 +52,7 @@ impl<S: Alter> Tables<S> {
     }
 }
 
-// It is written out, so that a caller does not prove again how each part is dropped.
+// Written out, so a caller need not prove again how each part is dropped.
 impl<S: Alter + Drop> Drop for Tables<S> {
     fn drop(self) {
         let Tables {

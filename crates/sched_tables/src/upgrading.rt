@@ -1,4 +1,4 @@
-//! Tables of an older schema, carried over to the newest one.
+//! Upgrades of tables from an older schema to the newest one.
 
 ghost use Rattle.std.specs.Prelude.{◌≡◌, ◌≢◌, ℕ, false, Some, IsTrue, IfOk, IfErr, OnOk, OnErr};
 ghost use Rattle.sqlite.specs.Held.{state};
@@ -12,7 +12,7 @@ use sqlite::{Alter, Connection};
 use std::alloc::Global;
 use table_rows::OpenFault;
 
-/// The statements that make the tables of the first schema, for tests that make files of it.
+/// The statements that make the tables of the first schema, for tests that make files of that schema.
 pub const SCHEMA_1: &str =
     "CREATE TABLE setting (name TEXT NOT NULL PRIMARY KEY, value ANY NOT NULL) STRICT;
 CREATE TABLE account (id INTEGER PRIMARY KEY, auth TEXT NOT NULL UNIQUE, name TEXT NOT NULL) STRICT;
@@ -28,16 +28,17 @@ CREATE INDEX instance_owner ON instance (host_id, unit_id, num);
 CREATE INDEX instance_sent ON instance (host_id, sent);
 CREATE INDEX instance_deadline ON instance (deadline);";
 
-/// Carries tables of an older schema over to the newest one, and tells its number: from each schema to the next in a
-/// transaction of its own, one row at a time. Of the calls that the first schema keeps, each comes into the first slot of its
-/// host; the class of each version becomes its platform, and no workunit is marked. Tables of the newest schema stay as they
-/// are. A stop at any moment leaves what a stop could leave before, or whole tables of one of the later schemas.
+/// Upgrades tables of an older schema to the newest one, and returns the newest schema's number. Each step from one
+/// schema to the next is a transaction of its own, and copies one row at a time. Each call that the first schema keeps
+/// goes into the first slot of its host. The class of each version becomes its platform, and no workunit is marked.
+/// Tables of the newest schema stay as they are. A stop at any moment leaves what a stop could leave before, or whole
+/// tables of a later schema.
 ///
 /// # Errors
 ///
-/// `NotTables` where the tables are of no schema, or their row `schema` has not the number of theirs; `BadRow` where a row
-/// that is copied has a number past its range; `Unavailable` where memory or the disk failed. The tables are then as they
-/// were, or have become those of a later schema.
+/// `NotTables` if the tables are those of no schema, or if their row `schema` does not have the number of theirs.
+/// `BadRow` if a row that is copied has a number out of its range. `Unavailable` if memory or the disk failed. The
+/// tables are then as they were, or have become those of a later schema.
 pub fn upgrade<S: Alter>(alloc: Global, conn: &mut Connection<S>) -> Result<u32, OpenFault>
     ensures was_open { HasCleanDisk (state S.Store conn.new) → IsTrue (state S.Store conn.new).is_open → IsTrue (state S.Store conn.old).is_open }
     ensures open { HasCleanDisk (state S.Store conn.new) → OnOk result (IsTrue (state S.Store conn.new).is_open) }

@@ -1,4 +1,4 @@
--- Answers of several reads, one after another, are answers of the tables before the first.
+-- The answers of several reads, one after another, are answers of the tables as they were before the first one.
 use Rattle.std.proofs.Common.{arith}
 use Rattle.sqlite_trees.specs.declared.store.Store.{Ghosts}
 use Rattle.sqlite.specs.Held.{Held, state}
@@ -12,7 +12,7 @@ was_clean : (mid last : State) → Reads mid last → HasCleanDisk last → HasC
 was_clean mid last read clean = omega (arith, read.survives.clean, clean)
 
 module _ {S : Type 0} (store : Ghosts S) (first mid last : Held S) {says : World → Type 0} where
-  -- the answer of a read, where another follows
+  -- the answer of a read, if another follows
   pub asked_before : Reads (state store mid) (state store last) → Asked store first mid says → Asked store first last says
   asked_before read asked = λ clean is_open. asked (was_clean (state store mid) (state store last) read clean) (read.was_open clean is_open)
 

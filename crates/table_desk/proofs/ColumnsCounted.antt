@@ -1,4 +1,4 @@
--- The columns that are counted say what the world counts that the tables tell.
+-- The counted columns say what is counted in the world that the tables hold.
 use Rattle.std.proofs.Common.{◌≡◌, ◌<◌, ℕ, ◌+◌, ◌*◌, Bool, true, false, ◌&&◌, cond, List, [], ◌∷◌, filter, length, Option, Some, None, option_map, refl, sym, ap, ap₂, ◌∙◌, arith}
 use Rattle.std.specs.Prelude.{count_by, sum_by}
 use Rattle.std.proofs.lemmas.List.Sums.{sum_by-cons, length-filter}
@@ -27,9 +27,9 @@ pub no_items : {X : Type 0} (xs : List X) → ¬ (0 < length xs) → xs ≡ []
 no_items [] none = refl
 no_items (x ∷ xs) none = absurd (none (omega arith))
 
--- ---- a host of which no instance is
+-- ---- a host that was given no instance
 
--- a workunit of which the host has no instance gives it nothing
+-- a workunit of which the host has no instance gives it no credit
 nothing_in : (host unit number : ℕ) (valid : Job → Bool) (xs : List Job) → places_in unit number (is_owned_by host) xs ≡ [] → filter (λ x. is_owned_by host x && valid x) xs ≡ []
 nothing_in host unit number valid [] none = refl
 nothing_in host unit number valid (x ∷ xs) none = turn (is_owned_by host x) none (nothing_in host unit (number + 1) valid xs)
@@ -55,7 +55,7 @@ no_credit w host none = sym (nothing_among w.apps host 1 w.units none)
 -- ---- columns
 
 module _ (db : Database) (w : World) (tell : Tell db w) where
-  -- a workunit's row
+  -- the status in a workunit's row
   pub status_is : (unit n : ℕ) (status : Status) → Some (whole n) ≡ option_map status_in (look_up db.trees (unit_key unit)) → Some status ≡ status_of_code n → Some status ≡ unit_status w unit
   status_is unit n status read told = cases (unit_at w unit) (read ∙ ap (option_map status_in) (tell.holds.rows (unit_key unit)))
     where

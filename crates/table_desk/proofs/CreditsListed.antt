@@ -1,4 +1,4 @@
--- The credits that are listed of a user's hosts are together the user's, in the world that the tables tell.
+-- The listed credits of a user's hosts add up to the user's credit, in the world that the tables hold.
 use Rattle.std.proofs.Common.{◌≡◌, ℕ, ◌+◌, ℤ, pos, Bool, true, false, cond, List, [], ◌∷◌, map, filter, length, sum_by, unsigned_abs, refl, sym, ap, ◌∙◌, arith, int_eq}
 use Rattle.std.specs.Prelude.{◌==◌, if◌then◌else◌}
 use Rattle.std.specs.List.{enumerate_from}

@@ -1,4 +1,4 @@
--- What is found at the keys of tables is what the world that they tell has there.
+-- What is found at the keys of tables is what the world that they hold has there.
 use Rattle.std.proofs.Common.{◌≡◌, ◌⊎◌, ◌≤◌, ℕ, ℤ, pos, Bool, true, false, ◌&&◌, List, length, slice_get, Option, Some, None, option_map, refl, sym, ap, ap₂, ◌∙◌, inl, inr, arith, int_eq}
 use Rattle.std.specs.Prelude.{option_and_then, ◌==◌, All}
 use Rattle.std.specs.Str.{bytes_eq}
@@ -51,7 +51,7 @@ use Rattle.texts.specs.Words.{IsWord}
 
 -- ---- texts and numbers that are shown
 
--- SQL finds two texts equal where their bytes are
+-- SQL finds two texts equal exactly if their bytes are equal
 pub equal_texts : (a b : List ℕ) → equal Binary (Text a) (Text b) ≡ bytes_eq a b
 equal_texts a b = at_texts false Eq a b ∙ cases (bytes_eq a b) refl
   where

@@ -58,7 +58,7 @@ later_apart unit from bs past =
       | inr differs ↦ differs
     ]
 
--- the instances of the workunit of a number, of workunits from another on
+-- the instances of the workunit at an index of a list, or none if there is no workunit there
 abbrev found_in : ℕ → ℕ → List UnitBook → List Job
 found_in from i bs = unwrap_or (option_map (λ (b : UnitBook). b.instances) (slice_get bs i)) []
 
@@ -79,7 +79,7 @@ of_unit unit (suc i) from (b ∷ bs) is =
       | inr differs ↦ differs
     ]
 
--- ---- what stands there
+-- ---- what the tables hold of them
 
 module _ (db : Database) (w : World) (tell : Tell db w) where
   abbrev contents : Contents

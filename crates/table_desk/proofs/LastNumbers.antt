@@ -1,4 +1,4 @@
--- The last number of a table is how many rows it has.
+-- The last number of a table is the number of its rows.
 use Rattle.std.proofs.Common.{◌≡◌, ℕ, ◌+◌, true, List, [], ◌∷◌, map, filter, length, Option, Some, unwrap_or, refl, ap, ◌∙◌, arith}
 use Rattle.std.specs.List.{enumerate_from, last_or}
 use Rattle.sqlite_value.specs.declared.value.Value.{Value}

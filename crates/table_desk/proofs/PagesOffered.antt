@@ -14,7 +14,7 @@ use Rattle.sched_book.specs.Desk.{workunit_at}
 use Rattle.sched_book.proofs.Offering.{offered_none}
 use Rattle.table_desk.specs.Pages.{candidate_at, candidates_at}
 
--- what holds in any case holds where there is an error
+-- what holds in any case holds if there is an error
 pub on_any : {X E P : Type 0} (r : Result X E) → P → OnErr r P
 on_any (Ok x) holds = tt
 on_any (Err e) holds = holds
@@ -28,14 +28,14 @@ module _ {T : Type 0} (takes : T → Candidate → Flow → T → Type 0) where
     | inr more ↦ inr (inr (more.0, more.1, all_is_some more.0 new cs more.2))
   ]
 
-  -- no more is offered
+  -- nothing more is offered
   pub none_offered : (t : T) (cs : List Candidate) → OffersSome takes t cs t
   none_offered t cs = offered_none takes t [] cs
 
   pub leads_on : (old mid new : T) (all more left : List Candidate) → Leads takes old all mid more → Leads takes mid more new left → Leads takes old all new left
   leads_on old mid new all more left first second = record { to_all = λ last h. first.to_all last (second.to_all last h); to_some = λ last h. first.to_some last (second.to_some last h) }
 
-  -- one was offered, and the taker goes on to the others
+  -- one was offered, and the taker continues with the others
   pub leads_one : (old new : T) (c : Candidate) (cs : List Candidate) → takes old c GoOn new → Leads takes old (c ∷ cs) new cs
   leads_one old new c cs taken = record { to_all = λ last h. inr (new, taken, h); to_some = λ last h. inr (inr (new, taken, h)) }
 
@@ -54,7 +54,7 @@ module _ {T : Type 0} (takes : T → Candidate → Flow → T → Type 0) where
       let here : candidates_at w (drop i places) ++ more ≡ c ∷ left = at_drop_more (λ ps. candidates_at w ps ++ more) places i d lt ∙ ap (λ o. cons_option o (candidates_at w (drop (i + 1) places)) ++ more) found in
       leads_on old now new all (c ∷ left) left (subst (Leads takes old all now) here before) (leads_one now new c left taken)
 
-  -- the candidate at one place more, if a workunit stands there, was passed over
+  -- the candidate at one place more, if there is such a workunit, was passed over
   pub one_passed : (w : World) (old now : T) (places : List Place) (i : ℕ) (d : Place) (all more : List Candidate) → i < length places → ((c : Candidate) → c.place ≡ get_or places i d → takes now c GoOn now)
       → Leads takes old all now (candidates_at w (drop i places) ++ more) → Leads takes old all now (candidates_at w (drop (i + 1) places) ++ more)
   one_passed w old now places i d all more lt passes before = by (workunit_at w place.unit) refl
@@ -68,7 +68,7 @@ module _ {T : Type 0} (takes : T → Candidate → Flow → T → Type 0) where
           subst (Leads takes old all now) (at_drop_more (λ ps. candidates_at w ps ++ more) places i d lt ∙ ap (λ o. cons_option o (candidates_at w (drop (i + 1) places)) ++ more) found) before
       by (Some u) some = one_more w old now now places i d all more (record { place = place; unit = u }) lt (ap (option_map (λ u. record { place = place; unit = u })) some) (passes _ refl) before
 
-  -- ---- a page, behind which others are left
+  -- ---- a page, with others left after it
 
   module _ (old new : T) (these left all : List Candidate) (parts : all ≡ these ++ left) where
     pub page_passed : Offered takes old these new GoOn → Leads takes old all new left

@@ -1,4 +1,4 @@
--- The places that statements list are those of the world that the tables tell.
+-- The places that statements list are those of the world that the tables hold.
 use Rattle.std.proofs.Common.{◌≡◌, ℕ, ◌+◌, pos, Bool, true, false, ◌&&◌, [], length, slice_get, Option, Some, None, option_map, refl, ap, ap₂, ◌∙◌, arith}
 use Rattle.std.specs.Prelude.{◌==◌, ◌*◌, ◌/◌, if◌then◌else◌, nat_le, nat_lt, int_le, int_lt, option_and_then, is_none, is_some}
 use Rattle.std.proofs.lemmas.Int.{ints}
@@ -56,7 +56,7 @@ due_of from now o = optional_lies_between (pos from) (pos now) (option_map (λ (
     cases None = refl
     cases (Some o) = between o.deadline
 
--- What has an owner was sent at a moment from 1970 on.
+-- An instance with an owner was sent at a moment not before 1970.
 was_sent_once : (o : Option Owner) → compares Ge (or_null Int (option_map (λ (o : Owner). pos o.sent) o)) (whole 0) ≡ is_some o
 unfolding binary
 was_sent_once None = refl
@@ -81,11 +81,11 @@ sent_of host day o =
     cases None = refl
     cases (Some o) = ap (λ c. (o.host == host) && c) (on_day o.sent day)
 
--- it is held, and its deadline lies there
+-- it is held, and its deadline is between the two moments
 abbrev is_due_between : ℕ → ℕ → Job → Bool
 is_due_between from now x = is_held x && option_any (ends_between from now) x.owner
 
--- Where it is not due at the first moment, that is whether it is due at the second.
+-- If it is not overdue at the first moment, it is due between the two exactly if it is overdue at the second.
 due_later : (from now : ℕ) (x : Job) → is_overdue from x ≡ false → is_due_between from now x ≡ is_overdue now x
 due_later from now x = cases (is_held x) x.owner
   where
@@ -150,7 +150,7 @@ module _ (db : Database) (w : World) (tell : Tell db w) where
   abbrev contents : Contents
   contents = contents_of w tell.calls tell.batches
 
-  -- the places that a test of columns takes are those of the instances that pass another
+  -- if a test of columns agrees with a test of instances, both give the same places
   module _ (test : Row → Bool) (p : UnitBook → Job → Bool) (tells : (b : UnitBook) (unit number : ℕ) (x : Job) → test (columns_of (stored.Instance (instance_row w b unit number x))) ≡ p b x) where
     pub places_told : table.places_where contents test (places w) ≡ places_where w p
     places_told = places_kept w (λ place. shows_passing test (instance_at contents place)) p here

@@ -1,4 +1,4 @@
--- Where a test passes no instance, others that agree wherever it fails pass the same ones.
+-- If one test passes no instance, two tests that agree wherever it fails pass the same instances.
 use Rattle.std.proofs.Common.{◌≡◌, ℕ, ◌+◌, Bool, true, false, ◌&&◌, cond, List, [], ◌∷◌, ◌++◌, length, refl, sym, ap, ap₂, ◌∙◌}
 use Rattle.sched_book.specs.Count.{is_held}
 use Rattle.sched_book.specs.Places.{is_owned_by, is_held_by, held_by, owned_by, places_in, places_among}

@@ -1,4 +1,4 @@
--- The places of a world's instances are all places at which the tables that hold it have one.
+-- The places of a world's instances are all the places at which the tables that hold it have an instance.
 use Rattle.std.proofs.Common.{◌≡◌, ℕ, suc, ◌+◌, ◌≤◌, Bool, true, cond, List, [], ◌∷◌, ◌++◌, filter, slice_get, Option, Some, refl, sym, ap, ap₂, ◌∙◌, inl, inr, arith}
 use Rattle.std.specs.Prelude.{AllPairs}
 use Rattle.std.specs.List.{AllByRecursion}
@@ -45,7 +45,7 @@ module _ (w : World) (calls : SlotCalls) (batches : List ℕ → List ℕ → Op
 
 -- ---- those that pass a test
 
--- a test of places is, at each instance of a workunit, another of the instance
+-- a test of places that, at each instance of a workunit, agrees with a test of the instance
 filter_in : (keep : Place → Bool) (p : Instance → Bool) (unit number : ℕ) (xs : List Instance)
     → ((i n : ℕ) (x : Instance) → n ≡ i + number → slice_get xs i ≡ Some x → keep (record { unit = unit; number = n }) ≡ p x)
     → filter keep (places_in unit number (λ x. true) xs) ≡ places_in unit number p xs
@@ -64,7 +64,7 @@ filter_among keep p from (b ∷ bs) tells =
     (filter_in keep (p b) from 0 b.instances (λ i n x is stands. tells 0 from n b x (omega arith) refl (ap (slice_get b.instances) (let same : n ≡ i = omega (arith, is) in same) ∙ stands)))
     (filter_among keep p (from + 1) bs (λ i u n c x is found stands. tells (suc i) u n c x (omega (arith, is)) found stands))
 
--- the places that a test of places keeps are those of the instances that pass another
+-- the places that a test of places keeps are those of the instances that pass another test
 pub places_kept : (w : World) (keep : Place → Bool) (p : UnitBook → Instance → Bool)
     → ((u n : ℕ) (b : UnitBook) (x : Instance) → nth w.units u ≡ Some b → slice_get b.instances n ≡ Some x → keep (record { unit = u; number = n }) ≡ p b x)
     → filter keep (places w) ≡ places_where w p

@@ -1,4 +1,4 @@
--- Tables tell the same world after a read.
+-- Tables hold the same world after a read.
 use Rattle.std.proofs.Common.{◌≡◌, IsTrue, sym, subst, ◌∙◌}
 use Rattle.sqlite.specs.Effect.{Database}
 use Rattle.sqlite.specs.State.{State, HasCleanDisk}

@@ -1,4 +1,4 @@
--- Rows of a table that is keyed by number are those of a list, each at its place; and what stands at one key.
+-- The rows of a table that is keyed by number are those of a list, each at its place; and the row at one key.
 use Rattle.std.proofs.Common.{◌≡◌, ◌⊎◌, ℕ, zero, suc, ◌+◌, ◌<◌, Bool, true, false, cond, List, [], ◌∷◌, map, filter, find, length, slice_get, Option, Some, None, option_map, refl, sym, ap, ap₂, ◌∙◌, inl, inr, arith}
 use Rattle.std.specs.Prelude.{filter_map}
 use Rattle.std.specs.List.{AllByRecursion, range_with_len, enumerate_from, cons_option, position_from}
@@ -15,9 +15,9 @@ use Rattle.table_meaning.specs.Listings.{rows_where}
 use Rattle.table_meaning.specs.Rows.{RowKey, columns_of}
 use Rattle.table_meaning.proofs.Listings.{IsByNumber, listed}
 
--- ---- what stands at a key
+-- ---- the row at a key
 
--- where a row stands, it is that of an item
+-- if there is a row, it is that of an item
 pub item_stands : {X : Type 0} (row : X → StoredRow) (o : Option X) (columns : Row) → Some columns ≡ option_map columns_of (option_map row o) → (x : X) × (o ≡ Some x) × (columns ≡ columns_of (row x))
 item_stands row None columns is = absurd (none-some _ (sym is))
 item_stands row (Some x) columns is = (x, refl, same_Some _ _ is)
@@ -28,7 +28,7 @@ none_stands row (Some x) is = absurd (none-some _ is)
 
 -- ---- a table that is keyed by number
 
--- what stands at each place is made of the item there
+-- the row at each place is made of the item there
 each_placed : {X Y : Type 0} (f : ℕ → X → Y) (at : ℕ → Option Y) (from : ℕ) (xs : List X) → ((n i : ℕ) → n ≡ from + i → at n ≡ option_map (f n) (slice_get xs i))
     → filter_map at (range_with_len from (length xs)) ≡ map (λ e. f e.0 e.1) (enumerate_from from xs)
 each_placed f at from [] placed = refl
@@ -53,14 +53,14 @@ module _ {X : Type 0} (t : TableName) (key : ℕ → RowKey) (by : IsByNumber t 
       ∙ ap (λ l. filter test (map columns_of l)) (each_placed row (λ n. contents (key n)) 1 xs placed)
       ∙ ap (filter test) (map-map columns_of (λ (e : ℕ × X). row e.0 e.1) (enumerate_from 1 xs))
 
--- ---- the first that passes
+-- ---- the first item that passes
 
--- where the rows of such items are tested as the items are
+-- for items whose rows are tested as the items are
 module _ {X : Type 0} (columns : ℕ × X → Row) (test : Row → Bool) (p : X → Bool) (Such : X → Type 0) (tells : (n : ℕ) (x : X) → Such x → test (columns (n, x)) ≡ p x) where
   abbrev first_row : ℕ → List X → Option Row
   first_row from xs = slice_get (filter test (map columns (enumerate_from from xs))) 0
 
-  -- either none passes, and there is no row, or the first row is that of the first that passes
+  -- either no item passes and there is no row, or the first row is that of the first item that passes
   abbrev First : ℕ → List X → Type 0
   First from xs = ((first_row from xs ≡ None) × (position_from p from xs ≡ None) × (find p xs ≡ None))
       ⊎ ((n : ℕ) × (i : ℕ) × (x : X) × (first_row from xs ≡ Some (columns (n, x))) × (position_from p from xs ≡ Some n) × (n ≡ from + i) × (slice_get xs i ≡ Some x)
@@ -99,7 +99,7 @@ module _ {X : Type 0} (columns : ℕ × X → Row) (test : Row → Bool) (p : X 
         inr (found.0, found.2, found.3, place_where-is p xs ∙ found.4, ap (nth xs) next ∙ nth-suc xs found.1 ∙ found.6, found.7, found.8)
   ]
 
--- where the rows of all are
+-- if this is so for all items
 module _ {X : Type 0} (columns : ℕ × X → Row) (test : Row → Bool) (p : X → Bool) (tells : (n : ℕ) (x : X) → test (columns (n, x)) ≡ p x) where
   any : (xs : List X) → AllByRecursion (λ x. Unit {0}) xs
   any [] = tt

@@ -1,4 +1,4 @@
--- The workunits of which instances were given to the hosts of a user, as a set and as a list in order.
+-- The workunits with an instance that was given to a host of a user, as a set and as a list in order.
 use Rattle.std.proofs.Common.{◌≡◌, ℕ, zero, suc, ◌+◌, ◌<◌, Bool, true, false, ◌&&◌, cond, List, [], ◌∷◌, map, filter, length, take, get_or, slice_get, Option, Some, None, option_map, Less, refl, sym, ap, ap₂, ◌∙◌, arith}
 use Rattle.std.specs.Prelude.{◌==◌, ◌||◌, option_and_then}
 use Rattle.std.specs.BTreeSet.{BTreeSet, contains, IsOrdered}
@@ -47,7 +47,7 @@ apart m n less = grind (arith, nat_tests)
 
 -- ---- tests of lists
 
--- lists that are tested alike
+-- two tests that agree on each item
 same_any : {X : Type 0} (p q : X → Bool) (xs : List X) → ((x : X) → p x ≡ q x) → list_any p xs ≡ list_any q xs
 same_any p q xs same = λ i. list_any (λ x. same x i) xs
 
@@ -65,7 +65,7 @@ either_any p q (x ∷ xs) = ap (λ b. (p x || q x) || b) (either_any p q xs) ∙
     turned false true false d = refl
     turned false false c d = refl
 
--- some of one list with some of another, whichever is taken first
+-- some pair of items, one from each of two lists, passes, regardless of which list is taken first
 any_of_both : {X Y : Type 0} (p : X → Y → Bool) (xs : List X) (ys : List Y) → list_any (λ x. list_any (p x) ys) xs ≡ list_any (λ y. list_any (λ x. p x y) xs) ys
 any_of_both p [] ys = sym (never_any ys)
 any_of_both {X} {Y} p (x ∷ xs) ys = ap (λ b. list_any (p x) ys || b) (any_of_both p xs ys) ∙ sym (either_any (p x) (λ (y : Y). list_any (λ (x : X). p x y) xs) ys)
@@ -103,7 +103,7 @@ module _ {X : Type 0} (p : X → Bool) where
       turn true later = ap₂ (λ a b. a || b) (apart n from less) later
       turn false later = later
 
-  -- a place is listed where the item there passes
+  -- a place is listed exactly if the item there passes
   listed_from : (n from i : ℕ) (xs : List X) → n ≡ from + i → list_any (λ k. n == k) (places_from from p xs) ≡ option_any p (slice_get xs i)
   listed_from n from i [] is = refl
   listed_from n from zero (x ∷ xs) is = turn (p x)
@@ -128,7 +128,7 @@ module _ {X : Type 0} (p : X → Bool) where
   is_listed zero xs = none_before 0 1 xs (omega arith)
   is_listed (suc i) xs = listed_from (suc i) 1 i xs (omega arith) ∙ ap (option_any p) (sym (nth-suc xs i))
 
-  -- the keys of a set that has just these places are these in order
+  -- the keys of a set with exactly these places are the places in order
   keys_are_places : (s : BTreeSet ℕ) (xs : List X) → IsOrdered nat_cmp s → ((n : ℕ) → contains nat_cmp s n ≡ option_any p (nth xs n)) → s.keys ≡ places_from 1 p xs
   keys_are_places s xs ordered has =
       btree_set_from_contains nat_cmp_total s (record { keys = places_from 1 p xs }) ordered (rising 1 xs)
@@ -190,12 +190,12 @@ module _ (test : UnitBook → Instance → Bool) where
       other : (from == unit) ≡ false
       other = grind (arith, nat_tests)
 
-  -- a workunit has a place among those of the instances that pass where some instance of it does
+  -- a workunit has one of the places of passing instances exactly if some instance of it passes
   units_of_places : (w : World) (unit : ℕ) → has_unit unit (places_where w test) ≡ option_any some_pass (unit_at w unit)
   units_of_places w zero = none_of_later 0 1 w.units (omega arith)
   units_of_places w (suc i) = units_among (suc i) 1 i w.units (omega arith) ∙ ap (option_any some_pass) (sym (nth-suc w.units i))
 
--- what is listed of a host's instances is what it owns
+-- the instances listed of a host are those that it owns
 pub owned_listed : (db : Database) (w : World) → Tell db w → (host : ℕ) (owned : List Place)
     → ((contents : Contents) (ps : List Place) → Hold db contents → AreAllPlaces contents ps → owned ≡ table.places_where contents (is_of_host host) ps) → owned ≡ owned_by w host
 owned_listed db w tell host owned read = read (contents_of w tell.calls tell.batches) (places w) tell.holds (all_places w tell.calls tell.batches) ∙ owned_told db w tell host
@@ -243,7 +243,7 @@ host_more w hosts i d ps initial old new within owned added so_far unit =
 
 -- ---- the hosts of a user
 
--- one of the user's hosts had an instance of the workunit, as the user had
+-- one of the user's hosts had an instance of the workunit exactly if the user had one
 hosts_had : (w : World) (account : ℕ) (b : UnitBook) → some_had (places_from 1 (λ (h : HostRow). h.account == account) w.hosts) b ≡ user_had w account b
 hosts_had w account b =
     any_of_both is_owned_by hosts b.instances
@@ -260,7 +260,7 @@ hosts_had w account b =
     each None = never_any hosts
     each (Some n) = is_listed (λ (h : HostRow). h.account == account) n w.hosts ∙ of_account (nth w.hosts n)
 
--- the numbers of the rows that pass are the places of the items that do
+-- the numbers of the rows that pass are the places of the items that pass
 numbers_of : {X : Type 0} (row : ℕ → X → Row) (test : Row → Bool) (p : X → Bool) (from : ℕ) (xs : List X) → ((n : ℕ) (x : X) → test (row n x) ≡ p x) → ((n : ℕ) (x : X) → number_of (column (row n x) 0) ≡ n)
     → map number_of (map (λ r. column r 0) (filter test (map (λ e. row e.0 e.1) (enumerate_from from xs)))) ≡ places_from from p xs
 numbers_of row test p from [] tells same = refl
@@ -279,7 +279,7 @@ module _ (db : Database) (w : World) (tell : Tell db w) (account : ℕ) where
   abbrev of_host : ℕ → HostRow → StoredRow
   of_host id h = stored.Host (host_row (length (held_by w id)) (host_credit w id) id h)
 
-  -- the hosts that are listed of a user
+  -- the hosts listed of a user are the user's
   hosts_listed : (hosts : List ℕ) → map whole hosts ≡ map (λ row. column row 0) (rows_where db.trees Host (listed.is_of_user account)) → hosts ≡ places_from 1 (λ (h : HostRow). h.account == account) w.hosts
   hosts_listed hosts read =
       let rows = rows_of_list Host host_key (keyed_by_number Host refl) db (contents_of w tell.calls tell.batches) tell.holds of_host w.hosts (λ n. refl) (listed.is_of_user account) in

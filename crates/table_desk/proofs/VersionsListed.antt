@@ -1,4 +1,4 @@
--- The numbers of the versions that a statement lists are those of the world's versions of that application and platform, and the version that one
+-- The numbers of the versions that a statement lists are those of the world's versions of that application and platform. The version that a statement
 -- shows is the world's, with its class.
 use Rattle.std.proofs.Common.{◌≡◌, ◌⊎◌, ◌≤◌, ℕ, zero, suc, ◌+◌, pos, Bool, true, false, ◌&&◌, ◌||◌, cond, List, [], ◌∷◌, map, filter, fold, find, Option, Some, None, is_some, option_map, refl, sym, ap, ap₂, ◌∙◌, inl, inr, arith, int_eq, true≢false}
 use Rattle.std.specs.Prelude.{◌==◌, nat_le, if◌then◌else◌, option_and_then, slice_get, unwrap_or}
@@ -43,7 +43,7 @@ use Rattle.table_desk.proofs.Standing.{rows_of_list, first_such}
 
 -- ---- lists
 
--- what is picked of the items whose rows pass, where rows and items are tested alike
+-- what is picked of the items whose rows pass, if each row is tested as its item is
 picked : {X Y : Type 0} (row : ℕ → X → Row) (test : Row → Bool) (p : X → Bool) (pick : Row → Y) (of : X → Y) (from : ℕ) (xs : List X)
     → AllByRecursion (λ x. (n : ℕ) → test (row n x) ≡ p x) xs → ((n : ℕ) (x : X) → pick (row n x) ≡ of x)
     → map pick (filter test (map (λ e. row e.0 e.1) (enumerate_from from xs))) ≡ map of (filter p xs)
@@ -64,7 +64,7 @@ module _ (w : World) (name : List ℕ) (place : ℕ) (is_place : place_where (λ
   place_is : app_place w name ≡ place
   place_is = ap (λ o. unwrap_or o 0) is_place
 
-  -- an application has this place where it has this name
+  -- an application has this place exactly if it has this name
   same_app : (stands : has_app w.apps name ≡ true) (other : List ℕ) → has_app w.apps other ≡ true → (app_place w other == place) ≡ bytes_eq other name
   same_app stands other has = elim (cases_Bool (bytes_eq other name)) [
     | inl same ↦ eq-eqb _ _ (ap (app_place w) ((bytes_eq-Decides other name).0 same) ∙ place_is) ∙ sym same
@@ -96,7 +96,7 @@ place_stands apps name place is = any_from (λ a. bytes_eq a.name name) 1 place 
 abbrev number : Made → ℕ
 number v = v.version_num
 
--- the version of a number: the best so far, or else the first of these
+-- the version of a number: the best so far if it has the number, or else the first of these that has it
 abbrev pick : Option Made → ℕ → List Made → Option Made
 pick None n vs = find (λ v. v.version_num == n) vs
 pick (Some best) n vs = if best.version_num == n then Some best else find (λ v. v.version_num == n) vs
@@ -114,7 +114,7 @@ same_picks : (o : Option ℕ) (f g : ℕ → Option Made) → ((n : ℕ) → o �
 same_picks None f g same = refl
 same_picks (Some n) f g same = same n refl
 
--- the newest of the best so far and some versions is the first one of the greatest number
+-- the newest of the best so far and some versions is the first one with the greatest number
 newest_from : (best : Option Made) (vs : List Made) → fold newer best vs ≡ option_and_then (λ n. pick best n vs) (fold greater (option_map number best) (map number vs))
 newest_from None [] = refl
 newest_from (Some best) [] = sym (ap (λ c. cond c (Some best) None) (eq-eqb best.version_num best.version_num refl))
@@ -144,7 +144,7 @@ newest_from (Some best) (v ∷ vs) = turn (nat_le v.version_num best.version_num
             let apart : (best.version_num == n) ≡ false = grind (arith, nat_tests) in
             sym (ap (λ d. cond d (Some best) (cond (v.version_num == n) (Some v) (others n))) apart)
 
--- and there is one where there is a number
+-- and there is one exactly if there is a number
 some_from : (best : Option Made) (vs : List Made) → is_some (fold newer best vs) ≡ is_some (fold greater (option_map number best) (map number vs))
 some_from None [] = refl
 some_from (Some best) [] = refl
@@ -181,7 +181,7 @@ module _ (name platform : List ℕ) where
       tests : (v : Made) → is_version name platform n v ≡ (is_version_for name platform v && (v.version_num == n))
       tests v = grind arith
 
-  -- the newest of them is the first of the greatest number
+  -- the newest of them is the first one with the greatest number
   newest_told : (vs : List Made) → newest (filter (is_version_for name platform) vs) ≡ option_and_then (of_number vs) (greatest (numbers_of vs))
   newest_told vs = newest_from None (filter (is_version_for name platform) vs) ∙ same_picks (greatest (numbers_of vs)) _ _ (λ n is. first_of n vs)
 
@@ -203,7 +203,7 @@ module _ (db : Database) (w : World) (tell : Tell db w) (name : List ℕ) (place
   same_number : (a b : ℕ) → int_eq (pos a) (pos b) ≡ (a == b)
   same_number a b = grind (arith, ints)
 
-  -- a row is of the application where the version is
+  -- a row is of the application exactly if its version is
   app_tells : (v : Made) → NamesApp v → equal Binary (whole (app_place w v.app)) (whole place) ≡ bytes_eq v.app name
   app_tells v named = at_ints false Eq (pos (app_place w v.app)) (pos place) ∙ same_number (app_place w v.app) place ∙ same_app w name place is_place stands v.app named
 
@@ -222,7 +222,7 @@ module _ (db : Database) (w : World) (tell : Tell db w) (name : List ℕ) (place
         ∙ picked (λ n v. columns_of (of_version n v)) (listed.is_version_for place platform) (is_version_for name platform) (λ row. number_of (column row 3)) number 1 w.versions
         (told_alike w.versions all_named) (λ n v. refl)
 
-    -- the newest version for the platform, and that there is one
+    -- the newest version for the platform, and whether there is one
     newest_listed : (numbers : List ℕ) → map whole numbers ≡ map (λ row. column row 3) (rows_where db.trees Version (listed.is_version_for place platform))
         → newest (filter (is_version_for name platform) w.versions) ≡ option_and_then (of_number name platform w.versions) (greatest numbers)
     newest_listed numbers read = newest_told name platform w.versions ∙ ap (λ l. option_and_then (of_number name platform w.versions) (greatest l)) (sym (numbers_listed numbers read))
@@ -242,7 +242,7 @@ module _ (db : Database) (w : World) (tell : Tell db w) (name : List ℕ) (place
           together : (bytes_eq v.app name && (bytes_eq v.platform platform && (v.version_num == num))) ≡ is_version name platform num v
           together = grind arith
 
-      -- Either it does not stand, or it stands at a place, which is shown.
+      -- Either there is no such version, or it is at a place, and the statement shows that place.
       known : (id : Option ℕ) → option_map whole id ≡ option_map (λ row. column row 0) (slice_get (rows_where db.trees Version (is_version_known place platform num)) 0)
           → ((id ≡ None) × (of_number name platform w.versions num ≡ None))
           ⊎ ((n : ℕ) × (v : Made) × (id ≡ Some n) × (nth w.versions n ≡ Some v) × (of_number name platform w.versions num ≡ Some v) × (is_version name platform num v ≡ true))
@@ -259,7 +259,7 @@ module _ (db : Database) (w : World) (tell : Tell db w) (name : List ℕ) (place
           → None ≡ of_number name platform w.versions num
       version_missing read = elim (known None read) [ inl none ↦ sym none.1 | inr found ↦ absurd (none-some _ found.2) ]
 
-      -- it is told by its number and its class
+      -- it follows from its number and its class
       pub version_found : (id : ℕ) (row : StoredVersionClass) (made : Made) → option_map whole (Some id) ≡ option_map (λ row. column row 0) (slice_get (rows_where db.trees Version (is_version_known place platform num)) 0)
           → Some (columns_of (stored.VersionClass row)) ≡ look_up db.trees (class_key id) → made ≡ record { app = name; platform = platform; version_num = num; class = row.class }
           → Some made ≡ of_number name platform w.versions num
@@ -284,7 +284,7 @@ module _ (db : Database) (w : World) (tell : Tell db w) (name : List ℕ) (place
           is_numbered : (v : Made) → is_version name platform num v ≡ true → (v.version_num == num) ≡ true
           is_numbered v is = grind arith
 
--- ---- an application that does not stand
+-- ---- an application that does not exist
 
 none_from : {X : Type 0} (p : X → Bool) (from : ℕ) (xs : List X) → position_from p from xs ≡ None → list_any p xs ≡ false
 none_from p from [] is = refl
@@ -297,7 +297,7 @@ none_from p from (x ∷ xs) is = turn (p x) is (none_from p (from + 1) xs)
 no_place : (apps : List App) (name : List ℕ) → place_where (λ a. bytes_eq a.name name) apps ≡ None → has_app apps name ≡ false
 no_place apps name is = none_from (λ a. bytes_eq a.name name) 1 apps (sym (place_where-is (λ a. bytes_eq a.name name) apps) ∙ is)
 
--- what stands at a place has a name that stands
+-- the application at a place has the name of an application that exists
 pub named_stands : (apps : List App) (n : ℕ) (a : App) → nth apps n ≡ Some a → None ≡ place_where (λ b. bytes_eq b.name a.name) apps → ⊥
 named_stands apps n a stands none = true≢false (sym (there apps n stands) ∙ no_place apps a.name (sym none))
   where
@@ -314,7 +314,7 @@ named_stands apps n a stands none = true≢false (sym (there apps n stands) ∙ 
     there apps zero is = absurd (none-some _ is)
     there apps (suc i) is = here apps i (sym (nth-suc apps i) ∙ is)
 
--- no version is of an application that does not stand
+-- no version is of an application that does not exist
 pub no_version : (db : Database) (w : World) → Tell db w → (name platform : List ℕ) (n : ℕ) → None ≡ place_where (λ a. bytes_eq a.name name) w.apps → None ≡ version_by_key w name platform n
 no_version db w tell name platform n none = sym (found w.versions (recursion_from_All (λ (v : Made). has_app w.apps v.app ≡ true) w.versions tell.readable.versions))
   where
@@ -330,7 +330,7 @@ no_version db w tell name platform n none = sym (found w.versions (recursion_fro
 
 -- ---- platforms in turn
 
--- the version for the first of some platforms, or for the others
+-- the version for the first of some platforms if it has any, or else that for the others
 next_platform : (versions : List Made) (name p : List ℕ) (platforms : List (List ℕ)) (best : Option ℕ)
     → newest (filter (is_version_for name p) versions) ≡ option_and_then (of_number name p versions) best → is_some (newest (filter (is_version_for name p) versions)) ≡ is_some best
     → version_among versions name (p ∷ platforms) ≡ cond (is_some best) (option_and_then (of_number name p versions) best) (version_among versions name platforms)
@@ -338,7 +338,7 @@ next_platform versions name p platforms best is some =
     ap (λ b. cond b (newest (filter (is_version_for name p) versions)) (version_among versions name platforms)) some
     ∙ ap (λ o. cond (is_some best) o (version_among versions name platforms)) is
 
--- a platform whose versions are listed, and those behind it
+-- a platform whose versions are listed, and those after it
 pub after_platform : (db : Database) (w : World) (tell : Tell db w) (name : List ℕ) (place : ℕ) → place_where (λ a. bytes_eq a.name name) w.apps ≡ Some place → (left later : List (List ℕ)) (p : List ℕ) → left ≡ p ∷ later
     → (numbers : List ℕ) → map whole numbers ≡ map (λ row. column row 3) (rows_where db.trees Version (listed.is_version_for place p)) → (best : Option ℕ) → best ≡ greatest numbers
     → version_among w.versions name left ≡ cond (is_some best) (option_and_then (of_number name p w.versions) best) (version_among w.versions name later)

@@ -1,4 +1,5 @@
--- What is unsent is, place by place, what waits in the tables; and what waits from a place of a page on is the rest of the page and what is left behind it.
+-- What is unsent is, place by place, what waits in the tables. What waits from a place of a page on is the rest of the page and what comes
+-- after it.
 use Rattle.std.proofs.Common.{◌≡◌, ℕ, zero, suc, ◌+◌, ◌≤◌, Bool, true, false, true≢false, ◌&&◌, cond, not, List, [], ◌∷◌, ◌++◌, filter, length, map, take, drop, slice_get, Option, Some, None, option_map, refl, sym, ap, ap₂, subst, ◌∙◌, arith, nat_le, nat_lt, is_none}
 use Rattle.std.specs.Prelude.{◌==◌, ◌||◌, option_and_then, unwrap_or}
 use Rattle.std.specs.List.{AllByRecursion, cons_option}
@@ -39,7 +40,7 @@ use Rattle.table_desk.specs.Pages.{candidate_at, candidates_at, behind, next_pag
 use Rattle.table_desk.specs.declared.pages.PageRead.{PageRead}
 use Rattle.table_desk.proofs.PlacesStand.{all_places}
 
--- the places from one on that wait to be given out
+-- the places that wait to be given out, from one place on
 abbrev waits : World → Place → Place → Bool
 waits w from p = passes w (is_queued w) p && not (is_before p from)
 
@@ -86,7 +87,7 @@ module _ (db : Database) (w : World) (tell : Tell db w) (from : Place) where
 -- ---- what is unsent
 
 module _ (w : World) (from : Place) where
-  -- an instance of an open workunit that nobody was given, from the place on
+  -- an instance of an open workunit that was given to nobody, from the place on
   abbrev is_offered : UnitBook → Place → Job → Bool
   is_offered b p x = is_open (status_of w b) && (is_none x.owner && not (is_before p from))
 
@@ -157,13 +158,13 @@ module _ (w : World) (from : Place) where
   unsent_waiting : candidates_at w (waiting w from) ≡ unsent w from
   unsent_waiting = offered_among 1 w.units (λ i v b is at. ap (nth w.units) (let next : v ≡ suc i = omega (arith, is) in next) ∙ nth-suc w.units i ∙ at)
 
--- ---- what waits behind a place
+-- ---- what waits after a place
 
 module _ (q : Place → Bool) (from : Place) where
   abbrev keeps : Place → Place → Bool
   keeps from p = q p && not (is_before p from)
 
-  -- what holds of all places holds of one that a test lets through
+  -- what holds of all places holds of one that passes a test
   holds_of : (P : Place → Type 0) (ps : List Place) (n : ℕ) (p : Place) → AllByRecursion P ps → slice_get (filter (keeps from) ps) n ≡ Some p → P p
   holds_of P [] n p all is = absurd (none-some _ is)
   holds_of P (r ∷ rs) n p all is = turn (keeps from r) n (λ m. holds_of P rs m p all.1) is
@@ -173,8 +174,8 @@ module _ (q : Place → Bool) (from : Place) where
       turn true (suc m) later is = later m is
       turn false n later is = later n is
 
-  -- Of the places that it lets through, those from one of them on, with that one or without, are those that it lets through from a later
-  -- place on: it lets through none before the one, and above the one all the same.
+  -- Take the places that pass from one place on, and one of them. It and those after it, or only those after it, are the ones that pass from a later
+  -- place on. This needs that no place before it passes from there on, and that each place after it passes from both places on or from neither.
   module _ (it late : Place) (stays : Bool) (before : (p : Place) → IsBefore p it → keeps late p ≡ false) (itself : keeps from it ≡ true → keeps late it ≡ stays)
       (above : (r : Place) → keeps from it ≡ true → IsBefore it r → is_before r from ≡ is_before r late) where
     all_above : keeps from it ≡ true → (ps : List Place) → AllByRecursion (IsBefore it) ps → filter (keeps late) ps ≡ filter (keeps from) ps
@@ -203,7 +204,7 @@ module _ (q : Place → Bool) (from : Place) where
         turn true kept (suc m) later is = skipped m is ∙ later m is
         turn false fails n later is = skipped n is ∙ later n is
 
-  -- without: those behind it
+  -- without it: those after it
   passed : (p last : Place) → is_before p (behind last) ≡ true → keeps (behind last) p ≡ false
   passed p last before = grind arith
 
@@ -269,7 +270,7 @@ module _ (w : World) where
   left_behind n from None is = ap (candidates_at w) (none_left n (waiting w from) is)
   left_behind n from (Some last) is = ap (candidates_at w) (sym (rest_behind (passes w (is_queued w)) from last n (places w) rise is)) ∙ unsent_waiting w (behind last)
 
-  -- what waits behind some places of a page is the others and what waits behind the page
+  -- what waits from a place of a page on is the rest of the page and what waits after the page
   module _ (n : ℕ) (from : Place) (page : List Place) (is : page ≡ take (suc n) (waiting w from)) where
     abbrev rest : List Place
     rest = drop (suc n) (waiting w from)
@@ -285,7 +286,7 @@ module _ (w : World) where
         ap (λ l. candidates_at w (drop at l)) parted ∙ ap (candidates_at w) (drop-append-le at page rest within) ∙ filter_map-append (candidate_at w) (drop at page) rest
         ∙ ap (λ (cs : List Candidate). candidates_at w (drop at page) ++ cs) left_then
 
-    -- from the page's first place on, and from one of its places on
+    -- from the page's first place on, and from any of its places on
     parts : unsent w from ≡ candidates_at w page ++ unsent_on w (option_map behind (slice_get page n))
     parts = sym (unsent_waiting w from) ∙ parts_at 0 (omega arith)
 

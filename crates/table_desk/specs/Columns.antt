@@ -1,4 +1,4 @@
--- Rule. What the columns that are counted say.
+-- Rule. What the counted columns say.
 use Rattle.std.specs.Prelude.{ℕ, length, Option, option_map}
 use Rattle.sched_book.specs.Places.{host_at, held_by, host_credit}
 use Rattle.sched_book.specs.declared.world.World.{World}

@@ -10,26 +10,26 @@ use Rattle.table_meaning.specs.declared.tables.QueuePage.{QueuePage}
 use Rattle.table_meaning.specs.declared.tables.QueuePage.TheVariants.{First}
 use Rattle.table_desk.specs.declared.pages.PageRead.{PageRead}
 
--- a place with its workunit, where one stands
+-- a place with its workunit, if there is one
 abbrev pub candidate_at : World → Place → Option Candidate
 candidate_at w place = option_map (λ u. record { place = place; unit = u }) (workunit_at w place.unit)
 
 abbrev pub candidates_at : World → List Place → List Candidate
 candidates_at w = filter_map (candidate_at w)
 
--- the place of the next number
+-- the place with the next number in the same workunit
 abbrev pub behind : Place → Place
 behind place = record { unit = place.unit; number = place.number + 1 }
 
--- the next page begins behind the last place of a full one; behind one with fewer places there is none
+-- the next page begins just after the last place of a full page; a page with fewer places has no next one
 abbrev pub next_page : QueuePage → List Place → Option Place
 next_page page places = option_map behind (slice_get places (page_size page - 1))
 
--- what is unsent from there on, and nothing where there is no further page
+-- the unsent instances from there on; none if there is no next page
 abbrev pub unsent_on : World → Option Place → List Candidate
 unsent_on w None = []
 unsent_on w (Some from) = unsent w from
 
--- what is unsent behind the first page, as it was read
+-- the unsent instances after the first page, as it was read
 abbrev pub unsent_behind : World → PageRead → List Candidate
 unsent_behind w page = unsent_on w (next_page First page.places)

@@ -1,4 +1,4 @@
--- Words. The greatest of some numbers.
+-- Words. The greatest number of a list.
 use Rattle.std.specs.Prelude.{ℕ, List, fold, nat_le, if◌then◌else◌, Option, Some, None}
 
 -- the greater of the best so far and one more number

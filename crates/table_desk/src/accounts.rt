@@ -14,8 +14,8 @@ use std::alloc::Global;
 use table_decoding::account;
 use table_rows::{account_with, host_known};
 
-/// The account with this authenticator. Unavailable where its row has a value out of its range, whatever the rows are. The
-/// connection shows what it showed.
+/// The account with this authenticator. For any rows, it is unavailable if the row has a value out of its range. What
+/// the connection shows is unchanged.
 pub fn account_by_key<S: Alter>(
     alloc: Global,
     conn: &mut Connection<S>,
@@ -34,8 +34,8 @@ pub fn account_by_key<S: Alter>(
     }
 }
 
-/// The number of the host that belongs to this account and has this name for itself. The connection shows what it
-/// showed.
+/// The number of the host that belongs to this account and has this name for itself. What the connection shows is
+/// unchanged.
 pub fn host_by_key<S: Alter>(
     alloc: Global,
     conn: &mut Connection<S>,

@@ -73,7 +73,7 @@ fn greatest(numbers: &[u32]) -> Option<u32>
     best
 }
 
-/// A version that was found, where its values are in their ranges.
+/// The version, if its values are in their ranges. Unavailable if one is not.
 fn in_limits(version: Version) -> Result<Version, Unavailable>
     ensures same { IfOk result (λ v. v ≡ version) }
     ensures limits { IfOk result IsVersionInLimits }
@@ -85,9 +85,9 @@ fn in_limits(version: Version) -> Result<Version, Unavailable>
     }
 }
 
-/// The first version of the application of this name, which is the first of its name at this place, for this platform and
-/// with this number. Unavailable where it has no class, or one of its values is out of its range. The connection shows what
-/// it showed.
+/// The first version of an application for this platform with this number. The application is the first one of this
+/// name, and is at this place. Unavailable if the version has no class, or if one of its values is out of its range.
+/// What the connection shows is unchanged.
 fn version_with<S: Alter>(
     alloc: Global,
     conn: &mut Connection<S>,
@@ -116,8 +116,8 @@ fn version_with<S: Alter>(
     Ok(Some(in_limits(version)?))
 }
 
-/// The newest version of the application of this name, which is the first of its name at this place, for the first of
-/// the platforms that has any. The connection shows what it showed.
+/// The newest version of an application for the first of the platforms that has any. The application is the first one
+/// of this name, and is at this place. What the connection shows is unchanged.
 fn version_among<S: Alter>(
     alloc: Global,
     conn: &mut Connection<S>,
@@ -146,9 +146,9 @@ fn version_among<S: Alter>(
     Ok(None)
 }
 
-/// The version that a host runs of the application at this place, of all applications: the newest for the first of the
-/// host's platforms that has any. Unavailable where it has no class, or one of its values is out of its range, whatever the
-/// rows are. The connection shows what it showed.
+/// The version that a host runs of the application at this place. It is the newest one for the first of the host's
+/// platforms that has any. `apps` are all applications. For any rows, it is unavailable if the version has no class, or
+/// if one of its values is out of its range. What the connection shows is unchanged.
 pub fn version_for<S: Alter>(
     alloc: Global,
     conn: &mut Connection<S>,
@@ -169,8 +169,8 @@ pub fn version_for<S: Alter>(
     version_among(alloc, conn, &named.name, place, host.platforms.as_slice())
 }
 
-/// The version of this application, for this platform, with this number. Unavailable where it has no class, or one of its
-/// values is out of its range, whatever the rows are. The connection shows what it showed.
+/// The version of this application, for this platform, with this number. For any rows, it is unavailable if the version
+/// has no class, or if one of its values is out of its range. What the connection shows is unchanged.
 pub fn version_by_key<S: Alter>(
     alloc: Global,
     conn: &mut Connection<S>,

@@ -1,5 +1,5 @@
-//! What is counted of a workunit, read in its row, of a user, read in the rows of the user's hosts, and of a host that
-//! has no row.
+//! What is counted of a workunit, read from its row, and of a user, read from the rows of the user's hosts. Also what
+//! is counted of a host that has no row.
 
 ghost use Rattle.std.specs.Prelude.{◌≡◌, [], length, sum_by, unsigned_abs, IfOk, OnOk};
 ghost use Rattle.sqlite.specs.Held.{state};
@@ -14,7 +14,7 @@ use std::alloc::Global;
 use table_meaning::codes::status_of_code;
 use table_rows::{credits_of_user, places_owned, status_of as status_column};
 
-/// The status of the workunit at this place. The connection shows what it showed.
+/// The status of the workunit at this place. What the connection shows is unchanged.
 pub fn status_of<S: Alter>(
     alloc: Global,
     conn: &mut Connection<S>,
@@ -32,8 +32,8 @@ pub fn status_of<S: Alter>(
     }
 }
 
-/// Tests that the host was given nothing, as one that has no row. Unavailable where it was given an instance. The
-/// connection shows what it showed.
+/// Tests that the host was given no instance, as is so for a host with no row. Unavailable if it was given one. What
+/// the connection shows is unchanged.
 fn test_none_given<S: Alter>(
     alloc: Global,
     conn: &mut Connection<S>,
@@ -49,8 +49,8 @@ fn test_none_given<S: Alter>(
     Ok(())
 }
 
-/// How many instances a host holds that was given nothing, as one that has no row: none. Unavailable where it was given an
-/// instance. The connection shows what it showed.
+/// How many instances the host holds, if it was given none, as is so for a host with no row: 0. Unavailable if it was
+/// given one. What the connection shows is unchanged.
 pub fn held_of_none_given<S: Alter>(
     alloc: Global,
     conn: &mut Connection<S>,
@@ -63,8 +63,8 @@ pub fn held_of_none_given<S: Alter>(
     Ok(0)
 }
 
-/// The millicredits of a host that was given nothing, as one that has no row: none. Unavailable where it was given an
-/// instance. The connection shows what it showed.
+/// The millicredits of the host, if it was given no instance, as is so for a host with no row: 0. Unavailable if it was
+/// given one. What the connection shows is unchanged.
 pub fn credit_of_none_given<S: Alter>(
     alloc: Global,
     conn: &mut Connection<S>,
@@ -77,7 +77,7 @@ pub fn credit_of_none_given<S: Alter>(
     Ok(0)
 }
 
-/// The sum of credits. Unavailable where one is below 0, or where the sum has more than 64 bits.
+/// The sum of credits. Unavailable if one is below 0, or if the sum has more than 64 bits.
 fn sum_of(credits: &[i64]) -> Result<u64, Unavailable>
     ensures { IfOk result (λ sum. sum ≡ sum_by unsigned_abs credits.now) }
 {
@@ -94,7 +94,7 @@ fn sum_of(credits: &[i64]) -> Result<u64, Unavailable>
     Ok(sum)
 }
 
-/// The millicredits of the user: those of the user's hosts together. The connection shows what it showed.
+/// The millicredits of the user: the sum over the user's hosts. What the connection shows is unchanged.
 pub fn credit_of_user<S: Alter>(
     alloc: Global,
     conn: &mut Connection<S>,

@@ -21,7 +21,7 @@ use texts::Same;
 /// A host, with what is counted of it.
 #[derive(Clone, Drop)]
 pub struct CountedHost {
-    /// The host, as it last told of itself.
+    /// The host, as it last described itself.
     pub row: HostRow,
     /// How many instances it holds.
     pub held: u32,
@@ -50,8 +50,8 @@ fn counted(alloc: Global, row: &StoredHost) -> Result<CountedHost, Unavailable>
     }
 }
 
-/// The host of this number, with what is counted of it. Unavailable where its row has a value out of its range, whatever the
-/// rows are. The connection shows what it showed.
+/// The host of this number, with what is counted of it. For any rows, it is unavailable if the row has a value out of
+/// its range. What the connection shows is unchanged.
 pub fn counted_host<S: Alter>(
     alloc: Global,
     conn: &mut Connection<S>,

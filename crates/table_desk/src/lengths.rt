@@ -11,8 +11,8 @@ use sqlite::{Alter, Connection};
 use std::alloc::Global;
 use table_rows::{CountedTable, last_number};
 
-/// How many rows each table has: numbers run from 1 without a gap, so it is the last number of each. The connection
-/// shows what it showed.
+/// How many rows each table has. Numbers run from 1 without a gap, so it is the last number of each. What the
+/// connection shows is unchanged.
 pub fn counts<S: Alter>(alloc: Global, conn: &mut Connection<S>) -> Result<Counts, Unavailable>
     ensures reads { Reads (state S.Store conn.old) (state S.Store conn.new) }
     ensures answer { Asked S.Store conn.old conn.new (λ w. IfOk result (λ r. r ≡ counts_in w)) }

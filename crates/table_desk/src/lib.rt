@@ -1,7 +1,7 @@
-//! What a desk is asked, told by statements over the stored tables.
+//! The look-ups of a desk, answered by statements over the stored tables.
 //!
-//! Each function is one look-up of a desk, over a connection. The applications, which seldom change, are handed in by
-//! who keeps them.
+//! Each function is one look-up of a desk, over a connection. Applications seldom change, so the caller keeps them and
+//! passes them in.
 #![tactic(auto)]
 
 mod accounts;

@@ -1,4 +1,4 @@
-//! Offers of the instances that wait, to a taker, a page of places at a time.
+//! Offers of the waiting instances to a taker, a page of places at a time.
 
 ghost use Rattle.std.specs.Prelude.{◌≡◌, ◌++◌, Some, IfOk, IfSome, OnOk, OnErr};
 ghost use Rattle.sqlite.specs.Held.{state};
@@ -22,21 +22,21 @@ use texts::Memory;
 /// More pages of 64 places than the instances of all workunits fill.
 const MOST_PAGES: usize = MOST_WORKUNITS * MOST_INSTANCES / 64 + 2;
 
-/// Who knows some workunits, so that they need not be read.
+/// Who knows some workunits, so they need not be read.
 pub trait KnownUnits {
     ghost use Rattle.sched_book.specs.declared.world.World.{World};
     ghost use Rattle.sched_book.specs.Desk.{workunit_at};
 
-    /// What it knows is this world's.
+    /// What it knows is true of this world.
     ghost are_of: { World → Self → Type 0 };
 
-    /// The workunit at this place, where it is known.
+    /// The workunit at this place, if it is known.
     fn known_unit(&self, unit: u32) -> Result<Option<Workunit>, Memory>
         ensures { (w : World) → are_of w self.now → IfOk result (λ r. IfSome r (λ u. workunit_at w unit ≡ Some u)) };
 }
 
-/// Offers the candidate at this place, whose workunit is read where it is not known, and says whether the taker wants more.
-/// Refused where no workunit stands there. The connection shows what it showed.
+/// Offers the candidate at this place, and says whether the taker wants more. The workunit is read if it is not known.
+/// Unavailable if there is no such workunit. What the connection shows is unchanged.
 fn offer_at<S: Alter, K: KnownUnits, T: Taker>(
     alloc: Global,
     conn: &mut Connection<S>,
@@ -59,8 +59,8 @@ fn offer_at<S: Alter, K: KnownUnits, T: Taker>(
     }
 }
 
-/// Offers the candidates at these places, but for those that the taker passes over, and says whether it wants more. The
-/// connection shows what it showed.
+/// Offers the candidates at these places, except those that the taker passes over, and says whether it wants more. What
+/// the connection shows is unchanged.
 fn offer_each<S: Alter, K: KnownUnits, T: Taker>(
     alloc: Global,
     conn: &mut Connection<S>,
@@ -85,8 +85,8 @@ fn offer_each<S: Alter, K: KnownUnits, T: Taker>(
     Ok(Flow::GoOn)
 }
 
-/// Offers what waits from this place on, a further page of it, and says from where there may be more. The connection shows
-/// what it showed.
+/// Offers one further page of what waits, from this place on. Returns from where there may be more. What the connection
+/// shows is unchanged.
 fn offer_page<S: Alter, K: KnownUnits, T: Taker>(
     alloc: Global,
     conn: &mut Connection<S>,
@@ -106,8 +106,8 @@ fn offer_page<S: Alter, K: KnownUnits, T: Taker>(
     }
 }
 
-/// Offers what waits from this place on, where there is one, a further page after another. The connection shows what it
-/// showed.
+/// Offers what waits from this place on, if there is one, one further page after another. What the connection shows is
+/// unchanged.
 fn offer_pages<S: Alter, K: KnownUnits, T: Taker>(
     alloc: Global,
     conn: &mut Connection<S>,
@@ -130,8 +130,8 @@ fn offer_pages<S: Alter, K: KnownUnits, T: Taker>(
     Err(Unavailable)
 }
 
-/// Offers the candidates at these places of a page, and then what waits behind the page. The connection shows what it
-/// showed.
+/// Offers the candidates at these places of a page, and then what waits after the page. What the connection shows is
+/// unchanged.
 fn offer_on<S: Alter, K: KnownUnits, T: Taker>(
     alloc: Global,
     conn: &mut Connection<S>,
@@ -151,10 +151,11 @@ fn offer_on<S: Alter, K: KnownUnits, T: Taker>(
     }
 }
 
-/// Offers the instances of open workunits that nobody was given, beside all applications, in the order of their places
-/// and from this place on, until the taker says stop. A candidate that the taker passes over is not offered. The page that
-/// was read last goes on where it has the place, and else another one is read in its stead. A workunit is read where it is
-/// not known. Where the tables are unavailable the offers end early. The connection shows what it showed.
+/// Offers the instances of open workunits that were given to nobody, in the order of their places, from this place on.
+/// The offers end when the taker says stop, and a candidate that the taker passes over is not offered. `apps` are all
+/// applications. If the page that was read last was read from this place on, or has the place, the offers begin on that
+/// page. If not, another page is read and replaces it. A workunit is read if it is not known. If the tables are
+/// unavailable, the offers end early. What the connection shows is unchanged.
 pub fn unsent_from<S: Alter, K: KnownUnits, T: Taker>(
     alloc: Global,
     conn: &mut Connection<S>,

@@ -17,7 +17,7 @@ use table_meaning::tables::QueuePage;
 use table_rows::queued_from;
 use texts::Listed;
 
-/// Where the next page begins, if this one is full. Refused where the number of the last place is the greatest one.
+/// Where the next page begins, if this one is full. Unavailable if the last place has the greatest possible number.
 pub(crate) fn next_page(page: QueuePage, places: &[Place]) -> Result<Option<Place>, Unavailable>
     ensures { IfOk result (λ next. next ≡ next_page page places.now) }
 {
@@ -33,7 +33,7 @@ pub(crate) fn next_page(page: QueuePage, places: &[Place]) -> Result<Option<Plac
     }
 }
 
-/// The index of this place among those, where it is one of them.
+/// The index of this place among those, if it is one of them.
 fn index_of(places: &[Place], place: Place) -> Option<usize>
     ensures { IfSome result (λ at. (at < length places.now) × (slice_get places.now at ≡ Some place)) }
 {
@@ -48,7 +48,7 @@ pub struct PageRead {
 }
 
 impl PageRead {
-    /// The first places of what waits from this one on, by a statement. The connection shows what it showed.
+    /// The first places of what waits, from this one on, read by one statement. What the connection shows is unchanged.
     pub(crate) fn read<S: Alter>(
         alloc: Global,
         conn: &mut Connection<S>,
@@ -68,7 +68,7 @@ impl PageRead {
         self.places.as_slice()
     }
 
-    /// Its places from this one on, where it was read from there on or has the place.
+    /// Its places from this one on, if it was read from there on or has the place.
     pub(crate) fn places_from(&self, from: Place) -> Option<&[Place]>
         ensures { (w : World) → IsFirstPageOf w self.now → IfSome result (λ places. unsent w from ≡ candidates_at w places.now ++ unsent_behind w self.now) }
     {
@@ -79,7 +79,7 @@ impl PageRead {
         Some(&self.places()[at..])
     }
 
-    /// From where there may be more behind it, if it is full.
+    /// From where there may be more after it, if it is full.
     pub(crate) fn next(&self) -> Result<Option<Place>, Unavailable>
         ensures { IfOk result (λ next. next ≡ next_page First self.now.places) }
     {

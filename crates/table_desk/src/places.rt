@@ -13,10 +13,10 @@ use std::alloc::Global;
 use table_rows::{places_due, places_held, places_owned, sent_between};
 use texts::Listed;
 
-/// The seconds of a day, as the columns of moments are held.
+/// The seconds of a day, in the type of the columns that hold moments.
 const DAY_SECONDS: i64 = DAY as i64;
 
-/// The first moment of a day, and that of the next.
+/// The first moment of a day, and that of the next day.
 fn bounds_of(day: u64) -> Option<(i64, i64)>
     ensures { IfSome result (λ r. (r.0 ≡ pos (day * 86400)) × (r.1 ≡ pos (day * 86400 + 86400))) }
 {
@@ -24,8 +24,9 @@ fn bounds_of(day: u64) -> Option<(i64, i64)>
     Some((from, from.checked_add(DAY_SECONDS)?))
 }
 
-/// The places of the instances that the host holds, in order, if it holds so many at most: the more instances were sent to
-/// it behind the oldest of them, the longer it takes. The connection shows what it showed.
+/// The places of the instances that the host holds, in order, if it holds at most `most`. The time it takes grows with
+/// the number of instances that were sent to the host after the oldest of these. What the connection shows is
+/// unchanged.
 pub fn held_by<S: Alter>(
     alloc: Global,
     conn: &mut Connection<S>,
@@ -38,7 +39,7 @@ pub fn held_by<S: Alter>(
     Ok(places_held(alloc, conn, host, most)?)
 }
 
-/// The places of the instances that were given to the host, in order. The connection shows what it showed.
+/// The places of the instances that were given to the host, in order. What the connection shows is unchanged.
 pub fn owned_by<S: Alter>(
     alloc: Global,
     conn: &mut Connection<S>,
@@ -50,7 +51,7 @@ pub fn owned_by<S: Alter>(
     Ok(places_owned(alloc, conn, host)?)
 }
 
-/// How many of the host's instances were sent on this day. The connection shows what it showed.
+/// How many of the host's instances were sent on this day. What the connection shows is unchanged.
 pub fn sent_on_day<S: Alter>(
     alloc: Global,
     conn: &mut Connection<S>,
@@ -66,9 +67,9 @@ pub fn sent_on_day<S: Alter>(
     Ok(sent_between(alloc, conn, host, from, until)?)
 }
 
-/// The places of the held instances whose deadline is before the moment `now`, in order, if none has its deadline before the
-/// moment `from`, both in seconds since 1970-01-01T00:00:00Z: the more deadlines lie between the two, the longer it takes.
-/// The connection shows what it showed.
+/// The places of the held instances whose deadline is before the moment `now`, in order, if none has its deadline
+/// before the moment `from`. Both are in seconds since 1970-01-01T00:00:00Z. The time it takes grows with the number of
+/// deadlines between the two. What the connection shows is unchanged.
 pub fn due_before<S: Alter>(
     alloc: Global,
     conn: &mut Connection<S>,

@@ -27,8 +27,8 @@ fn add_units(units: &mut BTreeSet<u32>, places: &[Place]) -> Result<(), Memory>
     Ok(())
 }
 
-/// Adds to the set the workunits of which some instance was given to one of these hosts. The connection shows what it
-/// showed.
+/// Adds to the set the workunits with some instance that was given to one of these hosts. What the connection shows is
+/// unchanged.
 fn add_units_of<S: Alter>(
     alloc: Global,
     conn: &mut Connection<S>,
@@ -45,8 +45,8 @@ fn add_units_of<S: Alter>(
     Ok(())
 }
 
-/// The places of the workunits of which some instance was given to a host of the account, in order. The connection
-/// shows what it showed.
+/// The places of the workunits with some instance that was given to a host of the account, in order. What the
+/// connection shows is unchanged.
 pub fn units_of_user<S: Alter>(
     alloc: Global,
     conn: &mut Connection<S>,

@@ -20,7 +20,7 @@ use table_meaning::rows::StoredInstance;
 use table_rows::{instance_of, instances_in, mark_of, unit_named, unit_of};
 use texts::Listed;
 
-/// The place of the workunit of this name. The connection shows what it showed.
+/// The place of the workunit of this name. What the connection shows is unchanged.
 pub fn unit_by_name<S: Alter>(
     alloc: Global,
     conn: &mut Connection<S>,
@@ -32,8 +32,8 @@ pub fn unit_by_name<S: Alter>(
     Ok(unit_named(alloc, conn, name)?)
 }
 
-/// The workunit at this place, beside all applications. Unavailable where it has no mark, or its row or its mark has a value
-/// out of its range, whatever the rows are. The connection shows what it showed.
+/// The workunit at this place. `apps` are all applications. For any rows, it is unavailable if the workunit has no
+/// mark, or if its row or mark has a value out of its range. What the connection shows is unchanged.
 pub fn unit_at<S: Alter>(
     alloc: Global,
     conn: &mut Connection<S>,
@@ -53,8 +53,8 @@ pub fn unit_at<S: Alter>(
     Ok(Some(workunit(apps, &row, &mark)?))
 }
 
-/// The instance of this number of the workunit at this place. Unavailable where its row has a value out of its range,
-/// whatever the rows are. The connection shows what it showed.
+/// The instance of this number of the workunit at this place. For any rows, it is unavailable if the row has a value
+/// out of its range. What the connection shows is unchanged.
 pub fn instance_at<S: Alter>(
     alloc: Global,
     conn: &mut Connection<S>,
@@ -83,8 +83,8 @@ fn instances(alloc: Global, rows: &[StoredInstance]) -> Result<Listed<Instance>,
     Ok(all)
 }
 
-/// The instances of the workunit at this place, by number. Unavailable where it has more than it may have, or where a row
-/// has a value out of its range, whatever the rows are. The connection shows what it showed.
+/// The instances of the workunit at this place, by number. For any rows, it is unavailable if there are more than a
+/// workunit may have, or if one has a value out of its range. What the connection shows is unchanged.
 pub fn instances_at<S: Alter>(
     alloc: Global,
     conn: &mut Connection<S>,

@@ -7,7 +7,7 @@ use Rattle.table_desk.specs.Asked.{Asked}
 use Rattle.table_desk.specs.Pages.{candidates_at}
 use Rattle.table_desk.proofs.offers.offer_each.Given as goal
 
--- the offers so far lead to those of the places which are left
+-- the offers so far lead to those of the places that are left
 abbrev pub invariant-loop-place : goal.invariant-loop-place
 invariant-loop-place g l =
     Reads (state g.S.Store l.fn.conn) (state g.S.Store l.conn)

@@ -7,7 +7,7 @@ use Rattle.table_meaning.specs.declared.rows.StoredRow.TheVariants as stored
 use Rattle.table_worlds.specs.ReadBack.{job_in}
 use Rattle.table_desk.proofs.workunits.instances.Given as goal
 
--- the instances so far are those of the rows so far, each in its ranges
+-- the instances so far are those of the rows so far, and each is in its ranges
 abbrev pub invariant-loop-row : goal.invariant-loop-row
 invariant-loop-row l =
     (l.all ≡ map (λ (row : StoredInstance). job_in (columns_of (stored.Instance row))) (take l.row-index l.rows))
