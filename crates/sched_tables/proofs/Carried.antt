@@ -1,7 +1,6 @@
 -- What is still remembered behind rows that were put is what the world after has.
-use Rattle.std.proofs.Common.{◌≡◌, ◌<◌, ℕ, zero, suc, ◌+◌, Bool, true, false, true≢false, cond, eqb, arith, option_map, length, ◌||◌, List, [], ◌∷◌, ◌++◌, Option, Some, None, refl, sym, subst, ◌∙◌, inl, inr, ap}
-use Rattle.std.specs.Prelude.{◌⊎◌, All, IfSome, get_or, option_and_then, slice_get, slice_set}
-use Rattle.std.proofs.Math.Dec.{eqb-suc-zero, eqb-zero-suc, eqb-suc-suc}
+use Rattle.std.proofs.Common.{◌≡◌, ℕ, suc, ◌+◌, Bool, true, false, true≢false, cond, eqb, arith, option_map, length, ◌||◌, List, [], ◌∷◌, ◌++◌, Option, Some, None, refl, sym, subst, ◌∙◌, inl, inr, ap}
+use Rattle.std.specs.Prelude.{◌⊎◌, All, IfSome, get_or, option_and_then, slice_get}
 use Rattle.std.specs.Cmp.Lexicographic.{slice_cmp}
 use Rattle.std.specs.List.{list_any, cons_option, AllByRecursion}
 use Rattle.std.specs.Ordering.{nat_cmp}
@@ -25,7 +24,6 @@ use Rattle.table_desk.specs.Columns.{counted_host_at}
 use Rattle.table_desk.specs.FirstPage.{IsFirstPageOf}
 use Rattle.table_desk.specs.declared.hosts.CountedHost.{CountedHost}
 use Rattle.table_meaning.specs.declared.rows.StoredRow.{StoredRow}
-use Rattle.table_meaning.specs.declared.rows.StoredInstance.{StoredInstance}
 use Rattle.table_meaning.specs.declared.rows.StoredRow.TheVariants as stored
 use Rattle.table_meaning.specs.Rows.{RowKey, host_key, instance_key, kept_key, batch_key, key_of, same_key}
 use Rattle.table_meaning.specs.Worlds.{SlotCalls, contents_of}
@@ -41,7 +39,7 @@ use Rattle.stores.specs.declared.entry.Entry.{Entry}
 use Rattle.stores.specs.declared.entry.Entry.TheVariants as entry
 use Rattle.sched_tables.specs.Commits.{ArePut}
 use Rattle.sched_tables.specs.Entries.{IsRowOf, ArePutWith}
-use Rattle.sched_tables.specs.Carrying.{IsOtherKey, IsUnput, IsPut, IsRenewed, IsStillKnown, job_of, counted_of, with_host, with_hosts, shares, AreCarried, AreOfHosts}
+use Rattle.sched_tables.specs.Carrying.{IsOtherKey, IsUnput, IsPut, IsStillKnown, job_of, counted_of, with_host, with_hosts, with_job, with_jobs, shares, sent_among, AreCarried, AreOfHosts, AreOfJobs}
 use Rattle.sched_tables.specs.Remembering.{IsAccountOf, IsVersionOf, IsSlotOf, AreRemembered}
 use Rattle.sched_tables.specs.RowsRead.{HoldOfEach, AreSome}
 use Rattle.sched_tables.specs.declared.remembered.Remembered.{Remembered}
@@ -49,6 +47,7 @@ use Rattle.sched_tables.specs.declared.remembered.VersionRead.{VersionRead}
 use Rattle.sched_tables.specs.declared.rows_read.RowsRead.{RowsRead}
 use Rattle.sched_tables.proofs.ToldByRows.{same_accounts, same_apps, same_versions, same_workunit, same_host, host_told, job_told}
 use Rattle.sched_tables.proofs.CreditMoves.{credit_shared}
+use Rattle.sched_tables.proofs.SentMoves.{most_numbers, sent_shared}
 
 -- ---- keys at which no row is put
 
@@ -159,14 +158,10 @@ module _ (rows : List StoredRow) (r : StoredRow) where
   known_on told k old mid new (inl (unput, same)) (inl (other, is)) = inl (unput_more rows r k unput other, is ∙ same)
   known_on told k old mid new (inr (s, put, at, same)) (inl (other, is)) = inr (s, put_before rows r s put, at, is ∙ same)
 
-  pub carried_more : (old mid new : Remembered) → AreCarried (IsUnput rows) (IsPut rows) old mid → AreCarried (IsOtherKey r) (λ s. s ≡ r) mid new → AreCarried (IsUnput (rows ++ r ∷ [])) (IsPut (rows ++ r ∷ [])) old new
+  pub carried_more : (old mid new : Remembered) → AreCarried (IsUnput rows) old mid → AreCarried (IsOtherKey r) mid new → AreCarried (IsUnput (rows ++ r ∷ [])) old new
   carried_more old mid new one two = record {
     units = some_of_some nat_cmp _ _ _ old.units mid.units new.units
         (λ n a b. (unput_more rows r _ a.0 b.0, unput_more rows r _ a.1 b.1, λ id. unput_more rows r _ (a.2 id) (b.2 id))) one.units two.units;
-    instances = λ n zs is.
-        let later = two.instances n zs is in
-        let earlier = one.instances n later.0 later.1 in
-        (earlier.0, earlier.1, λ num. known_on job_of (instance_key n num) (slice_get earlier.0 num) (slice_get later.0 num) (slice_get zs num) (earlier.2 num) (later.2 num));
     accounts = some_of_some (slice_cmp nat_cmp) _ _ _ old.accounts mid.accounts new.accounts (λ _ a b id. unput_more rows r _ (a id) (b id)) one.accounts two.accounts;
     versions = elim two.versions [
       | inl gone ↦ inl gone
@@ -220,18 +215,59 @@ host_known rows hosts number = go rows [] hosts (inl (tt, refl))
 pub known_of_world : (w : World) (calls : SlotCalls) (r : Remembered) → AreRemembered w calls r → AreOfHosts (counted_host_at w) r.hosts r.credits
 known_of_world w calls r known = record { each = known.hosts; end = suc (length w.hosts); credited = λ account credit is more. known.credits account credit is ∙ credit_shared w account more }
 
--- ---- instances of a row that is put
+-- ---- instances of rows that are put
 
--- what stands at an index after one element was written
-got_of_set : {X : Type 0} (xs : List X) (i j : ℕ) (x : X) → i < length xs → slice_get (slice_set xs i x) j ≡ cond (eqb i j) (Some x) (slice_get xs j)
-got_of_set [] i j x within = absurd (omega arith)
-got_of_set (y ∷ ys) zero zero x within = refl
-got_of_set (y ∷ ys) zero (suc j) x within = sym (ap (λ (b : Bool). cond b (Some x) (slice_get ys j)) (eqb-zero-suc j))
-got_of_set (y ∷ ys) (suc i) zero x within = sym (ap (λ (b : Bool). cond b (Some x) (Some y)) (eqb-suc-zero i))
-got_of_set (y ∷ ys) (suc i) (suc j) x within = got_of_set ys i j x (omega arith) ∙ sym (ap (λ (b : Bool). cond b (Some x) (slice_get ys j)) (eqb-suc-suc i j))
+-- the same of the instance of a workunit and a number
+unit_of_job : RowKey → ℕ
+unit_of_job (instance_key unit number) = unit
+unit_of_job other = 0
 
-pub is_renewed : (row : StoredInstance) (old : List Job) (x : Job) → row.num < length old → x ≡ job_of (stored.Instance row) → IsRenewed row old (slice_set old row.num x)
-is_renewed row old x within is = λ num. got_of_set old row.num num x within ∙ ap (λ y. cond (eqb row.num num) (Some y) (slice_get old num)) is
+number_of_job : RowKey → ℕ
+number_of_job (instance_key unit number) = number
+number_of_job other = 0
+
+one_job : (r : StoredRow) (jobs : ℕ → ℕ → Option Job) (unit number : ℕ) → IsStillKnown (IsOtherKey r) (λ s. s ≡ r) job_of (instance_key unit number) (jobs unit number) (with_job jobs r unit number)
+unfolding unit_of_job number_of_job
+one_job (stored.Instance row) jobs unit number = cases (eqb row.unit_id unit) refl (eqb row.num number) refl
+  where
+    cases : (b : Bool) → eqb row.unit_id unit ≡ b → (c : Bool) → eqb row.num number ≡ c
+        → IsStillKnown (IsOtherKey (stored.Instance row)) (λ s. s ≡ stored.Instance row) job_of (instance_key unit number) (jobs unit number) (cond b (cond c (Some (job_of (stored.Instance row))) (jobs unit number)) (jobs unit number))
+    cases true unit_is true number_is = inr (stored.Instance row, refl, (λ i. instance_key (eqb-true row.unit_id unit unit_is i) (eqb-true row.num number number_is i)), refl)
+    cases true unit_is false number_is = inl ((λ same. true≢false (sym (eq-eqb row.num number (ap number_of_job same)) ∙ number_is)), refl)
+    cases false unit_is c number_is = inl ((λ same. true≢false (sym (eq-eqb row.unit_id unit (ap unit_of_job same)) ∙ unit_is)), refl)
+one_job (stored.Host row) jobs unit number = inl ((λ same. absurd cc), refl)
+one_job (stored.Setting row) jobs unit number = inl ((λ same. absurd cc), refl)
+one_job (stored.Account row) jobs unit number = inl ((λ same. absurd cc), refl)
+one_job (stored.App row) jobs unit number = inl ((λ same. absurd cc), refl)
+one_job (stored.Version row) jobs unit number = inl ((λ same. absurd cc), refl)
+one_job (stored.Unit row) jobs unit number = inl ((λ same. absurd cc), refl)
+one_job (stored.Kept row) jobs unit number = inl ((λ same. absurd cc), refl)
+one_job (stored.Batch row) jobs unit number = inl ((λ same. absurd cc), refl)
+one_job (stored.VersionClass row) jobs unit number = inl ((λ same. absurd cc), refl)
+one_job (stored.UnitMark row) jobs unit number = inl ((λ same. absurd cc), refl)
+
+pub job_known : (rows : List StoredRow) (jobs : ℕ → ℕ → Option Job) (unit number : ℕ) → IsStillKnown (IsUnput rows) (IsPut rows) job_of (instance_key unit number) (jobs unit number) (with_jobs jobs rows unit number)
+job_known rows jobs unit number = go rows [] jobs (inl (tt, refl))
+  where
+    go : (left done : List StoredRow) (now : ℕ → ℕ → Option Job) → IsStillKnown (IsUnput done) (IsPut done) job_of (instance_key unit number) (jobs unit number) (now unit number)
+        → IsStillKnown (IsUnput (done ++ left)) (IsPut (done ++ left)) job_of (instance_key unit number) (jobs unit number) (with_jobs now left unit number)
+    go [] done now known = subst (λ rs. IsStillKnown (IsUnput rs) (IsPut rs) job_of (instance_key unit number) (jobs unit number) (now unit number)) (sym (append-nil done)) known
+    go (r ∷ left) done now known =
+        let then = known_on done r job_of (instance_key unit number) (jobs unit number) (now unit number) (with_job now r unit number) known (one_job r now unit number) in
+        subst (λ rs. IsStillKnown (IsUnput rs) (IsPut rs) job_of (instance_key unit number) (jobs unit number) (with_jobs now (r ∷ left) unit number)) (append_assoc done (r ∷ []) left) (go left (done ++ r ∷ []) (with_job now r) then)
+
+-- the jobs of a world
+abbrev pub jobs_of : World → ℕ → ℕ → Option Job
+jobs_of w unit number = slice_get (instances_at w unit) number
+
+-- what is known of a world's instances and of how many its hosts were sent is theirs
+pub jobs_of_world : (w : World) (calls : SlotCalls) (r : Remembered) → AreRemembered w calls r → AreOfJobs (jobs_of w) r.instances r.sent
+jobs_of_world w calls r known = record {
+  each = λ unit xs is number. ap (λ (ys : List Job). slice_get ys number) (known.instances unit xs is);
+  units = suc (length w.units);
+  numbers = most_numbers w.units;
+  counted = λ host s is more further. known.sent host s is ∙ sent_shared w host s.day more further;
+}
 
 -- ---- what is carried is the world's after
 
@@ -243,7 +279,8 @@ holds_of_some cmp Of Before After old new some before carry = λ k row is.
 module _ (w w' : World) (readable : IsReadable w) (readable' : IsReadable w') (Stays : RowKey → Type 0) (stay : (k : WorldKey) → Stays (row_key k) → row_in w k ≡ row_in w' k)
     (Puts : StoredRow → Type 0) (put : (r : StoredRow) (k : WorldKey) → Puts r → key_of r ≡ row_key k → row_in w' k ≡ Some r)
     (hosts : ℕ → Option CountedHost) (known : (n : ℕ) → IsStillKnown Stays Puts counted_of (host_key n) (counted_host_at w n) (hosts n))
-    (calls calls' : SlotCalls) (old new : Remembered) (of_hosts : AreOfHosts hosts new.hosts new.credits) (left : AreCarried Stays Puts old new) (none : new.slot ≡ None) (no_page : new.page ≡ None) (before : AreRemembered w calls old) where
+    (jobs : ℕ → ℕ → Option Job) (jobs_known : (n num : ℕ) → IsStillKnown Stays Puts job_of (instance_key n num) (jobs_of w n num) (jobs n num))
+    (calls calls' : SlotCalls) (old new : Remembered) (of_hosts : AreOfHosts hosts new.hosts new.credits) (of_jobs : AreOfJobs jobs new.instances new.sent) (left : AreCarried Stays old new) (none : new.slot ≡ None) (no_page : new.page ≡ None) (before : AreRemembered w calls old) where
   apps_stay : ((id : ℕ) → Stays (row_key (key.App id))) → w.apps ≡ w'.apps
   apps_stay unput = same_apps w w' readable readable' (λ n. stay (key.App n) (unput n))
 
@@ -260,10 +297,11 @@ module _ (w w' : World) (readable : IsReadable w) (readable' : IsReadable w') (S
   versions_left olds news (inr (same, unput)) all =
       subst (All (IsVersionOf w')) (sym same) (λ at v within h platforms. sym (versions_stay unput h (get_or olds at v).app) ∙ all at v within h platforms)
 
-  jobs_then : (n num : ℕ) (ys xs : List Job) → ys ≡ instances_at w n → IsStillKnown Stays Puts job_of (instance_key n num) (slice_get ys num) (slice_get xs num) → slice_get xs num ≡ slice_get (instances_at w' n) num
-  jobs_then n num ys xs was (inl (still, same)) =
-      same ∙ ap (λ js. slice_get js num) was ∙ job_told w readable n num ∙ ap (option_map job_of) (stay (key.Instance (record { unit = n; number = num })) still) ∙ sym (job_told w' readable' n num)
-  jobs_then n num ys xs was (inr (r, is, at, told)) = told ∙ sym (ap (option_map job_of) (put r (key.Instance (record { unit = n; number = num })) is at)) ∙ sym (job_told w' readable' n num)
+  jobs_then : (n num : ℕ) → jobs n num ≡ jobs_of w' n num
+  jobs_then n num = elim (jobs_known n num) [
+    | inl still ↦ still.1 ∙ job_told w readable n num ∙ ap (option_map job_of) (stay (key.Instance (record { unit = n; number = num })) still.0) ∙ sym (job_told w' readable' n num)
+    | inr told ↦ told.3 ∙ sym (ap (option_map job_of) (put told.0 (key.Instance (record { unit = n; number = num })) told.1 told.2)) ∙ sym (job_told w' readable' n num)
+  ]
 
   are_then : (n : ℕ) → hosts n ≡ counted_host_at w' n
   are_then n = elim (known n) [
@@ -275,14 +313,17 @@ module _ (w w' : World) (readable : IsReadable w) (readable' : IsReadable w') (S
   remembered_then = record {
     units = holds_of_some nat_cmp _ (λ n u. workunit_at w n ≡ Some u) (λ n u. workunit_at w' n ≡ Some u) old.units new.units left.units before.units
         (λ n u unput is. sym (same_workunit w w' readable readable' n (apps_stay unput.2) (stay (key.Unit n) unput.0) (stay (key.Mark n) unput.1)) ∙ is);
-    instances = λ n xs is.
-        let was = left.instances n xs is in
-        same_by_index xs (instances_at w' n) (λ num. jobs_then n num was.0 xs (before.instances n was.0 was.1) (was.2 num));
+    instances = λ n xs is. same_by_index xs (instances_at w' n) (λ num. of_jobs.each n xs is num ∙ jobs_then n num);
     hosts = λ n h is. sym (are_then n) ∙ of_hosts.each n h is;
     credits = λ account credit is.
         let until : suc (length w'.hosts) + of_hosts.end ≡ of_hosts.end + suc (length w'.hosts) = omega arith in
         of_hosts.credited account credit is (suc (length w'.hosts)) ∙ ap (shares hosts account) (sym until)
         ∙ (λ i. shares (λ n. are_then n i) account (suc (length w'.hosts) + of_hosts.end)) ∙ sym (credit_shared w' account of_hosts.end);
+    sent = λ host s is.
+        let units : suc (length w'.units) + of_jobs.units ≡ of_jobs.units + suc (length w'.units) = omega arith in
+        let numbers : most_numbers w'.units + of_jobs.numbers ≡ of_jobs.numbers + most_numbers w'.units = omega arith in
+        of_jobs.counted host s is (suc (length w'.units)) (most_numbers w'.units) ∙ (λ i. sent_among jobs host s.day (sym units i) (sym numbers i))
+        ∙ (λ i. sent_among (λ n num. jobs_then n num i) host s.day (suc (length w'.units) + of_jobs.units) (most_numbers w'.units + of_jobs.numbers)) ∙ sym (sent_shared w' host s.day of_jobs.units of_jobs.numbers);
     accounts = holds_of_some (slice_cmp nat_cmp) _ (IsAccountOf w) (IsAccountOf w') old.accounts new.accounts left.accounts before.accounts
         (λ name a unput is. subst (λ (accounts : List Account). placed_where (λ (a : Account). bytes_eq a.authenticator name) accounts ≡ Some (record { place = a.place; row = a.row })) (same_accounts w w' readable readable' (λ n. stay (key.Account n) (unput n))) is);
     versions = versions_left old.versions.items new.versions.items left.versions before.versions;

@@ -6,11 +6,13 @@ use Rattle.std.specs.List.{enumerate_from, range_with_len}
 use Rattle.std.specs.Ordering.{nat_cmp}
 use Rattle.std.specs.declared.cmp.Ordering.{Ordering}
 use Rattle.std.proofs.lemmas.Bool.Decides.{nat_tests}
+use Rattle.std.proofs.lemmas.List.FromFn.{length-enumerate_from}
 use Rattle.std.proofs.lemmas.List.Sums.{sum_by-cons}
 use Rattle.sched_book.specs.Places.{nth, held_by, host_credit, user_credit}
 use Rattle.sched_book.specs.declared.rows.HostRow.{HostRow}
 use Rattle.sched_book.specs.declared.world.World.{World}
 use Rattle.sched_book.proofs.PlacesOf.{nth-suc}
+use Rattle.sched_book.proofs.Settling.{slice_get-enumerate_from}
 use Rattle.table_desk.specs.Columns.{counted_host_at}
 use Rattle.table_desk.specs.declared.hosts.CountedHost.{CountedHost}
 use Rattle.sched_tables.specs.Carrying.{with_counted, share, shares, AreCreditsOf}
@@ -31,7 +33,7 @@ module _ (g h : ℕ → ℕ) (at : ℕ) (same : (n : ℕ) → eqb at n ≡ false
       let rest : sum_by g (range_with_len (n + 1) k) ≡ sum_by h (range_with_len (n + 1) k) = same_past k (n + 1) (omega arith) in
       sum_by-cons g n (range_with_len (n + 1) k) ∙ (λ i. here i + rest i) ∙ sym (sum_by-cons h n (range_with_len (n + 1) k))
 
-  sum_moved : (k n : ℕ) → n ≤ at → at < n + k → sum_by g (range_with_len n k) + h at ≡ sum_by h (range_with_len n k) + g at
+  pub sum_moved : (k n : ℕ) → n ≤ at → at < n + k → sum_by g (range_with_len n k) + h at ≡ sum_by h (range_with_len n k) + g at
   sum_moved zero n from until = absurd (omega arith)
   sum_moved (suc k) n from until = cases (eqb at n) refl (sum_moved k (n + 1))
     where
@@ -139,19 +141,16 @@ sum_of_none g (suc k) n none =
     let all = sum_by-cons g n (range_with_len (n + 1) k) in
     omega (arith, here, rest, all)
 
--- a sum over a list with its numbers is one over these numbers and further ones
-sum_of_list : {X : Type 0} (f : ℕ × X → ℕ) (g : ℕ → ℕ) (xs : List X) (n more : ℕ) → ((i : ℕ) → g (n + i) ≡ unwrap_or (option_map (λ x. f (n + i, x)) (slice_get xs i)) 0)
-    → sum_by f (enumerate_from n xs) ≡ sum_by g (range_with_len n (length xs + more))
+-- a sum over a list is one over its numbers and further ones
+pub sum_of_list : {X : Type 0} (f : X → ℕ) (g : ℕ → ℕ) (xs : List X) (n more : ℕ) → ((i : ℕ) → g (n + i) ≡ unwrap_or (option_map f (slice_get xs i)) 0)
+    → sum_by f xs ≡ sum_by g (range_with_len n (length xs + more))
 sum_of_list f g [] n more same = sym (sum_of_none g (0 + more) n same)
 sum_of_list f g (x ∷ xs) n more same =
-    let here : g n ≡ f (n, x) = ap g (let at : n ≡ n + 0 = omega arith in at) ∙ same 0 ∙ ap (λ m. f (m, x)) (let at : n + 0 ≡ n = omega arith in at) in
-    let rest : sum_by f (enumerate_from (n + 1) xs) ≡ sum_by g (range_with_len (n + 1) (length xs + more)) =
-    sum_of_list f g xs (n + 1) more (λ i.
-    let at : n + 1 + i ≡ n + suc i = omega arith in
-    ap g at ∙ same (suc i) ∙ ap (λ m. unwrap_or (option_map (λ y. f (m, y)) (slice_get xs i)) 0) (sym at)) in
-    let left = sum_by-cons f (n, x) (enumerate_from (n + 1) xs) in
+    let here : g n ≡ f x = ap g (let at : n ≡ n + 0 = omega arith in at) ∙ same 0 in
+    let rest : sum_by f xs ≡ sum_by g (range_with_len (n + 1) (length xs + more)) = sum_of_list f g xs (n + 1) more (λ i. ap g (let at : n + 1 + i ≡ n + suc i = omega arith in at) ∙ same (suc i)) in
+    let left = sum_by-cons f x xs in
     let right = sum_by-cons g n (range_with_len (n + 1) (length xs + more)) in
-    let whole : sum_by f (enumerate_from n (x ∷ xs)) ≡ sum_by g (n ∷ range_with_len (n + 1) (length xs + more)) = omega (arith, here, rest, left, right) in
+    let whole : sum_by f (x ∷ xs) ≡ sum_by g (n ∷ range_with_len (n + 1) (length xs + more)) = omega (arith, here, rest, left, right) in
     whole ∙ ap (λ k. sum_by g (range_with_len n k)) (let more_of : suc (length xs + more) ≡ suc (length xs) + more = omega arith in more_of)
 
 -- the credit of an account is what the hosts of the world add to it
@@ -160,7 +159,9 @@ credit_shared w account more =
     let f = λ (e : ℕ × HostRow). cond (eqb e.1.account account) (host_credit w e.0) 0 in
     let g = λ (n : ℕ). share account (counted_host_at w n) in
     let hosts = w.hosts in
-    let listed : sum_by f (enumerate_from 1 hosts) ≡ sum_by g (range_with_len 1 (length hosts + more)) = sum_of_list f g hosts 1 more each in
+    let numbered : sum_by f (enumerate_from 1 hosts) ≡ sum_by g (range_with_len 1 (length (enumerate_from 1 hosts) + more)) =
+    sum_of_list f g (enumerate_from 1 hosts) 1 more (λ i. each i ∙ sym (placed i (slice_get hosts i)) ∙ sym (ap (λ (o : Option (ℕ × HostRow)). unwrap_or (option_map f o) 0) (slice_get-enumerate_from 1 hosts i))) in
+    let listed : sum_by f (enumerate_from 1 hosts) ≡ sum_by g (range_with_len 1 (length hosts + more)) = numbered ∙ ap (λ k. sum_by g (range_with_len 1 (k + more))) (length-enumerate_from 1 hosts) in
     let first = sum_by-cons g 0 (range_with_len 1 (length hosts + more)) in
     let none : g 0 ≡ 0 = refl in
     let whole : user_credit w account ≡ sum_by g (0 ∷ range_with_len 1 (length hosts + more)) = omega (arith, listed, first, none) in
@@ -170,6 +171,10 @@ credit_shared w account more =
         → share account (option_map (λ (h : HostRow). record { row = h; held = length (held_by w n); credit = host_credit w n }) o) ≡ unwrap_or (option_map (λ (h : HostRow). cond (eqb h.account account) (host_credit w n) 0) o) 0
     shared n None = refl
     shared n (Some h) = refl
+
+    placed : (i : ℕ) (o : Option HostRow) → unwrap_or (option_map (λ (e : ℕ × HostRow). cond (eqb e.1.account account) (host_credit w e.0) 0) (option_map (λ h. (1 + i, h)) o)) 0 ≡ unwrap_or (option_map (λ (h : HostRow). cond (eqb h.account account) (host_credit w (1 + i)) 0) o) 0
+    placed i None = refl
+    placed i (Some h) = refl
 
     each : (i : ℕ) → share account (counted_host_at w (1 + i)) ≡ unwrap_or (option_map (λ (h : HostRow). cond (eqb h.account account) (host_credit w (1 + i)) 0) (slice_get w.hosts i)) 0
     each i =

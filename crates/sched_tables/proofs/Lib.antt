@@ -16,5 +16,6 @@ pub mod Upgraded
 pub mod UpgradedTexts
 pub mod TextsKept
 pub mod CreditMoves
+pub mod SentMoves
 mod AppsBrought
 mod Memory

@@ -1,18 +1,21 @@
 -- Words. What is still remembered behind rows that were put.
-use Rattle.std.specs.Prelude.{◌≡◌, ◌≢◌, ◌⊎◌, ℕ, ◌+◌, ◌==◌, if◌then◌else◌, cond, eqb, List, [], ◌∷◌, fold, sum_by, slice_get, Option, Some, None}
+use Rattle.std.specs.Prelude.{◌≡◌, ◌≢◌, ◌⊎◌, ℕ, ◌+◌, ◌/◌, ◌&&◌, ◌==◌, if◌then◌else◌, cond, eqb, List, [], ◌∷◌, fold, sum_by, slice_get, Option, Some, None, option_map}
 use Rattle.std.specs.BTreeMap.{get}
 use Rattle.std.specs.Cmp.Lexicographic.{slice_cmp}
 use Rattle.std.specs.List.{AllByRecursion, range_with_len}
 use Rattle.std.specs.Ordering.{nat_cmp}
+use Rattle.sched_book.specs.Places.{option_any, was_sent}
 use Rattle.sched_book.specs.declared.instance.Instance.{Instance}
+use Rattle.sched_book.specs.declared.instance.Owner.{Owner}
 use Rattle.table_desk.specs.declared.hosts.CountedHost.{CountedHost}
-use Rattle.table_meaning.specs.declared.rows.StoredInstance.{StoredInstance}
 use Rattle.table_meaning.specs.declared.rows.StoredRow.{StoredRow}
 use Rattle.table_meaning.specs.declared.rows.StoredRow.TheVariants as stored
-use Rattle.table_meaning.specs.Rows.{RowKey, account_key, app_key, version_key, class_key, unit_key, mark_key, instance_key, key_of, columns_of}
+use Rattle.table_meaning.specs.Rows.{RowKey, account_key, app_key, version_key, class_key, unit_key, mark_key, key_of, columns_of}
 use Rattle.table_worlds.specs.ReadBack.{number_at, host_in, job_in}
 use Rattle.sched_tables.specs.RowsRead.{HoldOfEach, AreSome}
 use Rattle.sched_tables.specs.declared.remembered.Remembered.{Remembered}
+use Rattle.sched_tables.specs.declared.remembered.Sending.{Sending}
+use Rattle.sched_tables.specs.declared.remembered.SentRead.{SentRead}
 use Rattle.sched_tables.specs.declared.rows_read.RowsRead.{RowsRead}
 
 -- ---- rows that are put
@@ -40,9 +43,9 @@ job_of row = job_in (columns_of row)
 abbrev pub counted_of : StoredRow → CountedHost
 counted_of row = record { row = host_in (columns_of row); held = number_at (columns_of row) 8; credit = number_at (columns_of row) 9 }
 
--- these are the instances with that of a row at its number
-abbrev pub IsRenewed : StoredInstance → List Instance → List Instance → Type 0
-IsRenewed row old new = (num : ℕ) → slice_get new num ≡ cond (eqb row.num num) (Some (job_of (stored.Instance row))) (slice_get old num)
+-- these are the instances with this one at a number
+abbrev pub IsRenewed : ℕ → Instance → List Instance → List Instance → Type 0
+IsRenewed number x old new = (at : ℕ) → slice_get new at ≡ cond (eqb number at) (Some x) (slice_get old at)
 
 -- ---- what is still remembered
 
@@ -50,16 +53,10 @@ IsRenewed row old new = (num : ℕ) → slice_get new num ≡ cond (eqb row.num 
 abbrev pub IsStillKnown : {X : Type 0} → (RowKey → Type 0) → (StoredRow → Type 0) → (StoredRow → X) → RowKey → Option X → Option X → Type 0
 IsStillKnown Stays Puts told key old new = (Stays key × (new ≡ old)) ⊎ ((row : StoredRow) × Puts row × (key_of row ≡ key) × (new ≡ Some (told row)))
 
-abbrev pub AreInstancesCarried : (RowKey → Type 0) → (StoredRow → Type 0) → RowsRead ℕ (List Instance) → RowsRead ℕ (List Instance) → Type 0
-AreInstancesCarried Stays Puts old new =
-    (n : ℕ) (xs : List Instance) → get nat_cmp new.rows n ≡ Some xs
-    → (ys : List Instance) × (get nat_cmp old.rows n ≡ Some ys) × ((num : ℕ) → IsStillKnown Stays Puts job_of (instance_key n num) (slice_get ys num) (slice_get xs num))
-
 -- What is remembered was so before, and rests on rows at keys that stay: a workunit on its row, its mark and the applications, accounts
--- and versions on all that there are. Or, of instances, it follows from the rows that are put.
-pub record AreCarried (Stays : RowKey → Type 0) (Puts : StoredRow → Type 0) (old new : Remembered) : Type 0 where
+-- and versions on all that there are.
+pub record AreCarried (Stays : RowKey → Type 0) (old new : Remembered) : Type 0 where
   pub units : AreSome nat_cmp (λ n. Stays (unit_key n) × Stays (mark_key n) × ((id : ℕ) → Stays (app_key id))) old.units new.units
-  pub instances : AreInstancesCarried Stays Puts old.instances new.instances
   pub accounts : AreSome (slice_cmp nat_cmp) (λ _. (id : ℕ) → Stays (account_key id)) old.accounts new.accounts
   pub versions : (new.versions.items ≡ []) ⊎ ((new.versions.items ≡ old.versions.items) × ((id : ℕ) → Stays (app_key id) × Stays (version_key id) × Stays (class_key id)))
 
@@ -96,3 +93,54 @@ pub record AreOfHosts (hosts : ℕ → Option CountedHost) (known : RowsRead ℕ
   pub each : HoldOfEach nat_cmp (λ number h. hosts number ≡ Some h) known
   pub end : ℕ
   pub credited : AreCreditsOf hosts end credits
+
+-- ---- jobs, and how many of them hosts were sent
+
+-- the jobs, by workunit and number, with this one at a place
+abbrev pub with_one : (ℕ → ℕ → Option Instance) → ℕ → ℕ → Instance → ℕ → ℕ → Option Instance
+with_one jobs unit number x other at = if unit == other then if number == at then Some x else jobs other at else jobs other at
+
+-- the jobs with the one of a row
+abbrev pub with_job : (ℕ → ℕ → Option Instance) → StoredRow → ℕ → ℕ → Option Instance
+with_job jobs (stored.Instance row) = with_one jobs row.unit_id row.num (job_of (stored.Instance row))
+with_job jobs other = jobs
+
+-- and with those of each of these rows, in turn
+abbrev pub with_jobs : (ℕ → ℕ → Option Instance) → List StoredRow → ℕ → ℕ → Option Instance
+with_jobs = fold with_job
+
+-- to which host a job was given, and on which day
+abbrev pub sending_of : Instance → Option Sending
+sending_of x = option_map (λ (o : Owner). record { host = o.host; day = o.sent / 86400 }) x.owner
+
+-- 1 if it was given to this host on this day, and else 0
+abbrev pub given_to : ℕ → ℕ → Sending → ℕ
+given_to host day s = if (s.host == host) && (s.day == day) then 1 else 0
+
+-- 1 for a job that was sent to a host on a day, and else 0
+abbrev pub weight : ℕ → ℕ → Option Instance → ℕ
+weight host day job = if option_any (was_sent host day) job then 1 else 0
+
+-- how many of a workunit's first so many jobs a host was sent on a day
+abbrev pub sent_of_unit : (ℕ → ℕ → Option Instance) → ℕ → ℕ → ℕ → ℕ → ℕ
+sent_of_unit jobs host day numbers unit = sum_by (λ number. weight host day (jobs unit number)) (range_with_len 0 numbers)
+
+-- how many of the jobs of the first so many workunits it was sent
+abbrev pub sent_among : (ℕ → ℕ → Option Instance) → ℕ → ℕ → ℕ → ℕ → ℕ
+sent_among jobs host day units numbers = sum_by (sent_of_unit jobs host day numbers) (range_with_len 0 units)
+
+-- What is known of how many jobs hosts were sent is that of these jobs. No workunit from the place `units` on, and no number
+-- from `numbers` on, has one that was sent.
+abbrev pub AreSentOf : (ℕ → ℕ → Option Instance) → ℕ → ℕ → RowsRead ℕ SentRead → Type 0
+AreSentOf jobs units numbers sent = HoldOfEach nat_cmp (λ host s. (more further : ℕ) → s.count ≡ sent_among jobs host s.day (units + more) (numbers + further)) sent
+
+-- what is known was known before, with one job more for a host and its day
+abbrev pub HaveOneMore : Sending → RowsRead ℕ SentRead → RowsRead ℕ SentRead → Type 0
+HaveOneMore one old new = (host : ℕ) (s : SentRead) → get nat_cmp new.rows host ≡ Some s → (t : SentRead) × (get nat_cmp old.rows host ≡ Some t) × (s.day ≡ t.day) × (s.count ≡ t.count + given_to host t.day one)
+
+-- What is known of the instances of workunits, and of how many jobs hosts were sent, is that of these jobs.
+pub record AreOfJobs (jobs : ℕ → ℕ → Option Instance) (known : RowsRead ℕ (List Instance)) (sent : RowsRead ℕ SentRead) : Type 0 where
+  pub each : HoldOfEach nat_cmp (λ unit xs. (number : ℕ) → slice_get xs number ≡ jobs unit number) known
+  pub units : ℕ
+  pub numbers : ℕ
+  pub counted : AreSentOf jobs units numbers sent

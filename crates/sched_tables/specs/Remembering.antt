@@ -4,7 +4,7 @@ use Rattle.std.specs.Cmp.Lexicographic.{slice_cmp}
 use Rattle.std.specs.Ordering.{nat_cmp}
 use Rattle.sched_book.specs.Desk.{account_by_key, workunit_at, instances_at}
 use Rattle.sched_book.specs.Fits.{version_at}
-use Rattle.sched_book.specs.Places.{user_credit}
+use Rattle.sched_book.specs.Places.{sent_on_day, user_credit}
 use Rattle.sched_book.specs.declared.rows.HostRow.{HostRow}
 use Rattle.sched_book.specs.declared.rows.Workunit.{Workunit}
 use Rattle.sched_book.specs.declared.world.World.{World}
@@ -47,6 +47,7 @@ pub record AreRemembered (w : World) (calls : SlotCalls) (r : Remembered) : Type
   pub instances : HoldOfEach nat_cmp (λ n xs. xs ≡ instances_at w n) r.instances
   pub hosts : HoldOfEach nat_cmp (λ n h. counted_host_at w n ≡ Some h) r.hosts
   pub credits : HoldOfEach nat_cmp (λ account credit. credit ≡ user_credit w account) r.credits
+  pub sent : HoldOfEach nat_cmp (λ host s. s.count ≡ sent_on_day w host s.day) r.sent
   pub accounts : HoldOfEach (slice_cmp nat_cmp) (IsAccountOf w) r.accounts
   pub versions : All (IsVersionOf w) r.versions.items
   pub slot : IfSome r.slot (IsSlotOf calls)

@@ -146,7 +146,10 @@ impl<S: Alter> Desk for Tables<S> {
     }
 
     fn sent_on_day(&mut self, host: u32, day: u64) -> Result<u32, Unavailable> {
-        table_desk::sent_on_day(self.alloc, &mut self.conn, host, day)
+        match self.remembered.sent(host, day) {
+            Some(count) => Ok(count),
+            None => self.read_sent(host, day),
+        }
     }
 
     fn units_of_user(&mut self, alloc: Global, account: u32) -> Result<Listed<u32>, Unavailable> {

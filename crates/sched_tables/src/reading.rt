@@ -4,7 +4,7 @@ ghost use Rattle.std.specs.Prelude.{◌≡◌, ◌≤◌, length, IfOk};
 ghost use Rattle.sched_book.specs.Desk.{account_by_key, workunit_at, instances_at};
 ghost use Rattle.sched_book.specs.Fits.{version_at};
 ghost use Rattle.sched_book.specs.Limits.{most_instances};
-ghost use Rattle.sched_book.specs.Places.{user_credit};
+ghost use Rattle.sched_book.specs.Places.{sent_on_day, user_credit};
 ghost use Rattle.table_desk.specs.Columns.{counted_host_at};
 ghost use Rattle.sched_tables.specs.Held.{IsHonest};
 ghost use Rattle.sched_tables.specs.Views.{state_of, world_of, AreKept, AreReadOn};
@@ -79,6 +79,16 @@ impl<S: Alter> Tables<S> {
         let credit = table_desk::credit_of_user(self.alloc, &mut self.conn, account)?;
         self.remembered.remember_credit(account, credit);
         Ok(credit)
+    }
+
+    /// How many jobs this host was sent on a day, by a statement.
+    pub(crate) fn read_sent(&mut self, host: u32, day: u64) -> Result<u32, Unavailable>
+        ensures reads { AreReadOn S.Store self.old self.new }
+        ensures answer { IsHonest (state_of S.Store self.new) → AreKept S.Store self.old → IfOk result (λ r. r ≡ sent_on_day (world_of S.Store self.old) host day) }
+    {
+        let count = table_desk::sent_on_day(self.alloc, &mut self.conn, host, day)?;
+        self.remembered.remember_sent(host, day, count);
+        Ok(count)
     }
 
     /// The account with this authenticator, by a statement.

@@ -1,9 +1,10 @@
 //! What was read, and is as it was read or as it was put since, so that no row is asked for twice.
 
-ghost use Rattle.std.specs.Prelude.{◌≡◌, ◌+◌, ℕ, suc, All, None, Option, Some, IfOk, IfSome};
+ghost use Rattle.std.specs.Prelude.{◌≡◌, ◌+◌, ℕ, suc, All, None, Option, Some, IfOk, IfSome, option_and_then, slice_get};
 ghost use Rattle.sched_book.specs.Desk.{account_by_key, workunit_at, instances_at};
 ghost use Rattle.sched_book.specs.Fits.{version_at};
-ghost use Rattle.sched_book.specs.Places.{user_credit};
+ghost use Rattle.sched_book.specs.Places.{sent_on_day, user_credit};
+ghost use Rattle.sched_book.specs.declared.instance.Instance.{Instance as Job};
 ghost use Rattle.sched_book.specs.declared.rows.HostRow.{HostRow as BookHost};
 ghost use Rattle.sched_book.specs.declared.world.World.{World};
 ghost use Rattle.table_desk.specs.Columns.{counted_host_at};
@@ -11,7 +12,7 @@ ghost use Rattle.table_desk.specs.declared.hosts.CountedHost.{CountedHost as Cou
 ghost use Rattle.table_desk.specs.FirstPage.{IsFirstPageOf};
 ghost use Rattle.table_meaning.specs.Worlds.{SlotCalls};
 ghost use Rattle.table_meaning.specs.declared.rows.StoredRow.TheVariants as stored;
-ghost use Rattle.sched_tables.specs.Carrying.{counted_of, with_counted, with_host, with_hosts, AreCarried, AreCreditsOf, AreInstancesCarried, AreOfHosts, IsOtherKey, IsPut, IsRenewed, IsUnput};
+ghost use Rattle.sched_tables.specs.Carrying.{counted_of, given_to, sending_of, with_counted, with_host, with_hosts, with_job, with_jobs, with_one, AreCarried, AreCreditsOf, AreOfHosts, AreOfJobs, AreSentOf, HaveOneMore, IsOtherKey, IsRenewed, IsUnput};
 ghost use Rattle.sched_tables.specs.Remembering.{AreRemembered, IsUnitOf, IsVersionOf};
 ghost use Rattle.sched_tables.specs.Slots.{IsSlotFor};
 
@@ -61,6 +62,20 @@ pub(crate) struct SlotRead {
     slot: u32,
 }
 
+/// How many jobs a host was sent on one day. Day 0 is the first of 1970.
+#[derive(Clone, Copy, Drop)]
+pub(crate) struct SentRead {
+    day: u64,
+    count: u32,
+}
+
+/// To which host an instance was given, and on which day.
+#[derive(Clone, Copy, Drop)]
+pub(crate) struct Sending {
+    host: u32,
+    day: u64,
+}
+
 /// A copy of the account that was found.
 fn account_read(found: &Placed<Account>) -> Result<AccountRead, Memory>
     ensures { IfOk result (λ a. found.now ≡ record { place = a.place; row = a.row }) }
@@ -97,15 +112,15 @@ fn push_version(versions: &mut Vec<VersionRead>, read: VersionRead)
     let _ = versions.push(read);
 }
 
-/// The instances of a workunit with the one of a row at its number, where it is one of them.
-fn with_instance(known: Listed<Instance>, row: &StoredInstance) -> Option<Listed<Instance>>
-    ensures { IfSome result (IsRenewed row.now known) }
+/// The instances of a workunit with this one at a number, where it is one of them.
+fn with_instance(
+    known: Listed<Instance>,
+    number: usize,
+    renewed: Instance,
+) -> Option<Listed<Instance>>
+    ensures { IfSome result (IsRenewed number renewed known) }
 {
-    let Ok(renewed) = instance(row) else {
-        return None;
-    };
     let mut instances = known;
-    let number = row.num as usize;
     if instances.len() <= number {
         return None;
     }
@@ -113,15 +128,96 @@ fn with_instance(known: Listed<Instance>, row: &StoredInstance) -> Option<Listed
     Some(instances)
 }
 
-/// Renews what is known of the instances of a workunit by the row of one that was put, or forgets it.
-fn renew_instance(known: &mut RowsRead<u32, Listed<Instance>>, row: &StoredInstance)
-    ensures { AreInstancesCarried (IsOtherKey (stored.Instance row.now)) (λ s. s ≡ stored.Instance row.now) known.old known.new }
+/// To which host an instance was given, and on which day.
+fn sending_in(instance: &Instance) -> Option<Sending>
+    ensures { result ≡ sending_of instance.now }
 {
-    let Some(instances) = known.take(&row.unit_id) else {
+    match &instance.owner {
+        None => None,
+        Some(owner) => Some(Sending {
+            host: owner.host,
+            day: owner.sent.day(),
+        }),
+    }
+}
+
+/// To which host the instance of this number was given, and on which day.
+fn sending_at(instances: &[Instance], number: usize) -> Option<Sending>
+    ensures { result ≡ option_and_then sending_of (slice_get instances.now number) }
+{
+    match instances.get(number) {
+        None => None,
+        Some(instance) => sending_in(instance),
+    }
+}
+
+/// What is known of a host after one more job was sent to it. `None` if the count is out of its range.
+fn with_sending(read: SentRead, sending: Sending) -> Option<SentRead>
+    ensures { IfSome result (λ r. (r.day ≡ read.day) × (r.count ≡ read.count + given_to sending.host read.day sending)) }
+{
+    if sending.day != read.day {
+        return Some(read);
+    }
+    Some(SentRead {
+        day: read.day,
+        count: read.count.checked_add(1)?,
+    })
+}
+
+/// Counts one more job for the host that it was sent to.
+fn add_sending(sent: &mut RowsRead<u32, SentRead>, sending: Sending)
+    ensures { HaveOneMore sending sent.old sent.new }
+{
+    let Some(read) = sent.take(&sending.host) else {
         return;
     };
-    if let Some(renewed) = with_instance(instances, row) {
-        known.put(row.unit_id, renewed);
+    if let Some(more) = with_sending(read, sending) {
+        sent.put(sending.host, more);
+    }
+}
+
+/// Moves what is known of how many jobs hosts were sent, if one instance was given as in `old` and is given as in `new`. If it
+/// had another owner or another day, everything that is known of these counts is forgotten.
+fn move_sent(sent: &mut RowsRead<u32, SentRead>, old: Option<Sending>, new: Option<Sending>)
+    ensures { (jobs : ℕ → ℕ → Option Job) (unit number units numbers : ℕ) (x : Job) → option_and_then sending_of (jobs unit number) ≡ old → sending_of x ≡ new
+        → AreSentOf jobs units numbers sent.old → AreSentOf (with_one jobs unit number x) (units + suc unit) (numbers + suc number) sent.new }
+{
+    match old {
+        None => {
+            if let Some(sending) = new {
+                add_sending(sent, sending);
+            }
+        }
+        Some(before) => match new {
+            Some(after) if before.host == after.host && before.day == after.day => {}
+            _ => sent.forget_all(),
+        },
+    }
+}
+
+/// Renews what is known of the instances of a workunit, and of how many jobs hosts were sent, by the row of an instance that
+/// was put. If the instances were not known, everything that is known of these counts is forgotten.
+fn renew_instance(
+    known: &mut RowsRead<u32, Listed<Instance>>,
+    sent: &mut RowsRead<u32, SentRead>,
+    row: &StoredInstance,
+)
+    ensures { (f : ℕ → ℕ → Option Job) → AreOfJobs f known.old sent.old → AreOfJobs (with_job f (stored.Instance row.now)) known.new sent.new }
+{
+    let Some(instances) = known.take(&row.unit_id) else {
+        sent.forget_all();
+        return;
+    };
+    let Ok(renewed) = instance(row) else {
+        sent.forget_all();
+        return;
+    };
+    let number = row.num as usize;
+    let old = sending_at(instances.as_slice(), number);
+    let new = sending_in(&renewed);
+    move_sent(sent, old, new);
+    if let Some(instances) = with_instance(instances, number, renewed) {
+        known.put(row.unit_id, instances);
     }
 }
 
@@ -190,13 +286,15 @@ fn renew_host(
     hosts.put(row.id, new);
 }
 
-/// What was read, and is as it was read or as it was put since: rows by their keys, credits by accounts, versions, the slot
-/// for the next call of the host whose calls were read last, and the first places of what waits that were read last.
+/// What was read, and is as it was read or as it was put since: rows by their keys, credits by accounts, how many jobs hosts
+/// were sent on a day, versions, the slot for the next call of the host whose calls were read last, and the first places of
+/// what waits that were read last.
 pub(crate) struct Remembered {
     units: RowsRead<u32, Workunit>,
     instances: RowsRead<u32, Listed<Instance>>,
     hosts: RowsRead<u32, CountedHost>,
     credits: RowsRead<u32, u64>,
+    sent: RowsRead<u32, SentRead>,
     accounts: RowsRead<Text, AccountRead>,
     versions: Vec<VersionRead>,
     slot: Option<SlotRead>,
@@ -211,6 +309,7 @@ impl Drop for Remembered {
             instances: _instances,
             hosts: _hosts,
             credits: _credits,
+            sent: _sent,
             accounts: _accounts,
             versions: _versions,
             slot: _slot,
@@ -229,6 +328,7 @@ impl Remembered {
             instances: RowsRead::new(alloc),
             hosts: RowsRead::new(alloc),
             credits: RowsRead::new(alloc),
+            sent: RowsRead::new(alloc),
             accounts: RowsRead::new(alloc),
             versions: Vec::new(alloc),
             slot: None,
@@ -296,6 +396,23 @@ impl Remembered {
         ensures { (w : World) (calls : SlotCalls) → AreRemembered w calls self.old → credit ≡ user_credit w account → AreRemembered w calls self.new }
     {
         self.credits.put(account, credit);
+    }
+
+    /// How many jobs this host was sent on a day.
+    pub(crate) fn sent(&self, host: u32, day: u64) -> Option<u32>
+        ensures { (w : World) (calls : SlotCalls) → AreRemembered w calls self.now → IfSome result (λ count. count ≡ sent_on_day w host day) }
+    {
+        match self.sent.value(&host) {
+            Some(read) if read.day == day => Some(read.count),
+            _ => None,
+        }
+    }
+
+    /// Remembers how many jobs a host was sent on a day.
+    pub(crate) fn remember_sent(&mut self, host: u32, day: u64, count: u32)
+        ensures { (w : World) (calls : SlotCalls) → AreRemembered w calls self.old → count ≡ sent_on_day w host day → AreRemembered w calls self.new }
+    {
+        self.sent.put(host, SentRead { day, count });
     }
 
     /// The account with this authenticator.
@@ -393,13 +510,14 @@ impl Remembered {
 
     /// Takes note of a row that was put.
     fn note_row(&mut self, alloc: Global, row: &StoredRow)
-        ensures carried { AreCarried (IsOtherKey row.now) (λ s. s ≡ row.now) self.old self.new }
+        ensures carried { AreCarried (IsOtherKey row.now) self.old self.new }
         ensures hosts { (f : ℕ → Option Counted) → AreOfHosts f self.old.hosts self.old.credits → AreOfHosts (with_host f row.now) self.new.hosts self.new.credits }
+        ensures jobs { (f : ℕ → ℕ → Option Job) → AreOfJobs f self.old.instances self.old.sent → AreOfJobs (with_job f row.now) self.new.instances self.new.sent }
     {
         match row {
             StoredRow::Unit(row) => self.units.forget(&row.id),
             StoredRow::UnitMark(row) => self.units.forget(&row.unit_id),
-            StoredRow::Instance(row) => renew_instance(&mut self.instances, row),
+            StoredRow::Instance(row) => { renew_instance(&mut self.instances, &mut self.sent, row) }
             StoredRow::Host(row) => renew_host(alloc, &mut self.hosts, &mut self.credits, row),
             StoredRow::Account(_) => self.accounts.forget_all(),
             StoredRow::Version(_) | StoredRow::VersionClass(_) => self.versions.clear(),
@@ -411,11 +529,13 @@ impl Remembered {
         }
     }
 
-    /// Takes note of rows that were put. What they say of hosts, of the credit of their users, and of instances is renewed.
-    /// Everything else that was read of them is forgotten, with the slot for a call and the places that wait.
+    /// Takes note of rows that were put. What they say of hosts, of the credit of their users, of instances, and of how many
+    /// jobs hosts were sent is renewed. Everything else that was read of them is forgotten, with the slot for a call and the
+    /// places that wait.
     pub(crate) fn note_put(&mut self, alloc: Global, changes: &[RowChange])
-        ensures carried { AreCarried (IsUnput changes.now) (IsPut changes.now) self.old self.new }
+        ensures carried { AreCarried (IsUnput changes.now) self.old self.new }
         ensures hosts { (f : ℕ → Option Counted) → AreOfHosts f self.old.hosts self.old.credits → AreOfHosts (with_hosts f changes.now) self.new.hosts self.new.credits }
+        ensures jobs { (f : ℕ → ℕ → Option Job) → AreOfJobs f self.old.instances self.old.sent → AreOfJobs (with_jobs f changes.now) self.new.instances self.new.sent }
         ensures slot { self.new.slot ≡ None }
         ensures page { self.new.page ≡ None }
     {
@@ -434,6 +554,7 @@ impl Remembered {
         self.instances.forget_all();
         self.hosts.forget_all();
         self.credits.forget_all();
+        self.sent.forget_all();
         self.accounts.forget_all();
         self.versions.clear();
         self.slot = None;

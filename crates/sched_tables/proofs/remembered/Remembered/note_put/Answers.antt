@@ -1,7 +1,7 @@
 use Rattle.std.proofs.Common.{take, ap, sym, subst, ◌∙◌, ◌++◌, ◌∷◌, [], rules}
 use Rattle.std.proofs.lemmas.List.{take_all, take_more}
 use Rattle.std.proofs.lemmas.List.Sums.{fold-append}
-use Rattle.sched_tables.specs.Carrying.{with_host, with_hosts, AreCarried, AreOfHosts, IsPut, IsUnput}
+use Rattle.sched_tables.specs.Carrying.{with_host, with_hosts, with_job, with_jobs, AreCarried, AreOfHosts, AreOfJobs, IsUnput}
 use Rattle.sched_tables.proofs.Carried.{carried_more}
 use Rattle.sched_tables.proofs.remembered.Remembered.note_put.Goals as goal
 
@@ -11,18 +11,25 @@ loop-change-preserved c =
     let so_far = take c.loop-change.change-index rows in
     let row = c.row.result.now in
     let next = take_more rows c.loop-change.change-index c.change-item.result (search rules) ∙ ap (λ x. so_far ++ x ∷ []) (sym c.change-item.is ∙ sym c.row.ensures) in (
-      subst (λ rs. AreCarried (IsUnput rs) (IsPut rs) c.args.self.now c.note_row.new.self) (sym next)
+      subst (λ rs. AreCarried (IsUnput rs) c.args.self.now c.note_row.new.self) (sym next)
           (carried_more so_far row c.args.self.now c.loop-change.self c.note_row.new.self c.loop-change.invariant.0 c.note_row.ensures.carried),
       λ f before.
           subst (λ hosts. AreOfHosts hosts c.note_row.new.self.hosts c.note_row.new.self.credits) (sym (ap (with_hosts f) next ∙ fold-append with_host f so_far (row ∷ [])))
           (c.note_row.ensures.hosts (with_hosts f so_far) (c.loop-change.invariant.1 f before)),
+      λ f before.
+          subst (λ jobs. AreOfJobs jobs c.note_row.new.self.instances c.note_row.new.self.sent) (sym (ap (with_jobs f) next ∙ fold-append with_job f so_far (row ∷ [])))
+          (c.note_row.ensures.jobs (with_jobs f so_far) (c.loop-change.invariant.2 f before)),
     )
 
 pub returns-clause-carried : goal.returns-clause-carried
 returns-clause-carried c =
-    let all = subst (λ rs. AreCarried (IsUnput rs) (IsPut rs) c.args.self.now c.loop-change.self) (take_all c.loop-change.change-index c.args.changes.now c.loop-change-test.false) c.loop-change.invariant.0 in
-    record { units = all.units; instances = all.instances; accounts = all.accounts; versions = all.versions }
+    let all = subst (λ rs. AreCarried (IsUnput rs) c.args.self.now c.loop-change.self) (take_all c.loop-change.change-index c.args.changes.now c.loop-change-test.false) c.loop-change.invariant.0 in
+    record { units = all.units; accounts = all.accounts; versions = all.versions }
 
 pub returns-clause-hosts : goal.returns-clause-hosts
 returns-clause-hosts c = λ f before.
     subst (λ rs. AreOfHosts (with_hosts f rs) c.loop-change.self.hosts c.loop-change.self.credits) (take_all c.loop-change.change-index c.args.changes.now c.loop-change-test.false) (c.loop-change.invariant.1 f before)
+
+pub returns-clause-jobs : goal.returns-clause-jobs
+returns-clause-jobs c = λ f before.
+    subst (λ rs. AreOfJobs (with_jobs f rs) c.loop-change.self.instances c.loop-change.self.sent) (take_all c.loop-change.change-index c.args.changes.now c.loop-change-test.false) (c.loop-change.invariant.2 f before)

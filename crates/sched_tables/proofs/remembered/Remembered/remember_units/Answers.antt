@@ -14,6 +14,7 @@ loop-unit-preserved c = λ w calls before all.
       instances = so_far.instances;
       hosts = so_far.hosts;
       credits = so_far.credits;
+      sent = so_far.sent;
       accounts = so_far.accounts;
       versions = so_far.versions;
       slot = so_far.slot;
