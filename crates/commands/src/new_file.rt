@@ -17,12 +17,12 @@ const MODE: u32 = 0o644;
 /// pages of 2,048 bytes, a write-ahead log (2, 2), SQLite's fractions (64, 32, 32), one change, one page.
 const HEADER: [u8; 32] = *b"SQLite format 3\0\x08\0\x02\x02\0\x40\x20\x20\0\0\0\x01\0\0\0\x01";
 
-/// Where the number of changes stands again, and the version of SQLite that is named with it (3.40.1).
+/// Where the number of changes is repeated, with the version of SQLite that goes with it (3.40.1).
 const CHANGES_AT: usize = 92;
 
 const CHANGES: [u8; 8] = [0, 0, 0, 1, 0, 46, 99, 1];
 
-/// Where the tree of the page begins: a leaf of a table (13) with no cell, whose cells would begin at the page's end.
+/// Where the tree of the page begins: a leaf of a table (13) with no cell. Cells would begin at the end of the page.
 const TREE_AT: usize = 100;
 
 const TREE: [u8; 8] = [13, 0, 0, 0, 0, 8, 0, 0];

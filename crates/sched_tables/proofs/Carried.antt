@@ -1,4 +1,4 @@
--- What is still remembered behind rows that were put is what the world after has.
+-- What is still remembered after rows were put is what the world then has.
 use Rattle.std.proofs.Common.{◌≡◌, ℕ, suc, ◌+◌, Bool, true, false, true≢false, cond, eqb, arith, option_map, length, ◌||◌, List, [], ◌∷◌, ◌++◌, Option, Some, None, refl, sym, subst, ◌∙◌, inl, inr, ap}
 use Rattle.std.specs.Prelude.{◌⊎◌, All, IfSome, get_or, option_and_then, slice_get}
 use Rattle.std.specs.Cmp.Lexicographic.{slice_cmp}

@@ -124,7 +124,7 @@ added before mid after one read more found without day count kept = λ host s is
 
 -- ---- what is known of jobs
 
--- what stands at an index after one element was written
+-- what is at an index after one element was written
 got_of_set : {X : Type 0} (xs : List X) (i j : ℕ) (x : X) → i < length xs → slice_get (slice_set xs i x) j ≡ cond (eqb i j) (Some x) (slice_get xs j)
 got_of_set [] i j x within = absurd (omega arith)
 got_of_set (y ∷ ys) zero zero x within = refl

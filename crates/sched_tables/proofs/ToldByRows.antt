@@ -1,4 +1,4 @@
--- What a world has at a place is told by its rows there, so worlds with the same rows there have the same.
+-- What a world has at a place follows from its rows there. So worlds with the same rows there have the same.
 use Rattle.std.proofs.Common.{◌≡◌, ℕ, true, List, [], length, Option, Some, None, option_map, refl, sym, ap, ◌∙◌}
 use Rattle.std.specs.Prelude.{◌≤◌, All, option_and_then, slice_get, unwrap_or}
 use Rattle.sched_book.proofs.ByPlace.{same_by_place}
@@ -41,9 +41,9 @@ version_of apps row class = option_and_then (λ r. option_map (λ c. version_in 
 abbrev workunit_of : List App → Option StoredRow → Option StoredRow → Option Workunit
 workunit_of apps row mark = option_and_then (λ r. option_map (λ m. unit_in apps (columns_of r) (columns_of m)) mark) row
 
--- ---- lists by what stands at each place
+-- ---- lists by what is at each place
 
--- ---- a world is told by its rows
+-- ---- a world follows from its rows
 
 module _ (w : World) (readable : IsReadable w) where
   account_told : (n : ℕ) → nth w.accounts n ≡ option_map account_of (row_in w (account_at n))

@@ -1,4 +1,4 @@
--- Words. What is still remembered behind rows that were put.
+-- Words. What is still remembered after rows were put.
 use Rattle.std.specs.Prelude.{◌≡◌, ◌≢◌, ◌⊎◌, ℕ, ◌+◌, ◌/◌, ◌&&◌, ◌==◌, if◌then◌else◌, cond, eqb, List, [], ◌∷◌, fold, sum_by, slice_get, Option, Some, None, option_map}
 use Rattle.std.specs.BTreeMap.{get}
 use Rattle.std.specs.Cmp.Lexicographic.{slice_cmp}
@@ -49,7 +49,7 @@ IsRenewed number x old new = (at : ℕ) → slice_get new at ≡ cond (eqb numbe
 
 -- ---- what is still remembered
 
--- What is known of a key is what was known, where the key stays; or a row is put there, and tells it.
+-- Either the key stays, and what is known of it is what was known; or a row is put there, and it follows from that row.
 abbrev pub IsStillKnown : {X : Type 0} → (RowKey → Type 0) → (StoredRow → Type 0) → (StoredRow → X) → RowKey → Option X → Option X → Type 0
 IsStillKnown Stays Puts told key old new = (Stays key × (new ≡ old)) ⊎ ((row : StoredRow) × Puts row × (key_of row ≡ key) × (new ≡ Some (told row)))
 

@@ -1,5 +1,5 @@
-//! The tables answer as the desk of the world that they hold, each look-up by a statement over a key or an index, where
-//! its answer was not read since the last commit.
+//! The tables answer as the desk of the world that they hold. A look-up runs a statement over a key or an index, if its answer
+//! is not remembered.
 
 use crate::tables::Tables;
 use sched_book::count::agreement_by;

@@ -28,8 +28,8 @@ use table_worlds::setting_rows;
 use texts::Listed;
 
 impl<S: Alter + Drop> Tables<S> {
-    /// Makes the tables in a database that has none, with these settings and in one transaction: the world in which nothing
-    /// stands, of which nothing was heard. Where that is sound, they can be opened again.
+    /// Makes the tables in a database that has none, with these settings and in one transaction. They hold the empty world,
+    /// and nothing was heard. If that world is sound, they can be opened again.
     pub fn create(
         alloc: Global,
         mut conn: Connection<S>,
@@ -57,13 +57,13 @@ impl<S: Alter + Drop> Tables<S> {
         })
     }
 
-    /// Opens the tables of a database that were made before, or gives the connection back with what its file is refused for.
+    /// Opens the tables of a database that were made before, or gives the connection back with the reason.
     ///
-    /// `OldSchema` where the tables are those of an older schema, whose number it tells; `NotTables` where they are those of
-    /// no schema, or do not say of which; `BadRow` where the rows are not those of a sound world with what may be kept beside
-    /// it, as [`table_reading::stored_world`] says. A connection that is given back is opened anew:
-    /// it is at rest, and its file is as it was. Where memory or the disk failed, it is dropped. A stop that finds the tables
-    /// opened leaves what they hold, and that can be opened again.
+    /// `OldSchema` names the number of an older schema. `NotTables` means that the tables are of no schema, or do not say of
+    /// which. `BadRow` means that the rows are not those of a sound world with what may be kept with it, as
+    /// [`table_reading::stored_world`] says. A connection that is given back is opened anew: it has no open transaction, and
+    /// its file is as it was. If memory or the disk failed, the connection is dropped. A stop after the opening leaves what the
+    /// tables hold, and that can be opened again.
     pub fn adopt(alloc: Global, conn: Connection<S>) -> Result<Tables<S>, Refused<S>>
         ensures open { IfOk result (λ t. HasCleanDisk (state_of S.Store t) → IsHonest (state_of S.Store t)) }
         ensures sound { IfOk result (λ t. HasCleanDisk (state_of S.Store t) → Sound (world_of S.Store t)) }
@@ -96,10 +96,10 @@ impl<S: Alter + Drop> Tables<S> {
 
     /// Opens the tables of a database that were made before.
     ///
-    /// `OldSchema` where the tables are those of an older schema, whose number it tells; `NotTables` where the schema is
-    /// none of the stored tables', or no setting tells it; `BadRow` where the rows are not those of a sound world with what
-    /// may be kept beside it, as [`table_reading::stored_world`] says. A connection that is refused is dropped, with its
-    /// file as it was; [`Tables::adopt`] gives it back. A stop that finds the tables opened leaves what they hold.
+    /// `OldSchema` names the number of an older schema. `NotTables` means that the tables are of no schema, or do not say of
+    /// which. `BadRow` means that the rows are not those of a sound world with what may be kept with it, as
+    /// [`table_reading::stored_world`] says. A refused connection is dropped, and its file is as it was.
+    /// [`Tables::adopt`] gives it back. A stop after the opening leaves what the tables hold.
     pub fn open(alloc: Global, conn: Connection<S>) -> Result<Tables<S>, OpenFault>
         ensures open { IfOk result (λ t. HasCleanDisk (state_of S.Store t) → IsHonest (state_of S.Store t)) }
         ensures sound { IfOk result (λ t. HasCleanDisk (state_of S.Store t) → Sound (world_of S.Store t)) }

@@ -1,4 +1,4 @@
-//! What was read, and is as it was read or as it was put since, so that no row is asked for twice.
+//! What was read, and is as it was read or as it was put since. So no row is asked for twice.
 
 ghost use Rattle.std.specs.Prelude.{◌≡◌, ◌+◌, ℕ, suc, All, None, Option, Some, IfOk, IfSome, option_and_then, slice_get};
 ghost use Rattle.sched_book.specs.Desk.{account_by_key, workunit_at, instances_at};
@@ -102,7 +102,7 @@ fn version_read(
     })
 }
 
-/// Puts a version behind the others, or alone where they are too many.
+/// Adds a version at the end. If there are too many, the others are forgotten first.
 fn push_version(versions: &mut Vec<VersionRead>, read: VersionRead)
     ensures { (w : World) → All (IsVersionOf w) versions.old.items → IsVersionOf w read → All (IsVersionOf w) versions.new.items }
 {
@@ -112,7 +112,7 @@ fn push_version(versions: &mut Vec<VersionRead>, read: VersionRead)
     let _ = versions.push(read);
 }
 
-/// The instances of a workunit with this one at a number, where it is one of them.
+/// The instances of a workunit with this one at a number. `None` if there is no instance of that number.
 fn with_instance(
     known: Listed<Instance>,
     number: usize,
@@ -221,7 +221,7 @@ fn renew_instance(
     }
 }
 
-/// The host of a row, with what the row counts of it, where its values are in their ranges.
+/// The host of a row, with what the row counts of it. `None` if a value is out of its range.
 fn counted(alloc: Global, row: &StoredHost) -> Option<CountedHost>
     ensures { IfSome result (λ h. h ≡ counted_of (stored.Host row.now)) }
 {
@@ -336,7 +336,7 @@ impl Remembered {
         }
     }
 
-    /// Remembers what stands at the place of a workunit.
+    /// Remembers the workunit at a place, if there is one.
     pub(crate) fn remember_unit(&mut self, unit: u32, found: &Option<Workunit>)
         ensures { (w : World) (calls : SlotCalls) → AreRemembered w calls self.old → found.now ≡ workunit_at w unit → AreRemembered w calls self.new }
     {
@@ -430,7 +430,7 @@ impl Remembered {
         }
     }
 
-    /// Remembers the account with an authenticator, where there is memory for it.
+    /// Remembers the account with an authenticator, if there is memory for it.
     pub(crate) fn remember_account(
         &mut self,
         alloc: Global,
@@ -460,7 +460,7 @@ impl Remembered {
         Ok(None)
     }
 
-    /// Remembers the version that a host with these platforms runs of an application, where there is memory for it.
+    /// Remembers the version that a host with these platforms runs of an application, if there is memory for it.
     pub(crate) fn remember_version(
         &mut self,
         alloc: Global,
@@ -477,7 +477,7 @@ impl Remembered {
         push_version(&mut self.versions, read);
     }
 
-    /// The slot for the next call of this host, where its calls were read last.
+    /// The slot for the next call of this host, if its calls were the last ones that were read.
     pub(crate) fn slot(&self, host: u32) -> Option<u32>
         ensures { (w : World) (calls : SlotCalls) → AreRemembered w calls self.now → IfSome result (IsSlotFor (calls host)) }
     {
@@ -501,7 +501,7 @@ impl Remembered {
         self.page.take()
     }
 
-    /// Remembers the first places of what waits that were read last, where some were.
+    /// Remembers the first places of what waits, if some were read.
     pub(crate) fn remember_page(&mut self, page: Option<PageRead>)
         ensures { (w : World) (calls : SlotCalls) → AreRemembered w calls self.old → IfSome page (IsFirstPageOf w) → AreRemembered w calls self.new }
     {

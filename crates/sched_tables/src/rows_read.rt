@@ -30,7 +30,7 @@ impl<K: Ord, T> RowsRead<K, T> {
 }
 
 impl<K: Ord + Drop, T: Drop> RowsRead<K, T> {
-    /// Remembers the row of this key, where there is memory for it.
+    /// Remembers the row of this key, if there is memory for it.
     pub(crate) fn put(&mut self, key: K, row: T)
         ensures { HasKept K.cmp self.old self.new key row }
     {
@@ -40,7 +40,7 @@ impl<K: Ord + Drop, T: Drop> RowsRead<K, T> {
         let _ = self.rows.insert(key, row);
     }
 
-    /// Takes the row of this key away, where it was read.
+    /// Removes the row of this key and returns it, if it was read.
     pub(crate) fn take(&mut self, key: &K) -> Option<T>
         ensures row { result ≡ get K.cmp self.old.rows key.now }
         ensures others { IsWithout K.cmp self.old self.new key.now }
@@ -64,7 +64,7 @@ impl<K: Ord + Drop, T: Drop> RowsRead<K, T> {
 }
 
 impl<K: Ord + Drop, T: Same + Drop> RowsRead<K, T> {
-    /// A copy of the row of this key, where it was read.
+    /// A copy of the row of this key, if it was read.
     pub(crate) fn row(&self, key: &K) -> Result<Option<T>, Memory>
         ensures { IfOk result (λ row. row ≡ get K.cmp self.now.rows key.now) }
     {
@@ -74,7 +74,7 @@ impl<K: Ord + Drop, T: Same + Drop> RowsRead<K, T> {
         }
     }
 
-    /// Remembers a copy of the row of this key, where there is memory for it.
+    /// Remembers a copy of the row of this key, if there is memory for it.
     pub(crate) fn remember(&mut self, key: K, row: &T)
         ensures { HasKept K.cmp self.old self.new key row.now }
     {
