@@ -117,6 +117,9 @@ SLOTS = 4  # so many calls of a host are kept
 # the look-ups whose rows are kept, and how many of each, and how many versions
 KEPT = ("account by authenticator", "host by number", "workunit", "mark of a workunit", "instances of a workunit")
 MOST_KEPT, MOST_VERSIONS = 1000, 100
+DAY = 86400
+LAST_DEADLINE = 250_100_000_000
+LEAST_DEADLINE = "SELECT min(deadline) FROM instance WHERE lapse = 0 AND outcome IS NULL"
 MOST_LOOKS = 8  # so many workunits are looked at by key whether the user had one, before all that the user had are listed
 MOST_NOTED = 16  # of so many workunits that are offered on one way through what waits the rows are kept
 
@@ -312,8 +315,11 @@ class Tables:
         self.page = None, []
         self.seen = {kind: Kept(MOST_KEPT) for kind in (LOOK_UPS if once else KEPT)}
         self.versions = Kept(MOST_VERSIONS)
+        # the credit of users by account; and by host a day, and how many jobs the host was sent on it
+        self.credits, self.sent = Kept(MOST_KEPT), Kept(MOST_KEPT)
         # no instance that is held has its deadline before the mark; and what moment was asked about last
-        self.mark, self.asked = 0, 0
+        (least_deadline,) = self.connection.execute(LEAST_DEADLINE).fetchone()
+        self.mark, self.asked = LAST_DEADLINE if least_deadline is None else least_deadline, 0
         self.settings = dict(self.connection.execute("SELECT name, value FROM setting ORDER BY rowid"))
         self.read_apps()
 
@@ -329,7 +335,7 @@ class Tables:
 
     def forget(self):
         """What was looked up is looked up anew."""
-        for seen in (*self.seen.values(), self.versions):
+        for seen in (*self.seen.values(), self.versions, self.credits, self.sent):
             seen.clear()
         self.page = None, []
 
@@ -340,11 +346,12 @@ class Tables:
             self.seen["workunit"].pop(key, None)
             self.seen["mark of a workunit"].pop(key, None)
         elif table == "instance":
-            number, known = row[1], self.seen["instances of a workunit"].pop(key, [])
-            if number < len(known):
+            number, known = row[1], self.seen["instances of a workunit"].pop(key, None)
+            self.move_sent(known, row)
+            if known is not None and number < len(known):
                 self.seen["instances of a workunit"].keep(key, [*known[:number], row, *known[number + 1 :]])
         elif table == "host":
-            self.seen["host by number"].pop(key, None)
+            self.move_credit(self.seen["host by number"].pop(key, None), row)
             self.seen["host by number"].keep(key, [row])
         elif table == "account":
             self.seen["account by authenticator"].clear()
@@ -353,6 +360,44 @@ class Tables:
         if table == "app":
             self.seen["workunit"].clear()
             self.seen["mark of a workunit"].clear()
+
+    def move_credit(self, known, row):
+        """The known credit of a host's user moves by the difference that the row makes, if the host was known."""
+        account = row[1]
+        if not known or known[0][1] != account:
+            self.credits.clear()
+        elif account in self.credits:
+            self.credits[account] += row[9] - known[0][9]
+
+    def move_sent(self, known, row):
+        """The known number of jobs that a host was sent on a day moves with an instance, if those of its workunit were known."""
+        if known is None:
+            self.sent.clear()
+            return
+        old = known[row[1]] if row[1] < len(known) else None
+        before = None if old is None or old[2] is None else (old[2], old[3] // DAY)
+        after = None if row[2] is None else (row[2], row[3] // DAY)
+        if before is None and after is not None:
+            host, day = after
+            known_day, count = self.sent.get(host, (None, 0))
+            if known_day == day:
+                self.sent[host] = day, count + 1
+        elif before != after:
+            self.sent.clear()
+
+    def credit_of_user(self, account):
+        """The credit of a user."""
+        if account not in self.credits:
+            self.credits.keep(account, sum(row[0] for row in self.shown("credit of a user", account)))
+        return self.credits[account]
+
+    def sent_on_day(self, host, day):
+        """How many jobs a host was sent on a day, whatever became of them."""
+        known_day, count = self.sent.get(host, (None, 0))
+        if known_day != day:
+            count = len(self.shown("sent on a day", host, day * DAY, day * DAY + DAY))
+            self.sent.keep(host, (day, count))
+        return count
 
     def shown(self, kind, *values):
         """The rows of a look-up."""
@@ -671,8 +716,8 @@ class Machine:
 
     def choose(self, host, held, seconds, asked, now):
         """The places of jobs for the host, each with its version, and the word that tells why there are no more."""
-        tables, settings, day, jobs, known = self.tables, self.settings, now // 86400 * 86400, {}, {}
-        sent = len(tables.shown("sent on a day", host.number, day, day + 86400))
+        tables, settings, jobs, known = self.tables, self.settings, {}, {}
+        sent = tables.sent_on_day(host.number, now // DAY)
         looks, past = {}, None  # of which workunits the user had one: of those that were looked at, and of all
 
         def had(unit):
@@ -760,7 +805,7 @@ class Machine:
             page.put_unit(unit)
             granted.append((instance, version))
         credit = tables.credit_of_host(host.number) + gains[host.number]
-        user_credit = sum(row[0] for row in tables.shown("credit of a user", account))
+        user_credit = tables.credit_of_user(account)
         user_credit += sum(gain for number, gain in gains.items() if page.host(number).account == account)
         _, _, user_name = tables.first("account by authenticator", record["authenticator"])
         again = [(instance, tables.version(host, instance.unit.app_id)) for instance in resent]
