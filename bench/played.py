@@ -67,9 +67,11 @@ def wait_until_idle(process: Any) -> None:
 
 
 def begun(program: str, tables: str) -> serve_life.Run:
-    """A server of a program over tables, once it takes connections."""
+    """A server of a program over tables, once it takes connections. All servers run on one processor, so that
+    what else the machine does there slows all of them."""
     begin, port = time.perf_counter(), free_port()
     run = serve_life.Run(started(program, tables, port, MOST_COUNT, seconds=OPENING), port, begin)
+    os.sched_setaffinity(run.server.pid, {max(os.sched_getaffinity(0))})
     wait_until_idle(run.server)
     return run
 

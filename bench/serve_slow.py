@@ -12,6 +12,7 @@ import sqlite3
 import statistics
 import time
 from collections.abc import Callable
+from dataclasses import dataclass
 from typing import Any
 
 import serve_life
@@ -24,7 +25,7 @@ EIGHT = 8  # so many workunits are looked at by key before a user's past is list
 FRONT = 20_000  # how many of the first waiting workunits a user had
 TODAY, HELD = 900, 8  # how many jobs a host got today, and how many of them it still has
 DONE = 50_000  # so many of the last workunits are done, with two results each
-CALLS, TICKS = 21, 21  # how many calls each client makes, and how many ticks there are
+CALLS = TICKS = 41  # how many calls each client makes after its first, and how many ticks there are
 BUSY, LEADING, GIVEN = 1, HOSTS + 1, 2 * HOSTS + 1  # the callers of the first file
 # what the hosts of a result's user return for a workunit: the output on which all clients agree
 OUTPUT = "CAST(unit_id * 37 % 1000 AS TEXT)"
@@ -118,54 +119,67 @@ def make_many(connection: sqlite3.Connection) -> None:
 # ---- Calls and ticks
 
 
+@dataclass
+class Took:
+    """The milliseconds of the processor that each program took: for the first call, and the median of later
+    ones."""
+
+    first: list[float]
+    later: list[float]
+
+
+def took_of(each: list[list[float]]) -> Took:
+    """What calls took, by the milliseconds of each program for each call."""
+    return Took(each[0], [statistics.median(every) for every in zip(*each[1:])])
+
+
 class Slow(Played):
     """Calls of clients that report the right output, and ticks. Each is timed."""
 
     def __init__(self, programs: list[str], path: str, folder: str) -> None:
         copies = [copied(path, folder, f"{number}.slow.db") for number in range(len(programs))]
         super().__init__([begun(program, copy) for program, copy in zip(programs, copies)], timed=True)
-        self.fresh: list[float] = []  # the milliseconds of a call of a fresh host, of each program
 
     def report(self, name: str) -> dict[str, Any]:
         """What a client says of a job that it finished."""
         unit = int(name.split("_")[0].removeprefix("unit-"))
         return {"name": name, "exit_status": 0, "output": str(unit * 37 % 1000)}
 
-    def calls_of(self, client: Client) -> tuple[list[float], list[float]]:
-        """Lets a client call. Returns the milliseconds of each program for its first call, which gets a job,
-        and the median ones of its later calls, each of which reports a job and gets one."""
-        each = []
+    def calls_of(self, *clients: Client) -> list[Took]:
+        """Lets clients call in turn. The first call of a client gets a job. Each later one reports a job and
+        gets one."""
+        each: list[list[list[float]]] = [[] for _ in clients]
         for _ in range(CALLS + 1):
-            self.call(client, 1)
-            wants(len(client.jobs), 1, f"how many jobs {client.cpid} has")
-            each.append([seconds * 1e3 for seconds in self.seconds])
-        return each[0], [statistics.median(every) for every in zip(*each[1:])]
+            for client, every in zip(clients, each):
+                self.call(client, 1)
+                wants(len(client.jobs), 1, f"how many jobs {client.cpid} has")
+                every.append([seconds * 1e3 for seconds in self.seconds])
+        return [took_of(every) for every in each]
 
-    def ticks(self) -> tuple[list[float], list[float]]:
-        """The milliseconds of each program for the first tick, and the median ones of later ticks."""
+    def ticks(self) -> Took:
+        """Sends ticks. Nothing is late at them."""
         each = []
         for _ in range(TICKS + 1):
             for answer, _, _ in self.exchange_all(serve_life.TICK):
                 wants(json.loads(answer.rpartition(b"\r\n\r\n")[2]), {"lapsed": 0}, "a tick")
             each.append([seconds * 1e3 for seconds in self.seconds])
-        return each[0], [statistics.median(every) for every in zip(*each[1:])]
+        return took_of(each)
 
-    def tell(self, what: str, took: list[float], first: list[float] | None = None) -> None:
-        """Prints what something took."""
+    def tell(self, what: str, took: list[float], fresh: Took, first: list[float] | None = None) -> None:
+        """Prints what something took, compared with the calls of a fresh host."""
         told = []
         for number, milliseconds in enumerate(took):
             one = f"{milliseconds:.2f} milliseconds"
-            if took is not self.fresh:
-                one += f", {milliseconds / self.fresh[number]:.2f} times a fresh host's call"
+            if took is not fresh.later:
+                one += f", {milliseconds / fresh.later[number]:.2f} times a fresh host's call"
             one += "" if first is None else f" (the first call {first[number]:.2f})"
             told.append(one if number == 0 else f"by the reference {one}")
         told += [f"{took[0] / other:.2f} times the reference" for other in took[1:]]
         print(f"slow: {what}: {'; '.join(told)}", flush=True)
 
-    def tell_fresh(self) -> None:
-        """Lets a fresh host call, and prints what a call of it took."""
-        first, self.fresh = self.calls_of(standing(hosts_of(MOST)))
-        self.tell("a fresh host", self.fresh, first)
+    def tell_calls(self, what: str, took: Took, fresh: Took) -> None:
+        """Prints what the calls of a client took."""
+        self.tell(what, took.later, fresh, took.first)
 
     def end(self) -> None:
         """Ends the servers."""
@@ -175,31 +189,31 @@ class Slow(Played):
 
 def slow_hosts(programs: list[str], folder: str) -> None:
     """The cases of the first file. The ticks come first. Then the user calls whose workunits are at the
-    front, since the calls of the others take those."""
+    front, since the calls of the others take those. The others call in turn: if one called alone, each
+    workunit that it had would wait for another user, and soon it would lead the front, too."""
     played = Slow(programs, changed(programs[0], "hosts", make_hosts), folder)
     ticks = played.ticks()
-    leading = played.calls_of(Client(user_of(LEADING), f"host{LEADING}", 1))
-    played.tell_fresh()
-    busy = played.calls_of(Client(user_of(BUSY), f"host{BUSY}", 1))
-    given = Client(user_of(GIVEN), f"host{GIVEN}", 1)
+    (leading,) = played.calls_of(standing(LEADING))
+    given = standing(GIVEN)
     given.jobs = [f"unit-{MOST // 2 + number}_0" for number in range(TODAY - HELD + 1, TODAY + 1)]
-    today = played.calls_of(given)
+    fresh, busy, today = played.calls_of(standing(hosts_of(MOST)), standing(BUSY), given)
     played.end()
-    played.tell(f"a user with {HOSTS} hosts", busy[1], busy[0])
-    played.tell(f"the same, if the user had the first {EIGHT} waiting workunits", leading[1], leading[0])
-    played.tell(f"a host that got {TODAY} jobs today", today[1], today[0])
-    played.tell(f"the first tick after an opening, {2 * DONE} deadlines are past", ticks[0])
-    played.tell("a later tick", ticks[1])
+    played.tell_calls("a fresh host", fresh, fresh)
+    played.tell_calls(f"a user with {HOSTS} hosts", busy, fresh)
+    played.tell_calls(f"the same, if the user had the first {EIGHT} waiting workunits", leading, fresh)
+    played.tell_calls(f"a host that got {TODAY} jobs today", today, fresh)
+    played.tell(f"the first tick after an opening, {2 * DONE} deadlines are past", ticks.first, fresh)
+    played.tell("a later tick", ticks.later, fresh)
 
 
 def slow_front(programs: list[str], folder: str, name: str, what: str, make: Callable) -> None:
     """A user who had the first waiting workunits."""
     played = Slow(programs, changed(programs[0], name, make), folder)
-    leading = played.calls_of(Client(1, "host1", 1))
-    played.tell_fresh()
+    fresh, leading = played.calls_of(standing(hosts_of(MOST)), standing(1))
     played.end()
+    played.tell_calls("a fresh host", fresh, fresh)
     who = f"a user with {what} who had one of each of the first {FRONT} waiting workunits"
-    played.tell(who, leading[1], leading[0])
+    played.tell_calls(who, leading, fresh)
 
 
 def slow(options: Options, folder: str) -> None:
