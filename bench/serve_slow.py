@@ -70,8 +70,8 @@ def finish(connection: sqlite3.Connection) -> None:
     """Lets the last workunits be done, each by a host of one busy user and a host of the other. So each of
     their hosts has returned ten results, and has credit."""
     given = f"host_id = ? - num * ? + unit_id % ?, place = num + 1, {RETURNED}"
-    values = LEADING, LEADING - BUSY, HOSTS, MOST - DONE
-    connection.execute(f"UPDATE instance SET {given} WHERE unit_id > ?", values)
+    owners = LEADING, LEADING - BUSY, HOSTS, MOST - DONE
+    connection.execute(f"UPDATE instance SET {given} WHERE unit_id > ?", owners)
     connection.execute("UPDATE unit SET status = 1 WHERE id > ?", (MOST - DONE,))
     results = "SELECT count(*) FROM instance WHERE host_id = host.id AND unit_id > ?"
     values = CREDIT, MOST - DONE, LEADING + HOSTS
@@ -121,16 +121,21 @@ def make_many(connection: sqlite3.Connection) -> None:
 
 @dataclass
 class Took:
-    """The milliseconds of the processor that each program took: for the first call, and the median of later
-    ones."""
+    """The milliseconds of the processor that each program took for the first call, and the median ones for a
+    later call. A ratio is how many times as long the program took as the reference; of the later calls it is
+    the median."""
 
     first: list[float]
     later: list[float]
+    first_ratio: float
+    later_ratio: float
 
 
 def took_of(each: list[list[float]]) -> Took:
     """What calls took, by the milliseconds of each program for each call."""
-    return Took(each[0], [statistics.median(every) for every in zip(*each[1:])])
+    first, *later = [one[0] / one[-1] for one in each]
+    medians = [statistics.median(every) for every in zip(*each[1:])]
+    return Took(each[0], medians, first, statistics.median(later))
 
 
 class Slow(Played):
@@ -165,26 +170,39 @@ class Slow(Played):
             each.append([seconds * 1e3 for seconds in self.seconds])
         return took_of(each)
 
-    def tell(self, what: str, took: list[float], fresh: Took, first: list[float] | None = None) -> None:
-        """Prints what something took, compared with the calls of a fresh host."""
-        told = []
-        for number, milliseconds in enumerate(took):
-            one = f"{milliseconds:.2f} milliseconds"
-            if took is not fresh.later:
-                one += f", {milliseconds / fresh.later[number]:.2f} times a fresh host's call"
-            one += "" if first is None else f" (the first call {first[number]:.2f})"
-            told.append(one if number == 0 else f"by the reference {one}")
-        told += [f"{took[0] / other:.2f} times the reference" for other in took[1:]]
-        print(f"slow: {what}: {'; '.join(told)}", flush=True)
-
-    def tell_calls(self, what: str, took: Took, fresh: Took) -> None:
-        """Prints what the calls of a client took."""
-        self.tell(what, took.later, fresh, took.first)
-
     def end(self) -> None:
         """Ends the servers."""
         for run in self.runs:
             ended(run)
+
+
+def tell(what: str, took: list[float], fresh: Took, ratio: float, others: list[str]) -> None:
+    """Prints what something took, compared with a call of a fresh host and with the reference. Of each
+    program another figure is printed, too."""
+    told = []
+    for number, milliseconds in enumerate(took):
+        one = f"{milliseconds:.2f} milliseconds"
+        if took is not fresh.later:
+            one += f", {milliseconds / fresh.later[number]:.2f} times a fresh host's call"
+        told.append(f"{'by the reference ' if number else ''}{one} ({others[number]})")
+    if len(took) > 1:
+        told.append(f"{ratio:.2f} times the reference")
+    print(f"slow: {what}: {'; '.join(told)}", flush=True)
+
+
+def tell_calls(what: str, took: Took, fresh: Took) -> None:
+    """Prints what the later calls of a client took, and the first one."""
+    tell(what, took.later, fresh, took.later_ratio, [f"the first call {first:.2f}" for first in took.first])
+
+
+def tell_ticks(took: Took, fresh: Took) -> None:
+    """Prints what the first tick took, and a later one."""
+    pairs = zip(took.first, took.later)
+    others = [f"{first / later:.1f} times a later tick, which takes {later:.2f}" for first, later in pairs]
+    what = f"the first tick after an opening, {2 * DONE} deadlines are past"
+    tell(what, took.first, fresh, took.first_ratio, others)
+    if len(took.later) > 1:
+        print(f"slow: a later tick takes {took.later_ratio:.2f} times the reference", flush=True)
 
 
 def slow_hosts(programs: list[str], folder: str) -> None:
@@ -198,12 +216,11 @@ def slow_hosts(programs: list[str], folder: str) -> None:
     given.jobs = [f"unit-{MOST // 2 + number}_0" for number in range(TODAY - HELD + 1, TODAY + 1)]
     fresh, busy, today = played.calls_of(standing(hosts_of(MOST)), standing(BUSY), given)
     played.end()
-    played.tell_calls("a fresh host", fresh, fresh)
-    played.tell_calls(f"a user with {HOSTS} hosts", busy, fresh)
-    played.tell_calls(f"the same, if the user had the first {EIGHT} waiting workunits", leading, fresh)
-    played.tell_calls(f"a host that got {TODAY} jobs today", today, fresh)
-    played.tell(f"the first tick after an opening, {2 * DONE} deadlines are past", ticks.first, fresh)
-    played.tell("a later tick", ticks.later, fresh)
+    tell_calls("a fresh host", fresh, fresh)
+    tell_calls(f"a user with {HOSTS} hosts", busy, fresh)
+    tell_calls(f"the same, if the user had the first {EIGHT} waiting workunits", leading, fresh)
+    tell_calls(f"a host that got {TODAY} jobs today", today, fresh)
+    tell_ticks(ticks, fresh)
 
 
 def slow_front(programs: list[str], folder: str, name: str, what: str, make: Callable) -> None:
@@ -211,9 +228,9 @@ def slow_front(programs: list[str], folder: str, name: str, what: str, make: Cal
     played = Slow(programs, changed(programs[0], name, make), folder)
     fresh, leading = played.calls_of(standing(hosts_of(MOST)), standing(1))
     played.end()
-    played.tell_calls("a fresh host", fresh, fresh)
+    tell_calls("a fresh host", fresh, fresh)
     who = f"a user with {what} who had one of each of the first {FRONT} waiting workunits"
-    played.tell_calls(who, leading, fresh)
+    tell_calls(who, leading, fresh)
 
 
 def slow(options: Options, folder: str) -> None:
