@@ -10,6 +10,7 @@ from serve_life import LEAST, MOST, SIZES, Life, copied, made
 from served import peak, processor_seconds, wants
 
 ROUNDS = 10
+TURN = 50  # after so many calls by one program, the other makes them
 LEAST_UNITS = 10_000  # the project of `row` has at least so many workunits
 MOST_LOG = 16 * 2**20  # the log of `row` stays below so many bytes
 MOST_GROWTH = 16 * 1024  # and the peak memory of its calls grows by less, in kilobytes, after the first tenth
@@ -35,15 +36,21 @@ class Pair:
     def begin(self) -> "Pair":
         """Starts the servers, one after the other, over fresh copies."""
         path, self.at, self.clocks = made(self.programs[0], self.units), 0, [Clock() for _ in self.programs]
-        self.runs, self.openings = [], []
+        self.runs = []
         for number, program in enumerate(self.programs):
-            run = begun(program, copied(path, self.folder, f"{number}.{self.units}.db"))
-            self.runs.append(run)
-            self.openings.append((processor_seconds(run.server), float(run.open_peak)))
+            self.runs.append(begun(program, copied(path, self.folder, f"{number}.{self.units}.db")))
+        self.openings = [opening_of(run) for run in self.runs]
         return self
 
     def go(self, count: int) -> "Pair":
-        """So many calls more by each program. The programs take turns at being first."""
+        """So many calls more by each program, in turns."""
+        while count > 0:
+            self.take_turn(min(TURN, count))
+            count -= TURN
+        return self
+
+    def take_turn(self, count: int) -> None:
+        """So many calls more by each program, one after the other. They take turns at being first."""
         bodies, order = self.bodies[self.at:self.at + count], list(range(len(self.runs)))
         if self.rounds % 2:
             order.reverse()
@@ -60,7 +67,6 @@ class Pair:
             same_answers(body, each)
         self.seconds.append([took[number] for number in range(len(self.runs))])
         self.at, self.calls, self.rounds = self.at + count, self.calls + count, self.rounds + 1
-        return self
 
     def end(self) -> None:
         """Ends the servers."""
@@ -74,11 +80,27 @@ class Pair:
         if theirs:
             ratios = [one / other for one, other in self.seconds]
             told += (
-                f", by the reference {theirs[0]:.0f}: {ratio_told(ours, theirs[0])}; in the rounds "
+                f", by the reference {theirs[0]:.0f}: {ratio_told(ours, theirs[0])}; in the turns "
                 f"{min(ratios):.2f} to {max(ratios):.2f} times, median {statistics.median(ratios):.2f}; "
                 f"{self.calls} answers are equal"
             )
         print(told, flush=True)
+
+
+def opening_of(run: serve_life.Run) -> tuple[float, float]:
+    """What the opening of a server took that has heard no call: processor seconds, and peak memory in
+    kilobytes."""
+    return processor_seconds(run.server), float(run.open_peak)
+
+
+def openings_in_reverse(programs: list[str], units: int, folder: str) -> list[tuple[float, float]]:
+    """What an opening by each program took. The last program opens its copy first."""
+    found = []
+    for program in reversed(programs):
+        run = begun(program, copied(made(programs[0], units), folder))
+        found.append(opening_of(run))
+        ended(run)
+    return found[::-1]
 
 
 def tell_opening(units: int, openings: list[tuple[float, float]]) -> None:
@@ -103,9 +125,12 @@ def compare(options: Options, folder: str) -> None:
         lived.mixed(units, count * (1 if units == LEAST else ROUNDS)).ended()
         pairs[units] = Pair(options.programs(), units, folder, lived.bodies)
     large = [units for units in SIZES if units != LEAST]
+    before = openings_in_reverse(options.programs(), MOST, folder)
     for units in large:
         pairs[units].begin()
-    tell_opening(MOST, pairs[MOST].openings)
+    # each program opened the tables twice: the shorter time counts, and the larger memory
+    both = zip(before, pairs[MOST].openings)
+    tell_opening(MOST, [(min(one[0], other[0]), max(one[1], other[1])) for one, other in both])
     for _ in range(ROUNDS):
         pairs[LEAST].begin().go(SIZES[LEAST]).end()
         for units in large:
