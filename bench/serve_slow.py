@@ -206,21 +206,23 @@ def tell_ticks(took: Took, fresh: Took) -> None:
 
 
 def slow_hosts(programs: list[str], folder: str) -> None:
-    """The cases of the first file. The ticks come first. Then the user calls whose workunits are at the
-    front, since the calls of the others take those. The others call in turn: if one called alone, each
-    workunit that it had would wait for another user, and soon it would lead the front, too."""
+    """The cases of the first file. The ticks come first. Then the user who had the first eight waiting
+    workunits calls in turn with a fresh host: each of its calls adds a workunit to the eight, and each fresh
+    call takes one of them. The others call in turn, too. If one called alone, it would soon have had the
+    first waiting workunits itself."""
     played = Slow(programs, changed(programs[0], "hosts", make_hosts), folder)
+    client = standing(hosts_of(MOST))
     ticks = played.ticks()
-    (leading,) = played.calls_of(standing(LEADING))
+    leading, before = played.calls_of(standing(LEADING), client)
     given = standing(GIVEN)
     given.jobs = [f"unit-{MOST // 2 + number}_0" for number in range(TODAY - HELD + 1, TODAY + 1)]
-    fresh, busy, today = played.calls_of(standing(hosts_of(MOST)), standing(BUSY), given)
+    fresh, busy, today = played.calls_of(client, standing(BUSY), given)
     played.end()
     tell_calls("a fresh host", fresh, fresh)
     tell_calls(f"a user with {HOSTS} hosts", busy, fresh)
-    tell_calls(f"the same, if the user had the first {EIGHT} waiting workunits", leading, fresh)
+    tell_calls(f"the same, if the user had the first {EIGHT} waiting workunits", leading, before)
     tell_calls(f"a host that got {TODAY} jobs today", today, fresh)
-    tell_ticks(ticks, fresh)
+    tell_ticks(ticks, before)
 
 
 def slow_front(programs: list[str], folder: str, name: str, what: str, make: Callable) -> None:
