@@ -25,8 +25,8 @@ def ratio_told(one: float, other: float) -> str:
 
 
 class Pair:
-    """The program, and the reference if there is one, over copies of the same tables and with the same
-    calls."""
+    """The program, and the reference if there is one, each over tables of the same project that it created
+    itself, and with the same calls."""
 
     def __init__(self, programs: list[str], units: int, folder: str, bodies: list[bytes]) -> None:
         self.programs, self.units, self.folder, self.bodies = programs, units, folder, bodies
@@ -35,9 +35,10 @@ class Pair:
 
     def begin(self) -> "Pair":
         """Starts the servers, one after the other, over fresh copies."""
-        path, self.at, self.clocks = made(self.programs[0], self.units), 0, [Clock() for _ in self.programs]
+        self.at, self.clocks = 0, [Clock() for _ in self.programs]
         self.runs = []
         for number, program in enumerate(self.programs):
+            path = made(program, self.units)
             self.runs.append(begun(program, copied(path, self.folder, f"{number}.{self.units}.db")))
         self.openings = [opening_of(run) for run in self.runs]
         return self

@@ -20,6 +20,7 @@ import subprocess
 import sys
 import tempfile
 import time
+import zlib
 from collections import Counter
 
 import plain
@@ -110,7 +111,7 @@ def create(program, path):
 
 def made(program, units):
     """Tables in a file with so many workunits, none of which was given out, and with hosts that called once."""
-    path = os.path.join(MADE.name, f"{units}.db")
+    path = os.path.join(MADE.name, f"{zlib.crc32(os.path.realpath(program).encode())}.{units}.db")
     if os.path.exists(path):
         return path
     create(program, path)
