@@ -98,7 +98,7 @@ def openings_in_reverse(programs: list[str], units: int, folder: str) -> list[tu
     """What an opening by each program took. The last program opens its copy first."""
     found = []
     for program in reversed(programs):
-        run = begun(program, copied(made(programs[0], units), folder))
+        run = begun(program, copied(made(program, units), folder))
         found.append(opening_of(run))
         ended(run)
     return found[::-1]
