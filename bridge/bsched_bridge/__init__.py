@@ -1,16 +1,16 @@
 """A bridge between BOINC's client, which speaks XML, and the scheduler `bsched`, which speaks JSON.
 
-`docs/PROFILE.md` states the JSON side, and in its section 'Writing a bridge' what a bridge does with each
-element. `bridge/README.md` tells how to run it and how to write an application.
+`docs/PROFILE.md` states the JSON side. Its section 'Writing a bridge' says what a bridge does with each
+element. `bridge/README.md` says how to run the bridge and how to write an application.
 
 A request goes through these modules, in this order:
 
-application      the WSGI application: which URL is answered by what
+application      the WSGI application: it chooses the handler for each URL
 client_requests  what a client's XML says
-exchange         one request and its answer: resends, counts, what a refusal means to a client
-counts           the keys with their counts and calls without an answer
+exchange         one request and its answer: resends, counts, what a client reads after a refusal
+counts           the keys, with their counts and their calls without an answer
 calls            the JSON text of a call
-archives         the credit of earlier files of the project, which is added to replies
+archives         the credit from earlier files of the project, which is added to replies
 scheduler        the connection to bsched, and what its answers say
 client_replies   the XML of a reply
 catalogue        files, command lines and signatures, as the operator wrote them
@@ -18,11 +18,12 @@ catalogue        files, command lines and signatures, as the operator wrote them
 An account goes through these:
 
 account_messages what a client asks about accounts, and its answers
-accounts         checks, limits, and the way of an account into bsched
+accounts         checks, limits, and the import of an account into bsched
 passwords        what is kept of a password
 members          the accounts that the bridge knows
 
-Both keep their rows in the state_file, in SQLite. For people there are pages, account_pages, statements,
-markup (HTML, with escaping) and texts. Beside these are settings, host_rules (settings that are read again),
-limits, operator_files (TOML with the lines of its faults), http_messages, code_signing, key_locks and words.
+Both keep their rows in the state_file, in SQLite. The modules of the pages for people are pages,
+account_pages, statements, markup (HTML, with escaping) and texts. The other modules are settings, host_rules
+(settings that are read again), limits, operator_files (TOML with the lines of its faults), http_messages,
+code_signing, key_locks and words.
 """

@@ -23,13 +23,13 @@ class CommandLine(argparse.ArgumentParser):
     """A parser that ends with the status of bsched for a bad command line."""
 
     def error(self, message: str) -> NoReturn:
-        """Tells what is wrong."""
+        """Prints what is wrong, and ends the program."""
         self.print_usage(sys.stderr)
         self.exit(BAD_COMMAND_LINE, f"bsched_bridge: {message}\n")
 
 
 def words() -> argparse.ArgumentParser:
-    """The command line."""
+    """Returns the parser of the command line."""
     parser = CommandLine(
         prog="bsched-bridge", description="A bridge between BOINC's client and bsched."
     )
@@ -46,7 +46,9 @@ def words() -> argparse.ArgumentParser:
 
 
 def serve(path: Path, only_check: bool) -> None:
-    """Serves the settings of a file by waitress, until it is stopped."""
+    """Serves the settings of a file with waitress until it is stopped. With only_check it only reads and
+    checks them.
+    """
     settings = read_settings(path)
     if only_check:
         catalogue = read_catalogue(settings.catalogue)
@@ -71,7 +73,7 @@ def serve(path: Path, only_check: bool) -> None:
 
 
 def main() -> int:
-    """Does what the command line orders; the status."""
+    """Does what the command line says, and returns the exit status."""
     parser = words()
     told = parser.parse_args()
     logging.basicConfig(level=logging.INFO, format="%(asctime)s %(levelname)s %(name)s: %(message)s")

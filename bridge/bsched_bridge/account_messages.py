@@ -1,7 +1,8 @@
-"""What BOINC's client asks about accounts, and its answers in XML.
+"""What BOINC's client asks about accounts, and the answers in XML.
 
-The client reads an answer only where the status is 200, so each message gets one: an account_out with a key,
-or an error with a number and a text. An empty answer, or an error 0, would be an account with an empty key.
+The client reads an answer only if the status is 200, so every message gets that status. The answer is an
+account_out with a key, or an error with a number and a text. The client would take an empty answer, or error
+0, for an account with an empty key.
 """
 import logging
 from collections.abc import Callable
@@ -18,15 +19,16 @@ from .scheduler import NoAnswer, Scheduler
 from .settings import Settings
 from .words import in_small_letters, is_word
 
-# characters; the server gets a hash, so only the Manager and the page for passwords look at it
+# characters; the server gets only a hash, so only the Manager and the password page check this
 LEAST_PASSWORD = 6
 
 log = logging.getLogger(__name__)
 
 
 def client_of(environ: Environ, address_field: str | None) -> str:
-    """Whom the limits count a message for. Only a proxy on this machine may tell another address than the
-    peer's.
+    """Returns the client for whom the limits count a message.
+
+    The address is the peer's. Only a proxy on this machine may name another one.
     """
     peer: str = environ.get("REMOTE_ADDR") or ""
     if address_field is not None and is_loopback(peer):
@@ -36,10 +38,10 @@ def client_of(environ: Environ, address_field: str | None) -> str:
 
 
 def project_config(settings: Settings, catalogue: Catalogue) -> bytes:
-    """What a client asks for before it attaches (get_project_config.php).
+    """Returns the answer to get_project_config.php, which a client asks for before it attaches.
 
-    Where only the operator makes accounts, the Manager asks for a user name, which takes an account key as it
-    is: as an e-mail address it takes none.
+    If only the operator makes accounts, the Manager is made to ask for a user name, because it accepts an
+    account key there. It accepts no account key as an e-mail address.
     """
     root = Element("project_config")
     add(root, "name", settings.name)
@@ -61,14 +63,14 @@ def project_config(settings: Settings, catalogue: Catalogue) -> bytes:
 
 
 def account_out(authenticator: str) -> bytes:
-    """An account."""
+    """Returns the XML of an account."""
     root = Element("account_out")
     add(root, "authenticator", authenticator)
     return written(root)
 
 
 def account_error(fault: Fault) -> bytes:
-    """Why there is none."""
+    """Returns the XML that says why there is no account."""
     root = Element("error")
     add(root, "error_num", fault.number)
     add(root, "error_msg", fault.text)
@@ -76,31 +78,34 @@ def account_error(fault: Fault) -> bytes:
 
 
 class AccountMessages:
-    """What answers clients that ask about accounts; without accounts they ask about keys alone."""
+    """Answers clients that ask about accounts. If volunteers make no accounts, clients can only ask about
+    keys.
+    """
 
     def __init__(self, settings: Settings, accounts: Accounts | None, scheduler: Scheduler) -> None:
         self.accounts, self.scheduler = accounts, scheduler
         self._address_field = settings.accounts.address_field if settings.accounts else None
 
     def create(self, environ: Environ) -> Answer:
-        """create_account.php: it writes, so it is for no HEAD and no browser."""
+        """Answers create_account.php. It writes, so HEAD and browsers are refused."""
         has_method(environ, "GET")
         is_of_no_browser(environ)
         return self._answered(self._created, environ)
 
     def look_up(self, environ: Environ) -> Answer:
-        """lookup_account.php: wrong passwords count, so it is for no HEAD and no browser either."""
+        """Answers lookup_account.php. Wrong passwords are counted, so HEAD and browsers are refused here too.
+        """
         has_method(environ, "GET")
         is_of_no_browser(environ)
         return self._answered(self._found, environ)
 
     def client(self, environ: Environ) -> str:
-        """Whom the limits count a message for."""
+        """Returns the client for whom the limits count a message."""
         return client_of(environ, self._address_field)
 
     def _answered(self, find: Callable[[Environ, dict[str, str]], str], environ: Environ) -> Answer:
-        """The answer with the key that is found; a fault of the bridge, such as a full disk, is one to try
-        again.
+        """Returns the answer with the key that is found. If the bridge itself fails, for example on a full
+        disk, the client is asked to try again.
         """
         try:
             return Answer(XML, account_out(find(environ, query_of(environ))), NO_STORE)
@@ -114,7 +119,7 @@ class AccountMessages:
         return Answer(XML, account_error(fault), NO_STORE)
 
     def _created(self, environ: Environ, told: dict[str, str]) -> str:
-        """The key of a new account."""
+        """Makes an account and returns its key."""
         if self.accounts is None:
             raise AccountFault(Fault.NO_CREATION)
         email, secret = in_small_letters(told.get("email_addr", "")), told.get("passwd_hash", "").lower()
@@ -124,8 +129,8 @@ class AccountMessages:
         ).authenticator
 
     def _found(self, environ: Environ, told: dict[str, str]) -> str:
-        """The key of an account, by its address and password; or by the key itself, as a volunteer types a
-        user name.
+        """Returns the key of an account. The client gives an address and a password, or the key itself, which
+        a volunteer types as the user name.
         """
         name = told.get("authenticator", "") or told.get("email_addr", "")
         if self.accounts is None or is_word(name):
@@ -135,7 +140,7 @@ class AccountMessages:
         ).authenticator
 
     def _known_key(self, authenticator: str) -> str:
-        """A key that bsched knows."""
+        """Returns the key if bsched knows it."""
         try:
             if is_word(authenticator) and self.scheduler.has_account(authenticator):
                 return authenticator

@@ -1,7 +1,7 @@
-"""The pages of accounts, for people: an account with its hosts, its name and password, and the terms.
+"""The account pages for people: an account with its hosts, its name and password, and the terms.
 
-There are no cookies. Each form sends the key or the password that it needs, so no other page can use its
-visitors.
+There are no cookies. Each form sends the key or the password that it needs, so another web page can't act
+through its visitors.
 """
 from dataclasses import dataclass, field, replace
 
@@ -33,7 +33,7 @@ class Input:
     most: int = 254
 
     def markup(self, fault: str | None) -> Markup:
-        """The label with the field, and beside it what is wrong with what was sent."""
+        """Returns the label and the field, followed by what is wrong with the value that was sent."""
         told = [f"{self.name}-note"] if self.note else []
         told += [f"{self.name}-fault"] if fault else []
         return joined(
@@ -56,23 +56,23 @@ class Input:
 
 @dataclass
 class Form:
-    """What was sent by a form, and what is wrong with it by its fields."""
+    """The fields that a form sent, and what is wrong with each of them."""
 
     told: dict[str, str] = field(default_factory=dict)
     faults: dict[str, str] = field(default_factory=dict)
 
     def text(self, name: str) -> str:
-        """What was written into a field, without blanks around it."""
+        """Returns what was typed into a field, without leading and trailing blanks."""
         return self.told.get(name, "").strip()
 
 
 def form(action: str, button: str, *parts: object) -> Markup:
-    """A form that is posted."""
+    """Returns a form that is sent by POST."""
     return element("form", *parts, element("div", element("button", button)), method="post", action=action)
 
 
 def hidden(name: str, value: str) -> Markup:
-    """A field that nobody sees."""
+    """Returns a hidden field."""
     return element("input", type="hidden", name=name, value=value)
 
 
@@ -95,7 +95,7 @@ NEW_PASSWORD = Input(
 
 
 class AccountPages:
-    """What answers people about accounts."""
+    """Answers people who ask about accounts."""
 
     def __init__(self, settings: Settings, accounts: Accounts, statements: Statements) -> None:
         self.settings, self.accounts, self.statements = settings, accounts, statements
@@ -104,8 +104,8 @@ class AccountPages:
     # ---- An account
 
     def finish(self, environ: Environ) -> Answer:
-        """account_finish.php: the Manager opens it after it has made an account. Its form is posted to it,
-        with the key.
+        """Answers account_finish.php, which the Manager opens after it has made an account. The form of the
+        page posts back to it, with the key.
         """
         has_method(environ, "GET", "HEAD", "POST")
         if environ["REQUEST_METHOD"] == "POST":
@@ -116,7 +116,7 @@ class AccountPages:
         return self._account(member)
 
     def account(self, environ: Environ) -> Answer:
-        """The way to an account, by its key or by address and password."""
+        """Shows an account, found by its key or by address and password. Without them it asks for them."""
         has_method(environ, "GET", "HEAD", "POST")
         if environ["REQUEST_METHOD"] != "POST":
             return self._entrance(Form())
@@ -132,7 +132,7 @@ class AccountPages:
             return self._entrance(sent)
 
     def _entrance(self, sent: Form, status: int = 200) -> Answer:
-        """The page that asks for an account."""
+        """Returns the page that asks for a key, or for an address and a password."""
         email = replace(EMAIL, value=sent.text("email"))
         return page(
             f"{self.settings.name}: your account",
@@ -149,7 +149,8 @@ class AccountPages:
         )
 
     def _changed(self, environ: Environ) -> Answer:
-        """The owner of a key changes the name, and whether statistics sites may show it."""
+        """Changes the name of an account, and whether statistics sites may show it. The owner sends the key.
+        """
         sent, client = Form(form_of(environ)), client_of(environ, self._field)
         name = clean_name(sent.text("name"))
         try:
@@ -164,7 +165,7 @@ class AccountPages:
         return self._account(member, "Your changes are saved.")
 
     def _account(self, member: Member, done: str = "", sent: Form | None = None) -> Answer:
-        """The page of an account."""
+        """Returns the page of an account."""
         sent = sent or Form()
         hosts = self.statements.of_account(member.authenticator)
         name = Input(
@@ -205,7 +206,7 @@ class AccountPages:
     # ---- A password
 
     def password(self, environ: Environ) -> Answer:
-        """get_passwd.php: whoever has the key sets the address and the password."""
+        """Answers get_passwd.php: whoever has the key sets the address and the password."""
         has_method(environ, "GET", "HEAD", "POST")
         if environ["REQUEST_METHOD"] != "POST":
             return self._password_form(Form())
@@ -231,7 +232,7 @@ class AccountPages:
         )
 
     def _password_form(self, sent: Form) -> Answer:
-        """The page that asks for a new password."""
+        """Returns the page that asks for a new password."""
         email = replace(EMAIL, value=sent.text("email"))
         key = replace(KEY, value=sent.text("key"))
         return page(
@@ -245,14 +246,14 @@ class AccountPages:
         )
 
     def terms(self, environ: Environ) -> Answer:
-        """The terms of use."""
+        """Returns the page with the terms of use."""
         has_method(environ, "GET", "HEAD")
         terms = (self.settings.accounts.terms if self.settings.accounts else None) or "There are none."
         return page(f"{self.settings.name}: terms of use", paragraphs(terms), links=BACK)
 
 
 def hosts_markup(hosts: list[HostStatus], with_results: bool) -> list[Markup]:
-    """The hosts of an account with their credit, and with their results where these are known."""
+    """Returns the hosts of an account with their credit, and with their results if these are known."""
     if not hosts:
         return [element("p", "None of your computers has called yet.")]
     header = ["computer", "called last (UTC)", "credit"]

@@ -1,9 +1,9 @@
-"""Accounts that volunteers make: checks, limits, and the way of an account into bsched.
+"""Accounts that volunteers make: checks, limits, and the import into bsched.
 
-An account exists in bsched before its key is told to anyone, and once. First its row is on the disk, with its
-key and the name of an import. Then the import is sent; an import of one name counts once, so it is sent again
-with the same bytes until an answer comes: by the next message about the account, or by the resending of open
-messages. Then the key is told.
+bsched has an account, exactly once, before anybody gets its key. First the bridge writes the account's row to
+the disk, with its key and the name of an import. Then it sends the import. bsched counts an import of one
+name once, so the bridge sends the same bytes again until an answer comes. The next message about the account
+does that, or the resending of open messages. Only then does the client get the key.
 """
 import logging
 import re
@@ -23,10 +23,10 @@ from .settings import AccountSettings
 from .words import WORD, cut_to_bytes, shown_key
 
 HOUR, DAY = 3600, 86400
-MOST_WRONG_PASSWORDS = 10  # an hour, of each client address and of each e-mail address
+MOST_WRONG_PASSWORDS = 10  # in an hour, for each client address and for each e-mail address
 MOST_NAME = 64  # bytes
 MOST_EMAIL = 254  # characters
-# what the Manager takes for an e-mail address; its wizard never ends if the project says that this is none
+# what the Manager accepts as an e-mail address; its wizard never ends if the project refuses such an address
 MANAGER_EMAIL = re.compile(r"[^@]+@[^@.]+\.[^@]{2,}")
 NO_EMAIL = re.compile(r"[\s\x00-\x1f\x7f\ufffd]")
 NO_NAME = re.compile("[\\s\x00-\x1f\x7f-\x9f\ufffd]+")
@@ -37,9 +37,10 @@ log = logging.getLogger(__name__)
 
 
 class Fault(Enum):
-    """Why a message about an account comes to nothing: BOINC's number for clients, and a text for people.
+    """Why a message about an account fails: BOINC's number for clients, and a text for people.
 
-    The Manager's wizard never ends with some other numbers, or with -205 for what it takes for an address.
+    With some other numbers the Manager's wizard never ends. Nor does it with -205 for an address that the
+    Manager accepts.
     """
 
     WRONG = -155, "No account has this e-mail address and password."
@@ -73,7 +74,7 @@ class Fault(Enum):
 
 
 class AccountFault(Exception):
-    """A message about an account comes to nothing."""
+    """Raised if a message about an account fails."""
 
     def __init__(self, fault: Fault) -> None:
         super().__init__(fault.text)
@@ -81,28 +82,28 @@ class AccountFault(Exception):
 
 
 def is_email(email: str) -> bool:
-    """Whether a text is an e-mail address, as far as can be seen."""
+    """Returns whether a text looks like an e-mail address."""
     return bool(MANAGER_EMAIL.fullmatch(email)) and not NO_EMAIL.search(email) and len(email) <= MOST_EMAIL
 
 
 def clean_name(name: str) -> str:
-    """A name as bsched takes it, on one line; it may be empty."""
+    """Returns a name in the form that bsched accepts, on one line. It may be empty."""
     return cut_to_bytes(NO_NAME.sub(" ", name).strip(), MOST_NAME).strip()
 
 
 def made_name() -> str:
-    """A name that tells nothing of a volunteer."""
+    """Returns a name that says nothing about the volunteer."""
     return f"volunteer-{secrets.randbelow(10**6):06}"
 
 
 def account_import(member: Member) -> bytes:
-    """The import of an account. It is made of its row alone, so that it is always the same."""
+    """Returns the import of an account. It follows from the account's row alone, so it is always the same."""
     name = member.name.replace('"', '""')
     return f'authenticator,name\n{member.authenticator},"{name}"\n'.encode()
 
 
 class Accounts:
-    """Who makes accounts and finds them."""
+    """Makes accounts and finds them."""
 
     def __init__(
         self,
@@ -123,7 +124,9 @@ class Accounts:
     # ---- What clients ask for
 
     def create(self, email: str, told: str, name: str, has_consent: bool, client: str) -> Member:
-        """A new account, or the one that the address has, if the password is right."""
+        """Returns a new account. If the address has one already and the password is right, it returns that
+        one.
+        """
         if not MANAGER_EMAIL.fullmatch(email):
             raise AccountFault(Fault.NO_ADDRESS)
         if not is_email(email):
@@ -139,7 +142,7 @@ class Accounts:
             return self._finished(member)
 
     def look_up(self, email: str, told: str, client: str) -> Member:
-        """The account with an address and a password."""
+        """Returns the account with this address and password."""
         if not is_email(email) or not is_client_hash(told, email):
             raise AccountFault(Fault.WRONG)
         with self._at_work(email):
@@ -150,8 +153,8 @@ class Accounts:
 
     @contextmanager
     def _at_work(self, email: str) -> Iterator[None]:
-        """Has an address to itself. Few messages may be at this at once, so that calls of clients find a
-        thread.
+        """Holds an address for the block. Only a few messages may do so at once, so that clients' calls still
+        find a free thread.
         """
         if not self._places.acquire(blocking=False):
             raise AccountFault(Fault.TOO_BUSY)
@@ -164,12 +167,12 @@ class Accounts:
             self._places.release()
 
     def of_key(self, authenticator: str) -> Member | None:
-        """The account with a key, if the bridge knows it and bsched has it."""
+        """Returns the account with a key, if the bridge knows it and bsched has it."""
         member = self.members.of_key(authenticator) if WORD.fullmatch(authenticator) else None
         return member if member is not None and member.is_imported else None
 
     def has_password(self, authenticator: str, email: str, told: str, client: str) -> Member:
-        """The owner of a key chose an address and a password."""
+        """Sets the address and the password of an account, and returns it. The owner sends the key."""
         member = self.of_owner(authenticator, client)
         with self._at_work(email):
             try:
@@ -179,7 +182,7 @@ class Accounts:
         return member
 
     def of_owner(self, authenticator: str, client: str) -> Member:
-        """The account with a key that somebody tells; too many wrong ones are refused."""
+        """Returns the account with a key that somebody sends. After too many wrong keys it refuses."""
         if not self._wrong.take(("client", client)):
             raise AccountFault(Fault.TOO_MANY)
         member = self.of_key(authenticator)
@@ -189,7 +192,9 @@ class Accounts:
         return member
 
     def _is_right(self, email: str, told: str, member: Member | None, client: str) -> bool:
-        """Whether a password is that of an account. Wrong ones count, for the client and for the address."""
+        """Returns whether a password is that of an account. Wrong ones are counted for the client and for the
+        address.
+        """
         keys = ("client", client), ("email", email)
         taken = [key for key in keys if self._wrong.take(key)]
         is_wrong = False
@@ -206,7 +211,7 @@ class Accounts:
     # ---- A new account
 
     def _made(self, email: str, told: str, name: str, has_consent: bool, client: str) -> Member:
-        """A new account, within the limits."""
+        """Makes a new account, within the limits."""
         if self.settings.terms is not None and not has_consent:
             raise AccountFault(Fault.NO_CONSENT)
         if not self._new.take(client):
@@ -224,11 +229,11 @@ class Accounts:
                 self._new.give_back(client)
 
     def _new_row(self, email: str, told: str, name: str, has_consent: bool) -> Member:
-        """The row of a new account, within the limit of a day."""
+        """Inserts the row of a new account, within the limit for a day."""
         chosen = (clean_name(name) if self.settings.is_name_told else "") or made_name()
         now, most = int(time.time()), self.settings.most_a_day
         try:
-            if self.members.is_day_full(now, most):  # before the work of a hash; the row is counted once more
+            if self.members.is_day_full(now, most):  # checked before the costly hash; insert counts again
                 raise DayIsFull
             return self.members.insert(email, self.passwords.new_secret(told), chosen, has_consent, now, most)
         except DayIsFull:
@@ -236,7 +241,9 @@ class Accounts:
             raise AccountFault(Fault.DAY_FULL) from None
 
     def _finished(self, member: Member) -> Member:
-        """The account, once bsched has it; where that is not known, no key is told."""
+        """Returns the account once bsched has it. If that is not known, it raises a fault, so nobody gets the
+        key.
+        """
         if member.is_imported:
             return member
         try:
@@ -251,7 +258,7 @@ class Accounts:
         return member
 
     def _import(self, member: Member) -> None:
-        """Imports an account. It may have been imported before; then nothing changes."""
+        """Imports an account. If it was imported before, nothing changes."""
         answer: Refusal | None = None
         for _ in range(IMPORT_ATTEMPTS):
             assert member.batch is not None
@@ -278,7 +285,8 @@ class Accounts:
     # ---- What is sent again
 
     def resend_open(self) -> None:
-        """Sends each import that got no answer again; raises NoAnswer at the first that gets none again."""
+        """Sends every import again that got no answer. Raises NoAnswer at the first one that gets none again.
+        """
         for member in self.members.open_ones():
             try:
                 with self._locks.held(member.email):
@@ -286,11 +294,11 @@ class Accounts:
                     if again is not None and not again.is_imported:
                         self._import(again)
             except (AccountFault, Busy):
-                continue  # it was refused, or somebody is at it
+                continue  # the import was refused, or another message holds the address
 
     def is_imported_again(self, authenticator: str) -> bool:
-        """Imports an account that bsched does not know any more, as where its tables were put back to an
-        older copy.
+        """Imports an account again that bsched no longer knows, for example after its tables were restored
+        from an older copy. Returns whether bsched has it now.
         """
         member = self.members.of_key(authenticator)
         if member is None or member.batch is None:

@@ -1,4 +1,4 @@
-"""The WSGI application: which URL is answered by what."""
+"""The WSGI application: it chooses the handler for each URL."""
 import logging
 import re
 from collections.abc import Callable, Iterable
@@ -37,7 +37,7 @@ from .settings import HostRules, Settings, read_settings
 from .state_file import StateFile
 from .statements import Statements
 
-# up to the end of a file, as a client asks that goes on with a download
+# from a byte to the end of the file: a client asks so when it resumes a download
 REST_OF_FILE = re.compile(r"bytes=([0-9]{1,18})-")
 BLOCK = 65536
 
@@ -47,7 +47,7 @@ Handler = Callable[[Environ], Answer]
 
 
 class Application:
-    """What stands between clients and bsched."""
+    """The application between clients and bsched."""
 
     def __init__(
         self, settings: Settings, catalogue: Catalogue, file: StateFile, scheduler: Scheduler,
@@ -71,7 +71,7 @@ class Application:
         self._handlers = self._new_handlers()
 
     def _new_handlers(self) -> dict[str, Handler]:
-        """What answers each path below the master URL."""
+        """Returns the handler for each path below the master URL."""
         messages = AccountMessages(self.settings, self.accounts, self.scheduler)
         handlers: dict[str, Handler] = {
             "": self._master_page,
@@ -116,27 +116,29 @@ class Application:
     # ---- Pages
 
     def _master_page(self, environ: Environ) -> Answer:
-        """The page at the master URL."""
+        """Returns the page at the master URL."""
         has_method(environ, "GET", "HEAD")
         return pages.master_page(self.settings)
 
     def _project_config(self, environ: Environ) -> Answer:
-        """What a client asks for before it attaches."""
+        """Returns what a client asks for before it attaches."""
         has_method(environ, "GET", "HEAD")
         return Answer(XML, project_config(self.settings, self.catalogue))
 
     def _status(self, environ: Environ) -> Answer:
-        """How the project stands."""
+        """Returns the page with the project's status."""
         has_method(environ, "GET", "HEAD")
         return pages.status_page(self.settings, self.statements.status(), environ)
 
     def _no_passwords(self, environ: Environ) -> Answer:
-        """What the Manager's "Forgot your password?" leads to where only the operator makes accounts."""
+        """Returns the page that the Manager's "Forgot your password?" opens, if only the operator makes
+        accounts.
+        """
         has_method(environ, "GET", "HEAD")
         return pages.no_passwords_page(self.settings)
 
     def _scheduler(self, environ: Environ) -> Answer:
-        """A scheduler_request: the client gets a scheduler_reply in any case."""
+        """Answers a scheduler_request. The client always gets a scheduler_reply."""
         has_method(environ, "POST")
         body = body_of(environ)
         try:
@@ -146,12 +148,12 @@ class Application:
         reply = self.exchange.answer(request)
         if isinstance(reply, PutOff):
             return Answer(XML, self.writer.put_off(reply))
-        member = self.members.of_key(request.authenticator)  # its user may have chosen another name
+        member = self.members.of_key(request.authenticator)  # the user may have chosen another name
         reply = reply if member is None else replace(reply, user_name=member.name)
         return Answer(XML, self.writer.reply(request, reply))
 
     def _download(self, environ: Environ, start_response: StartResponse, name: str) -> Iterable[bytes]:
-        """A file, or the rest of it from some byte on."""
+        """Sends a file, or the rest of it from a byte on."""
         has_method(environ, "GET", "HEAD")
         try:
             file = self.catalogue.folder.path_of(name).open("rb")
@@ -176,8 +178,8 @@ class Application:
 
 
 def new_application(path: Path) -> Application:
-    """The application of a settings file, with its state file, and with open messages sent again
-    beside it.
+    """Returns the application of a settings file, with its state file. A thread sends open messages again in
+    the background.
     """
     settings = read_settings(path)
     if settings.is_without_addresses:
@@ -192,5 +194,7 @@ def new_application(path: Path) -> Application:
 
 
 def served(path: str) -> Application:
-    """The application of a settings file, for a WSGI server that is told what to call."""
+    """Returns the application of a settings file, for a WSGI server that takes the name of a function to
+    call.
+    """
     return new_application(Path(path))

@@ -1,7 +1,7 @@
-"""Credit of earlier files of a project: it is added to what replies tell.
+"""Credit from earlier files of a project, which is added to the credit in replies.
 
-A project whose file is full begins a further one with the same accounts (docs/OPERATING.md, "More than
-200,000 workunits"). The earlier files are archives, which nobody writes any more.
+If the file of a project is full, the project starts another one with the same accounts (docs/OPERATING.md,
+"More than 200,000 workunits"). The earlier files are archives. Nobody writes them any more.
 """
 import sqlite3
 from collections import Counter
@@ -26,7 +26,7 @@ class Archives:
     users: Counter[str] = field(default_factory=Counter)
 
     def added_to(self, key: Key, reply: Reply) -> Reply:
-        """A reply to a host, with the credit of archives."""
+        """Returns the reply to a host with the credit of the archives added."""
         user, host = self.users[key.authenticator], self.hosts[key]
         return replace(
             reply,
@@ -36,7 +36,7 @@ class Archives:
 
 
 def read_archives(paths: Iterable[Path]) -> Archives:
-    """The credit in some archives, as they are when the bridge starts."""
+    """Reads the credit in some archives, once, when the bridge starts."""
     archives = Archives()
     for path in paths:
         mode = "mode=ro" if path.with_name(f"{path.name}-wal").exists() else "mode=ro&immutable=1"

@@ -12,18 +12,18 @@ _written = json.JSONEncoder(ensure_ascii=False, separators=(",", ":")).encode
 
 
 def written_length(value: object) -> int:
-    """How many bytes a value takes in a list."""
+    """Returns how many bytes a value takes in a list."""
     return len(_written(value).encode()) + COMMA
 
 
 def told_report(report: Report) -> dict[str, object]:
-    """A report as the profile has it."""
+    """Returns a report as the profile writes it."""
     return {"name": report.name, "exit_status": report.exit_status, "output": report.output}
 
 
 def reports_that_fit(request: ClientRequest, room: int, by_name: bool) -> int:
-    """How many reports, from the first on, go into so many bytes. The others are told by their names, where
-    names are told.
+    """Returns how many reports, from the first on, fit into this many bytes. With by_name the others still
+    need room for their names.
     """
     names = [written_length(report.name) if by_name else 0 for report in request.results]
     room -= sum(names)
@@ -37,12 +37,12 @@ def reports_that_fit(request: ClientRequest, room: int, by_name: bool) -> int:
 def call_text(
     request: ClientRequest, host_cpid: str, number: int, in_hand: list[str], seconds_in_hand: int
 ) -> bytes:
-    """The call of a request, under a number of the bridge's own.
+    """Returns the text of a call for a request, under the bridge's own number.
 
-    The names in hand are those of jobs that the bridge has for the client: they are told as if the client had
-    them, and their seconds count as received. What the profile has no room for is put off: results beyond the
-    first ones are told by their names, so that they don't count as lost, and all names are left out where
-    they are too many, or leave no room for a single report.
+    The names in hand are those of jobs that the bridge has for the client. They are listed as if the client
+    had them, and their seconds count as received. What the profile has no room for is put off. Reports that
+    don't fit are listed by their names, so that they don't count as lost. If there are too many names, or
+    they leave no room for a single report, all names are left out.
     """
     record = {
         "authenticator": request.authenticator,

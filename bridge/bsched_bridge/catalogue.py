@@ -1,7 +1,7 @@
 """The catalogue: what a client needs for its jobs and the profile does not carry.
 
-It tells, for each application, the command line and the input files of its workunits, and for each version
-its files. The file is TOML, written by the operator, and looked at when the bridge starts.
+For each application it has the command line and the input files of its workunits, and for each version its
+files. The operator writes it in TOML. The bridge checks it when it starts.
 """
 import re
 import threading
@@ -15,7 +15,7 @@ from .operator_files import Entry, OperatorFile
 from .words import NO_XML
 
 FILE_NAME = re.compile(r"[A-Za-z0-9_][A-Za-z0-9_.+-]{0,127}")
-# stands for the name of the workunit, in what an application tells for all of its workunits
+# a placeholder for the workunit's name, in what an application says for all its workunits
 WORKUNIT = "{workunit}"
 
 
@@ -35,7 +35,7 @@ class VersionFile:
     file: StoredFile
     signature: str
     is_main_program: bool
-    open_name: str | None  # the name under which the program opens it, where it is another
+    open_name: str | None  # the name under which the program opens it, if it is another one
 
 
 @dataclass(frozen=True, slots=True)
@@ -58,13 +58,13 @@ class InputFile:
 
 @dataclass(frozen=True, slots=True)
 class Work:
-    """What a client is told of a workunit."""
+    """The command line and the input files of a workunit."""
 
     command_line: str
     input_files: tuple[InputFile, ...]
 
     def of(self, workunit: str) -> "Work":
-        """The same for one workunit of an application."""
+        """Returns the same for one workunit, with its name in place of the placeholder."""
         files = tuple(
             InputFile(file.name.replace(WORKUNIT, workunit), file.open_name) for file in self.input_files
         )
@@ -79,12 +79,12 @@ class App:
     title: str
     rsc_memory_bound: int  # bytes
     rsc_disk_bound: int  # bytes; the client ends a job that uses more
-    fpops_bound_factor: int  # the client ends a job that takes so many times its estimate
+    fpops_bound_factor: int  # the client ends a job that takes this many times its estimate
     work: Work
 
 
 class MissingFile(Exception):
-    """A file that should be there is not, or can't be read."""
+    """Raised if a file is missing or can't be read."""
 
 
 class FileFolder:
@@ -96,14 +96,16 @@ class FileFolder:
         self._lock = threading.Lock()
 
     def path_of(self, name: str) -> Path:
-        """Where the file of a name lies, if it is one."""
+        """Returns the path of the file with this name, if there is one."""
         path = self.path / name
         if not FILE_NAME.fullmatch(name) or not path.is_file():
             raise MissingFile(name)
         return path
 
     def stored(self, name: str) -> StoredFile:
-        """A file with its size and MD5. The MD5 is made once for a file, and again where it was changed."""
+        """Returns a file with its size and MD5. The MD5 is computed once for a file, and again after the file
+        was changed.
+        """
         path = self.path_of(name)
         try:
             status = path.stat()
@@ -121,16 +123,16 @@ class FileFolder:
 
 @dataclass(frozen=True, slots=True)
 class Catalogue:
-    """What the catalogue file tells."""
+    """What the catalogue file says."""
 
     code_sign_key: str
     folder: FileFolder
     apps: dict[str, App]
     versions: dict[tuple[str, str, int], Version]
-    works: dict[str, Work] = field(default_factory=dict)  # of the workunits that have an entry of their own
+    works: dict[str, Work] = field(default_factory=dict)  # of the workunits that have their own entry
 
     def work(self, app: App, workunit: str) -> Work:
-        """The command line and the input files of a workunit."""
+        """Returns the command line and the input files of a workunit."""
         own = self.works.get(workunit)
         return app.work.of(workunit) if own is None else own
 
@@ -139,7 +141,7 @@ class Catalogue:
 
 
 def file_name(entry: Entry, member: str, with_workunit: bool = False) -> str:
-    """A name of a file: in it there is no slash, and it does not begin with a point."""
+    """Returns a file name from a member. A file name has no slash, and does not begin with a dot."""
     name = entry.text(member)
     plain = name.replace(WORKUNIT, "w") if with_workunit else name
     if not FILE_NAME.fullmatch(plain):
@@ -150,8 +152,8 @@ def file_name(entry: Entry, member: str, with_workunit: bool = False) -> str:
 
 
 def read_work(entry: Entry, folder: FileFolder, of_app: bool) -> Work:
-    """The command line and the input files that an entry tells. Files that are named in full have to be
-    there.
+    """Reads the command line and the input files of an entry. A file whose name has no placeholder must
+    exist.
     """
     command_line = entry.text("command_line", "")
     if (
@@ -178,7 +180,7 @@ def read_work(entry: Entry, folder: FileFolder, of_app: bool) -> Work:
 
 
 def read_app(entry: Entry, folder: FileFolder) -> App:
-    """An application."""
+    """Reads an application."""
     name = entry.word("name")
     title = entry.text("title", name)
     if not title or not title.isprintable():
@@ -196,7 +198,7 @@ def read_app(entry: Entry, folder: FileFolder) -> App:
 
 
 def read_version_file(entry: Entry, folder: FileFolder, key: rsa.RSAPublicKey) -> VersionFile:
-    """A file of a version; its signature has to be that of the key."""
+    """Reads a file of a version. Its signature must be by this key."""
     name = file_name(entry, "name")
     try:
         file = folder.stored(name)
@@ -216,7 +218,7 @@ def read_version_file(entry: Entry, folder: FileFolder, key: rsa.RSAPublicKey) -
 
 
 def read_version(entry: Entry, apps: dict[str, App], folder: FileFolder, key: rsa.RSAPublicKey) -> Version:
-    """A version."""
+    """Reads a version."""
     app, platform = entry.word("app"), entry.word("platform")
     if app not in apps:
         entry.fault(f"there is no application {app}", "app")
@@ -229,7 +231,7 @@ def read_version(entry: Entry, apps: dict[str, App], folder: FileFolder, key: rs
 
 
 def read_key(file: Entry) -> tuple[str, rsa.RSAPublicKey]:
-    """The code signing key, as text and as a key."""
+    """Reads the code signing key, as text and as a key."""
     path = file.existing("code_sign_key")
     try:
         text = path.read_text(encoding="ascii")
@@ -241,7 +243,7 @@ def read_key(file: Entry) -> tuple[str, rsa.RSAPublicKey]:
 
 
 def read_catalogue(path: Path) -> Catalogue:
-    """The catalogue of a file; paths in it are relative to its folder."""
+    """Reads the catalogue from a file. Paths in it are relative to its folder."""
     file = OperatorFile(path)
     text, key = read_key(file)
     folder = FileFolder(file.existing("files"))
@@ -249,7 +251,7 @@ def read_catalogue(path: Path) -> Catalogue:
     lines: dict[object, int] = {}
 
     def once(entry: Entry, what: str, name: object) -> None:
-        """A name may stand once."""
+        """Refuses a name that was used before."""
         if (what, name) in lines:
             entry.fault(f"this {what} stands on line {lines[what, name]} already")
         lines[what, name] = entry.line()

@@ -1,6 +1,6 @@
 """The XML of a scheduler_reply (BOINC's documentation, "Scheduler RPC protocol").
 
-Elements that say yes are written `<x>1</x>`: the client reads that as it reads `<x/>`.
+An element that means yes is written `<x>1</x>`. The client reads that as it reads `<x/>`.
 """
 import logging
 from xml.etree.ElementTree import Element, SubElement, indent, tostring
@@ -11,11 +11,11 @@ from .exchange import PutOff
 from .scheduler import Job, Reply
 from .words import xml_text
 
-SCHEDULER_VERSION = 720  # the version of BOINC's scheduler whose replies these are like
+SCHEDULER_VERSION = 720  # the version of BOINC's scheduler that these replies imitate
 MILLICREDITS = 1000
 KEY_CHANGED = "The project has changed its code signing key. To fix this, remove and add this project."
 
-# what a volunteer is told who asked for work and got none, by the end word of the reply
+# what a volunteer reads who asked for work and got none, by the end word of the reply
 NO_JOBS = {
     "enough": "Project has no tasks available",
     "reply_limit": "Project has no tasks available",
@@ -40,20 +40,20 @@ def add_message(parent: Element, text: str, priority: str) -> None:
 
 
 def written(root: Element) -> bytes:
-    """The text of an element."""
+    """Returns the text of an element."""
     indent(root, "    ")
     text: bytes = tostring(root, encoding="utf-8", xml_declaration=False, short_empty_elements=False)
     return text + b"\n"
 
 
 class ReplyWriter:
-    """Who writes replies for a project."""
+    """Writes the replies of a project."""
 
     def __init__(self, catalogue: Catalogue, name: str, url: str) -> None:
         self.catalogue, self.name, self.url = catalogue, name, url
 
     def _begun(self, delay: int) -> Element:
-        """What each reply begins with."""
+        """Returns what each reply begins with."""
         root = Element("scheduler_reply")
         add(root, "scheduler_version", SCHEDULER_VERSION)
         add(root, "master_url", self.url)
@@ -62,7 +62,7 @@ class ReplyWriter:
         return root
 
     def put_off(self, put: PutOff) -> bytes:
-        """The reply to a request that is put off. It acknowledges nothing, so the client loses nothing."""
+        """Returns the reply that puts a request off. It acknowledges nothing, so the client loses nothing."""
         root = self._begun(put.delay)
         add_message(root, put.message, put.priority)
         if put.is_down:
@@ -70,8 +70,8 @@ class ReplyWriter:
         return written(root)
 
     def reply(self, request: ClientRequest, reply: Reply) -> bytes:
-        """The reply to a request. A client that has a hostid would take another for a sign that it was
-        copied.
+        """Returns the reply to a request. It has a hostid only if the client has none yet: a client with
+        another hostid would take itself for a copy.
         """
         root = self._begun(reply.request_delay)
         add(root, "user_name", reply.user_name)
@@ -89,8 +89,8 @@ class ReplyWriter:
         return written(root)
 
     def _add_key(self, root: Element, has: str) -> None:
-        """Adds the code signing key for a client that has none: one that has a key takes it for a change of
-        the key.
+        """Adds the code signing key if the client has none. A client that has a key would take it for a
+        change of the key.
         """
         if not has:
             add(root, "code_sign_key", "\n" + self.catalogue.code_sign_key)
@@ -100,7 +100,7 @@ class ReplyWriter:
     # ---- Jobs
 
     def _add_jobs(self, root: Element, request: ClientRequest, jobs: list[Job]) -> None:
-        """Adds the jobs with all that they need, each application, version and file once."""
+        """Adds the jobs with all that they need. Each application, version and file is added once."""
         apps: dict[str, App] = {}
         versions: dict[tuple[str, str, int], Version] = {}
         files: Files = {}
@@ -109,7 +109,7 @@ class ReplyWriter:
             try:
                 sent.append((job, *self._needs(job, apps, versions, files)))
             except MissingFile as missing:
-                # without an entry in the client's next list of what it has, it comes again
+                # the client's next list does not have the job, so it is sent again
                 log.error(
                     "job %s is not handed on: %s is not in the catalogue or not there", job.name, missing
                 )
@@ -131,7 +131,9 @@ class ReplyWriter:
     def _needs(
         self, job: Job, apps: dict[str, App], versions: dict[tuple[str, str, int], Version], files: Files
     ) -> tuple[App, Work]:
-        """The application of a job and its work; what it needs is put to what is told already."""
+        """Returns the application of a job and its work. What the job needs is added to apps, versions and
+        files.
+        """
         key = job.app_name, job.platform, job.version_num
         app, version = self.catalogue.apps.get(job.app_name), self.catalogue.versions.get(key)
         if app is None or version is None:
@@ -164,7 +166,9 @@ class ReplyWriter:
         add(element, "md5_cksum", file.md5)
 
     def _add_version(self, root: Element, version: Version, request: ClientRequest) -> None:
-        """Adds a version; its speed is the one that the client told, so that both reckon alike."""
+        """Adds a version. Its speed is the one that the client reported, so that the client and bsched
+        estimate alike.
+        """
         element = SubElement(root, "app_version")
         add(element, "app_name", version.app)
         add(element, "version_num", version.number)
@@ -181,7 +185,7 @@ class ReplyWriter:
                 add(reference, "main_program", 1)
 
     def _add_workunit(self, root: Element, job: Job, app: App, work: Work, request: ClientRequest) -> None:
-        """Adds a workunit. Its operations are those of bsched's estimate for this client, to a second."""
+        """Adds a workunit. Its operations give bsched's estimate on this client, to the second."""
         element = SubElement(root, "workunit")
         operations = job.estimate * request.p_fpops
         add(element, "name", job.wu_name)

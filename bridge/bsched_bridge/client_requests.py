@@ -1,8 +1,8 @@
 """What the XML of a scheduler_request says (BOINC's documentation, "Scheduler RPC protocol").
 
-The elements become what the profile takes, as the table in 'Writing a bridge' of docs/PROFILE.md has it:
-decimals become whole numbers, and what is longer than the profile takes is cut. XML is read by defusedxml,
-which refuses entities and document types.
+The elements become what the profile accepts, by the table in 'Writing a bridge' of docs/PROFILE.md. Decimals
+become whole numbers, and what is longer than the profile allows is cut. defusedxml reads the XML, and refuses
+entities and document types.
 """
 import re
 from dataclasses import dataclass
@@ -13,8 +13,8 @@ from defusedxml import DefusedXmlException, ElementTree  # type: ignore[import]
 
 from .words import cut_to_bytes, is_word, xml_text
 
-MOST_BYTES = 16 * 1024 * 1024  # of a request; a result brings at most 64 KB of standard error
-MOST_TAGS = 800_000  # at the begin and the end of elements: so many elements take some 40 MB
+MOST_BYTES = 16 * 1024 * 1024  # of a request; a result has at most 64 KB of standard error
+MOST_TAGS = 800_000  # start tags and end tags; this many elements take some 40 MB
 MOST_NUMBER = 10**18
 MOST_SECONDS = 10**9
 MOST_PLATFORMS = 7
@@ -22,20 +22,20 @@ MOST_OUTPUT = 1024
 MOST_NAME = 254
 FINISHED = 5  # the client's state of a result that ended well (RESULT_FILES_UPLOADED)
 LEAST_STATUS, MOST_STATUS = -(2**31), 2**31 - 1
-WITHOUT_STATUS = 1  # the exit status that is told of a result that did not end well, and has none
+WITHOUT_STATUS = 1  # the exit status that is reported if a result did not end well and has none
 
-# The client puts what a program wrote to its standard error between these, and lines of its own before them.
-# It stands in a section CDATA as it was written, but for bytes beyond ASCII: each is written as the reference
-# of a character.
+# The client puts what a program wrote to its standard error between these tags, after lines of its own. The
+# text is in a CDATA section, as it was written. Only bytes beyond ASCII are changed: each is written as a
+# character reference.
 STANDARD_ERROR = re.compile(r"<stderr_txt>(.*)</stderr_txt>", re.DOTALL)
 BYTE = re.compile(rb"&#(12[89]|1[3-9][0-9]|2[0-4][0-9]|25[0-5]);")
 SECTION_BEGINS, SECTION_ENDS, ERROR_ENDS = "<![CDATA[", "]]>", "</stderr_out>"
-# A program may mark its answer, where something else writes to its standard error too.
+# A program may mark its answer, in case something else writes to its standard error too.
 ANSWER = re.compile(r"<answer>(.*?)</answer>", re.DOTALL)
 
 
 class RequestFault(Exception):
-    """A request can't be read; its text tells a volunteer why."""
+    """Raised if a request can't be read. The text tells a volunteer why."""
 
 
 @dataclass(frozen=True, slots=True)
@@ -60,9 +60,9 @@ class ClientRequest:
     platform_name: str
     alt_platforms: tuple[str, ...]
     work_req_seconds: int
-    other_results: tuple[str, ...] | None  # None where the client tells nothing of what it has
+    other_results: tuple[str, ...] | None  # None if the client does not say what it has
     results: tuple[Report, ...]
-    # the key that the client has, without blanks and ends of lines; empty where it has none
+    # the key that the client has, without blanks and line ends; empty if it has none
     code_sign_key: str
 
 
@@ -70,13 +70,15 @@ class ClientRequest:
 
 
 def text_of(parent: Element, path: str) -> str | None:
-    """The text of the last element at a path, without blanks around it; none where no element stands."""
+    """Returns the text of the last element at a path, without blanks around it. If there is no such element,
+    returns None.
+    """
     found = parent.findall(path)
     return (found[-1].text or "").strip() if found else None
 
 
 def decimal_of(parent: Element, path: str) -> Decimal | None:
-    """The decimal number of an element; none where it is absent."""
+    """Returns the decimal number of an element, or None if there is no such element."""
     text = text_of(parent, path)
     if text is None:
         return None
@@ -90,7 +92,9 @@ def decimal_of(parent: Element, path: str) -> Decimal | None:
 
 
 def whole_of(parent: Element, path: str, least: int, most: int, absent: int, up: bool = False) -> int:
-    """The whole number of an element, rounded down or up, and the nearest one within a range."""
+    """Returns the whole number of an element, rounded down or up. A number outside the range becomes its
+    nearest bound.
+    """
     number = decimal_of(parent, path)
     if number is None:
         return absent
@@ -103,7 +107,7 @@ def whole_of(parent: Element, path: str, least: int, most: int, absent: int, up:
 
 
 def word_of(parent: Element, path: str) -> str:
-    """The word of an element that has to stand."""
+    """Returns the word of an element, which must exist."""
     word = text_of(parent, path)
     if word is None or not is_word(word):
         raise RequestFault(f"{path} is missing, or is not 1 to 64 letters, digits, '_', '-' and '.'")
@@ -111,7 +115,7 @@ def word_of(parent: Element, path: str) -> str:
 
 
 def is_result_name(name: str | None) -> bool:
-    """Whether a text can be told as the name of a result."""
+    """Returns whether a text can be the name of a result in a call."""
     return name is not None and 1 <= len(name.encode()) <= MOST_NAME
 
 
@@ -119,8 +123,8 @@ def is_result_name(name: str | None) -> bool:
 
 
 def with_whole_sections(text: str) -> str:
-    """The text of a request in which no standard error ends its section: the client does not look whether
-    `]]>` stands in it.
+    """Returns the text of a request with each `]]>` inside a standard error split over two sections. The
+    client does not check for it.
     """
     parts = text.split(ERROR_ENDS)
     for index, part in enumerate(parts):
@@ -133,13 +137,13 @@ def with_whole_sections(text: str) -> str:
 
 
 def with_bytes(text: str) -> str:
-    """A standard error with its bytes beyond ASCII; where these are no UTF-8 they are replaced."""
+    """Returns a standard error with its bytes beyond ASCII. Bytes that are not UTF-8 are replaced."""
     return BYTE.sub(lambda told: bytes([int(told[1])]), text.encode()).decode(errors="replace")
 
 
 def output_of(result: Element) -> str:
-    """What a program wrote to its standard error, without blanks around it, or what it marked of that as its
-    answer.
+    """Returns what a program wrote to its standard error, without blanks around it. If the program marked an
+    answer in it, only that is returned.
     """
     told = result.find("stderr_out")
     if told is None:
@@ -153,7 +157,7 @@ def output_of(result: Element) -> str:
 
 
 def report_of(result: Element) -> Report | None:
-    """The report of a finished result; none where its name can't be one."""
+    """Returns the report of a finished result, or None if its name can't be a result's name."""
     name = text_of(result, "name")
     if name is None or not is_result_name(name):
         return None
@@ -168,10 +172,10 @@ def report_of(result: Element) -> Report | None:
 
 
 def element_of(body: bytes) -> Element:
-    """The element of a request.
+    """Returns the element of a request.
 
-    What a program wrote to its standard error may have characters that XML has no place for, and `]]>`; the
-    client sends it as it is, so these are replaced before the XML is read.
+    What a program wrote to its standard error may have `]]>`, or characters that XML does not allow. The
+    client sends it as it is, so both are replaced before the XML is read.
     """
     if len(body) > MOST_BYTES:
         raise RequestFault("the request is too long")
@@ -190,7 +194,7 @@ def element_of(body: bytes) -> Element:
 
 
 def read_request(body: bytes) -> ClientRequest:
-    """The request of a body; a RequestFault where it is none."""
+    """Reads the request from a body. Raises RequestFault if it is none."""
     root = element_of(body)
     has = root.find("other_results")
     other: tuple[str, ...] | None = None

@@ -1,10 +1,11 @@
 """Code signing as BOINC's client checks it (BOINC's documentation, "Code signing").
 
-A signature is RSA over the MD5 of a file: the 32 hexadecimal digits of the MD5, as text, are padded by PKCS
-#1 v1.5 (block type 1, with no name of a hash before them) and raised to the private exponent. Keys and
-signatures are written as hexadecimal digits, 32 bytes a line, with a line that is a point behind them. A key
-has one line before that, its bits. The client takes keys of at most 1024 bits: each of their numbers has 128
-bytes, those of a prime 64.
+A signature is RSA over the MD5 of a file. The 32 hexadecimal digits of the MD5, as text, are padded by PKCS
+#1 v1.5 (block type 1, with no name of a hash before them). The result is raised to the private exponent.
+
+Keys and signatures are written as hexadecimal digits, 32 bytes a line, followed by a line with a dot. A key
+begins with one more line, its number of bits. The client accepts keys of at most 1024 bits. A number of such
+a key has 128 bytes, one that belongs to a prime has 64.
 """
 import hashlib
 import os
@@ -22,11 +23,11 @@ HEXADECIMAL = re.compile(r"[0-9a-fA-F\s]*")
 
 
 class KeyFault(Exception):
-    """A text is no key, or no signature."""
+    """Raised if a text is no key or no signature."""
 
 
 def file_md5(path: Path) -> str:
-    """The MD5 of a file, as 32 hexadecimal digits."""
+    """Returns the MD5 of a file, as 32 hexadecimal digits."""
     with path.open("rb") as file:
         return hashlib.file_digest(file, lambda: hashlib.md5(usedforsecurity=False)).hexdigest()
 
@@ -35,13 +36,13 @@ def file_md5(path: Path) -> str:
 
 
 def hex_lines(data: bytes) -> str:
-    """Bytes as BOINC writes them: 32 a line, and a point behind the last."""
+    """Returns bytes as BOINC writes them: 32 a line, and a dot after the last line."""
     lines = [data[start:][:32].hex() for start in range(0, len(data), 32)]
     return "\n".join([*lines, ".\n"])
 
 
 def hex_bytes(text: str) -> bytes:
-    """The bytes of such a text; the point may be missing."""
+    """Returns the bytes of such a text. The dot may be missing."""
     digits = text.strip().removesuffix(".")
     if not HEXADECIMAL.fullmatch(digits):
         raise KeyFault("has something else than hexadecimal digits and a point behind them")
@@ -52,7 +53,7 @@ def hex_bytes(text: str) -> bytes:
 
 
 def key_bytes(text: str, length: int, kind: str) -> bytes:
-    """The bytes of a key of a kind, behind the line that tells its bits."""
+    """Returns the bytes of a key of a kind, which follow the line with its bits."""
     bits, _, rest = text.strip().partition("\n")
     if bits.strip() != str(BITS):
         raise KeyFault(f"its first line is not {BITS}, the bits of a key")
@@ -66,7 +67,7 @@ def key_bytes(text: str, length: int, kind: str) -> bytes:
 
 
 def numbers_of(data: bytes, lengths: list[int]) -> list[int]:
-    """The numbers that stand in bytes one behind the other, each with its length."""
+    """Returns numbers that are stored one after another, given the length of each."""
     numbers, start = [], 0
     for length in lengths:
         numbers.append(int.from_bytes(data[start:][:length], "big"))
@@ -75,7 +76,7 @@ def numbers_of(data: bytes, lengths: list[int]) -> list[int]:
 
 
 def public_key_text(key: rsa.RSAPublicKey) -> str:
-    """A public key: the modulus and the exponent."""
+    """Returns the text of a public key: the modulus and the exponent."""
     numbers = key.public_numbers()
     return f"{BITS}\n" + hex_lines(
         b"".join(number.to_bytes(NUMBER_BYTES, "big") for number in (numbers.n, numbers.e))
@@ -83,7 +84,7 @@ def public_key_text(key: rsa.RSAPublicKey) -> str:
 
 
 def read_public_key(text: str) -> rsa.RSAPublicKey:
-    """The public key of a text."""
+    """Reads a public key from its text."""
     modulus, exponent = numbers_of(key_bytes(text, PUBLIC_BYTES, "public"), [NUMBER_BYTES] * 2)
     try:
         return rsa.RSAPublicNumbers(exponent, modulus).public_key()
@@ -92,7 +93,9 @@ def read_public_key(text: str) -> rsa.RSAPublicKey:
 
 
 def private_key_text(key: rsa.RSAPrivateKey) -> str:
-    """A private key: modulus, both exponents, the primes, the exponents of these, and the coefficient."""
+    """Returns the text of a private key: modulus, both exponents, the primes, the exponents of these, and the
+    coefficient.
+    """
     private = key.private_numbers()
     public = private.public_numbers
     long = [public.n, public.e, private.d]
@@ -102,7 +105,7 @@ def private_key_text(key: rsa.RSAPrivateKey) -> str:
 
 
 def read_private_key(text: str) -> rsa.RSAPrivateKey:
-    """The private key of a text."""
+    """Reads a private key from its text."""
     lengths = [NUMBER_BYTES] * 3 + [PRIME_BYTES] * 5
     modulus, exponent, private, *primes = numbers_of(key_bytes(text, PRIVATE_BYTES, "private"), lengths)
     first, second, first_exponent, second_exponent, coefficient = primes
@@ -116,12 +119,12 @@ def read_private_key(text: str) -> rsa.RSAPrivateKey:
 
 
 def new_key() -> rsa.RSAPrivateKey:
-    """A new private key."""
+    """Returns a new private key."""
     return rsa.generate_private_key(public_exponent=65537, key_size=BITS)
 
 
 def write_new_keys(private_path: Path, public_path: Path) -> None:
-    """Writes a new pair of keys; nothing may stand there, and only the owner may read the private one."""
+    """Writes a new pair of keys. Neither file may exist, and only the owner may read the private one."""
     key = new_key()
     for path, text, mode in (
         (private_path, private_key_text(key), 0o600),
@@ -135,10 +138,10 @@ def write_new_keys(private_path: Path, public_path: Path) -> None:
 
 
 def signature_text(md5: str, key: rsa.RSAPrivateKey) -> str:
-    """The signature of a file with this MD5.
+    """Returns the signature of a file with this MD5.
 
-    The library pads only with the name of a hash before the digest, which the client does not expect; so the
-    padding, which has no choice in it, and the power are written out here.
+    The library always puts the name of a hash before the digest, and the client does not expect one. So the
+    padding, which has no random part, and the power are computed here.
     """
     private = key.private_numbers()
     filled = b"\xff" * (NUMBER_BYTES - 3 - len(md5))
@@ -148,7 +151,9 @@ def signature_text(md5: str, key: rsa.RSAPrivateKey) -> str:
 
 
 def is_signature(md5: str, text: str, key: rsa.RSAPublicKey) -> bool:
-    """Whether a text is the signature of a file with this MD5, by the key whose public half this is."""
+    """Returns whether a text is the signature of a file with this MD5, made with the private half of this
+    key.
+    """
     try:
         told = key.recover_data_from_signature(hex_bytes(text), padding.PKCS1v15(), None)
     except (InvalidSignature, KeyFault, ValueError):

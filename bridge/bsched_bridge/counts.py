@@ -1,8 +1,8 @@
-"""The keys of bsched with what has to outlive a stop of the bridge.
+"""The keys of bsched, with what must outlive a stop of the bridge.
 
-A key is an authenticator and a host_cpid. Of each key there are the number of its last call and, as long as
-no answer came, the bytes of that call: both are on the disk before the call is sent. And there are jobs in
-hand: those that an answer brought when no client waited for it any more.
+A key is an authenticator and a host_cpid. For each key the state file has the number of its last call. Until
+an answer comes it also has the bytes of that call. Both are on the disk before the call is sent. It also has
+the jobs in hand: those of an answer that came when no client waited for it any more.
 """
 import json
 import time
@@ -19,11 +19,11 @@ HEARD = "authenticator, hostid, user_name, user_credit, host_credit, heard_at"
 
 
 class CountEnded(Exception):
-    """A key has had its last number."""
+    """Raised if a key has used its last number."""
 
 
 class TooManyHosts(Exception):
-    """A new key of an account that has as many hosts as it may have."""
+    """Raised for a new key of an account that already has as many hosts as it may have."""
 
     def __init__(self, count: int) -> None:
         super().__init__(f"the account has {count} hosts")
@@ -32,7 +32,7 @@ class TooManyHosts(Exception):
 
 @dataclass(frozen=True, slots=True)
 class Key:
-    """What bsched knows a host by."""
+    """The key by which bsched knows a host."""
 
     authenticator: str
     host_cpid: str
@@ -43,7 +43,7 @@ FIRST_KEY = Key("", "")  # before all keys
 
 @dataclass(frozen=True, slots=True)
 class HeardHost:
-    """A host as a reply told it last."""
+    """A host as the latest reply described it."""
 
     authenticator: str  # of its account, since users may have the same name; it is a secret
     hostid: int
@@ -62,7 +62,7 @@ class Counts:
     # ---- Keys
 
     def key_of(self, authenticator: str, hostid: int, host_cpid: str) -> Key:
-        """The key under which a client is known, also where its host_cpid is another by now."""
+        """Returns the key under which a client is known, even if its host_cpid has changed since."""
         told = Key(authenticator, host_cpid)
         if hostid == 0 or self._of_key("1", told):
             return told
@@ -72,7 +72,7 @@ class Counts:
         return told if made is None else Key(authenticator, cast(str, made[0]))
 
     def _of_key(self, column: str, key: Key) -> tuple[object, ...] | None:
-        """A column of the row of a key."""
+        """Returns a column of the row of a key."""
         return self.file.row(
             f"SELECT {column} FROM host WHERE authenticator = ? AND host_cpid = ?",
             key.authenticator,
@@ -80,7 +80,7 @@ class Counts:
         )
 
     def newest_host(self, authenticator: str) -> tuple[Key, int] | None:
-        """The host of an account that was made last, with its number, among those with no open call."""
+        """Returns the newest host of an account that has no open call, with its number."""
         row = self.file.row(
             "SELECT host_cpid, hostid FROM host WHERE authenticator = ? AND hostid IS NOT NULL AND "
             "open_call IS NULL "
@@ -100,12 +100,12 @@ class Counts:
     # ---- Calls
 
     def open_call(self, key: Key) -> bytes | None:
-        """The call of a key that got no answer yet."""
+        """Returns the call of a key that has no answer yet."""
         row = self._of_key("open_call", key)
         return None if row is None else cast("bytes | None", row[0])
 
     def next_open(self, after: Key) -> Key | None:
-        """The first key after another that has such a call."""
+        """Returns the first key after another one that has such a call."""
         row = self.file.row(
             "SELECT authenticator, host_cpid FROM host WHERE open_call IS NOT NULL AND (authenticator, "
             "host_cpid) > (?, ?) "
@@ -118,10 +118,10 @@ class Counts:
     def opened(
         self, key: Key, text: Callable[[int], bytes], above: int = 0, most_hosts: int | None = None
     ) -> bytes:
-        """The text of a new call, under the next number above all numbers of its key; both are kept before it
-        is given.
+        """Returns the text of a new call. Its number is above `above` and all earlier numbers of its key.
+        Text and number are on the disk before it returns.
 
-        A new key counts as one more host of its account; with most_hosts there may be only so many.
+        A new key counts as one more host of its account. With most_hosts an account may have only that many.
         """
         with self.file.transaction() as connection:
             row = connection.execute(
@@ -147,12 +147,12 @@ class Counts:
             )
         return call
 
-    # What closes a call is not synced: if a power failure undoes it, the call is the last of its key, and
-    # sent again it gets the answer that it had.
+    # A transaction that closes a call is not synced. If a power failure undoes it, the call is the last of
+    # its key. Sent again, it gets the answer that it had.
 
     def refused(self, key: Key) -> None:
-        """The open call of a key was refused, so it changed nothing. A key of which bsched knows no host is
-        forgotten.
+        """Closes the open call of a key after a refusal, so the call changed nothing. If bsched knows no host
+        of the key, the key is forgotten.
         """
         with self.file.transaction(is_synced=False) as connection:
             values = key.authenticator, key.host_cpid
@@ -164,10 +164,10 @@ class Counts:
             )
 
     def answered(self, key: Key, reply: Reply, jobs_in_hand: list[Job]) -> None:
-        """The open call of a key got a reply; these jobs are in hand from now on."""
+        """Closes the open call of a key after a reply. From now on these jobs are in hand."""
         jobs, now = json.dumps([asdict(job) for job in jobs_in_hand]), int(time.time())
         with self.file.transaction(is_synced=False) as connection:
-            # bsched's tables may have been put back to an older copy, and give a number anew
+            # if bsched's tables were restored from an older copy, bsched may give a number a second time
             connection.execute(
                 "UPDATE host SET hostid = NULL WHERE authenticator = ? AND hostid = ? AND host_cpid <> ?",
                 (key.authenticator, reply.hostid, key.host_cpid),
@@ -190,14 +190,14 @@ class Counts:
             first_heard(connection, key.authenticator, reply.user_name, now)
 
     def jobs_in_hand(self, key: Key) -> list[Job]:
-        """The jobs that an answer brought when no client waited for it."""
+        """Returns the jobs of an answer that came when no client waited for it."""
         row = self._of_key("jobs_in_hand", key)
         return [] if row is None else [Job(**job) for job in json.loads(cast(str, row[0]))]
 
     # ---- Hosts, for people
 
     def heard_hosts(self, most: int, authenticator: str | None = None) -> list[HeardHost]:
-        """The hosts that called last, of all accounts or of one, the latest first."""
+        """Returns the hosts that called last, of all accounts or of one, the latest first."""
         query, order = (
             f"SELECT {HEARD} FROM host WHERE hostid IS NOT NULL",
             "ORDER BY heard_at DESC, hostid DESC LIMIT ?",
@@ -209,12 +209,14 @@ class Counts:
         return [HeardHost(*cast("tuple[str, int, str, int, int, int]", row)) for row in rows]
 
     def count_of_hosts(self) -> int:
-        """How many hosts a reply told."""
+        """Returns how many hosts have had a reply."""
         row = self.file.row("SELECT count(*) FROM host WHERE hostid IS NOT NULL")
         return cast(int, row[0]) if row else 0
 
     def user_credits(self) -> list[tuple[str, int]]:
-        """Each account that was heard with its credit, as the last reply to one of its hosts told it."""
+        """Returns each account that has had a reply, with its credit from the latest reply to one of its
+        hosts.
+        """
         rows = self.file.rows(
             "SELECT authenticator, user_credit, max(heard_at) FROM host WHERE hostid IS NOT NULL GROUP BY "
             "authenticator"

@@ -1,9 +1,9 @@
 """One request of a client and its answer.
 
 A request becomes a call under the next number of its key. The call's bytes are on the disk before they are
-sent, and stay there until an answer came: the next request of the key, or the resending of open calls, sends
-them again first, so that the kept reply of bsched serves. The jobs of such a late answer are kept in hand for
-the client's next reply.
+sent, and stay there until an answer comes. Until then the next request of the key sends them again first, and
+so does the resending of open calls. bsched then answers with its kept reply. The jobs of such a late answer
+are kept in hand for the client's next reply.
 """
 import logging
 import threading
@@ -19,7 +19,7 @@ from .scheduler import Job, NoAnswer, Refusal, Reply, Scheduler
 from .settings import HostRules
 from .words import shown_key
 
-COUNT_ATTEMPTS = 3  # how often a count that bsched is ahead of is brought forward for one request
+COUNT_ATTEMPTS = 3  # calls of one request, if bsched's count is ahead or it has lost the account
 HOUR, DAY = 3600, 86400
 
 log = logging.getLogger(__name__)
@@ -27,7 +27,7 @@ log = logging.getLogger(__name__)
 
 @dataclass(frozen=True, slots=True)
 class PutOff:
-    """A request that is put off: what the client is told, and for how long."""
+    """What a client reads whose request is put off, and for how long it is put off."""
 
     message: str
     delay: int
@@ -56,14 +56,14 @@ BARRED = PutOff("The project's operator has barred this account. Ask the operato
 
 
 def put_off_by(refusal: Refusal) -> PutOff:
-    """What a client is told of a refusal."""
+    """Returns what a client reads after a refusal."""
     told = REFUSALS.get(refusal.error, OTHER_REFUSAL)
     member = refusal.members.get("member")
     return replace(told, message=f"{told.message} ({member})") if member else told
 
 
 def too_many_hosts(count: int) -> PutOff:
-    """What a client is told whose account has as many hosts as it may have."""
+    """Returns what a client reads whose account has as many hosts as it may have."""
     return PutOff(
         f"Your account has {count} computers at this project, and may have no more. This computer gets no "
         "work here.",
@@ -73,7 +73,7 @@ def too_many_hosts(count: int) -> PutOff:
 
 
 class Exchange:
-    """What answers requests."""
+    """Answers requests."""
 
     def __init__(
         self, counts: Counts, scheduler: Scheduler, retry_delay: int, rules: Callable[[], HostRules],
@@ -81,12 +81,14 @@ class Exchange:
         archives: Archives | None = None,
     ):
         self.counts, self.scheduler, self.retry_delay, self.rules = counts, scheduler, retry_delay, rules
-        self.is_imported_again = is_imported_again  # imports an account that bsched has lost
+        self.is_imported_again = is_imported_again  # imports an account again that bsched has lost
         self.archives = archives or Archives()
         self._locks = KeyLocks(wait_seconds=2 * scheduler.answer_seconds)
 
     def answer(self, request: ClientRequest) -> Reply | PutOff:
-        """The reply to a request, with the jobs that were in hand, or why and for how long it is put off."""
+        """Returns the reply to a request, with the jobs that were in hand. If the request is put off, returns
+        why and for how long.
+        """
         if request.authenticator in self.rules().barred:
             log.warning(
                 "host %s of account %s is refused: barred",
@@ -107,12 +109,12 @@ class Exchange:
             return COUNT_ENDED
 
     def resend(self, key: Key) -> None:
-        """Sends the open call of a key again, where there is one; raises NoAnswer where none comes again."""
+        """Sends the open call of a key again, if there is one. Raises NoAnswer if it gets no answer again."""
         with self._locks.held(key):
             self._resend(key)
 
     def _resend(self, key: Key) -> None:
-        """The same, where the key is held."""
+        """Does the same while the key is held."""
         call = self.counts.open_call(key)
         if call is None:
             return
@@ -124,12 +126,12 @@ class Exchange:
             self.counts.answered(key, answer, jobs_with(answer, self.counts.jobs_in_hand(key)))
 
     def _answer(self, key: Key, call: bytes) -> Reply | Refusal:
-        """The answer to a call, with the credit of archives."""
+        """Returns the answer to a call, with the credit of the archives added."""
         answer = self.scheduler.call(call)
         return self.archives.added_to(key, answer) if isinstance(answer, Reply) else answer
 
     def _call(self, key: Key, request: ClientRequest) -> Reply | PutOff:
-        """The reply to a request, where the key is held and has no open call."""
+        """Returns the reply to a request. The key is held, and has no open call."""
         listed = {*(request.other_results or ()), *(report.name for report in request.results)}
         in_hand = [job for job in self.counts.jobs_in_hand(key) if job.name not in listed]
         names, seconds = [job.name for job in in_hand], sum(job.estimate for job in in_hand)
@@ -163,11 +165,11 @@ class Exchange:
         return put_off_by(refusal)
 
     def _opened(self, key: Key, hostid: int, text: Callable[[int], bytes], last: int) -> bytes:
-        """The text of a new call. A new host is refused where its account has as many as it may have.
+        """Returns the text of a new call. A new host is refused if its account has as many as it may have.
 
-        The hosts are those of the state file. Where it and bsched's tables are not of one moment, they are
-        brought together first: a host that bsched has is not refused, and one that it does not have makes
-        room.
+        The hosts are counted in the state file. If that file and bsched's tables are of different moments,
+        the two are reconciled first. A host that bsched has is not refused, and one that bsched does not have
+        is forgotten and makes room.
         """
         most = self.rules().most_hosts
         try:
@@ -183,13 +185,16 @@ class Exchange:
 
 
 def jobs_with(reply: Reply, in_hand: list[Job]) -> list[Job]:
-    """The jobs of a reply, and those in hand that it neither brings again nor tells the client to leave."""
+    """Returns the jobs of a reply, after those in hand that it neither sends again nor tells the client to
+    drop.
+    """
     told = {*reply.result_abort, *reply.result_ack, *(job.name for job in reply.results)}
     return [job for job in in_hand if job.name not in told] + reply.results
 
 
 class Resending(threading.Thread):
-    """Sends open messages again until each has its answer: at the start, and then now and then."""
+    """A thread that sends open messages again until each has its answer: at the start, and then at intervals.
+    """
 
     def __init__(
         self, exchange: Exchange, pause_seconds: float, resend_accounts: Callable[[], None] | None = None
@@ -199,10 +204,10 @@ class Resending(threading.Thread):
         self._ending = threading.Event()
 
     def run(self) -> None:
-        """Goes round over the open messages until it is ended.
+        """Goes through the open messages, round after round, until it is ended.
 
-        It pauses after a call that got no answer, and after the last; a round begins with the imports of
-        accounts.
+        It pauses after a call that got no answer, and after the last call. Each round begins with the imports
+        of accounts.
         """
         key = FIRST_KEY
         while not self._ending.is_set():
@@ -221,7 +226,7 @@ class Resending(threading.Thread):
             self._ending.wait(self.pause_seconds)
 
     def _resend_accounts(self) -> None:
-        """Sends the imports of accounts again; the calls have their turn also where these get no answer."""
+        """Sends the imports of accounts again. If they get no answer, the calls still have their turn."""
         try:
             if self.resend_accounts is not None:
                 self.resend_accounts()
@@ -229,6 +234,6 @@ class Resending(threading.Thread):
             pass
 
     def end(self) -> None:
-        """Ends it, after the message that it is at."""
+        """Ends the thread after the message that it is sending."""
         self._ending.set()
         self.join()

@@ -1,4 +1,4 @@
-"""The settings on hosts, which are read again after each edit of the file, without a new start."""
+"""The settings on hosts, which are read again after each edit of the file, without a restart."""
 import logging
 import threading
 from pathlib import Path
@@ -10,7 +10,7 @@ log = logging.getLogger(__name__)
 
 
 class HostRuleReader:
-    """Who has the settings of today. A faulty file changes nothing, and gets one line in the log."""
+    """Keeps the current settings on hosts. A faulty file changes nothing, and gets one line in the log."""
 
     def __init__(self, path: Path, rules: HostRules) -> None:
         self.path, self._rules = path, rules
@@ -18,7 +18,7 @@ class HostRuleReader:
         self._seen = self._state()
 
     def _state(self) -> tuple[int, int, int] | None:
-        """By what an edited file is told from the one that was read."""
+        """Returns what changes if the file is edited, or None if the file can't be found."""
         try:
             status = self.path.stat()
         except OSError:
@@ -26,7 +26,7 @@ class HostRuleReader:
         return status.st_mtime_ns, status.st_size, status.st_ino
 
     def rules(self) -> HostRules:
-        """The settings of now."""
+        """Returns the current settings."""
         with self._lock:
             state = self._state()
             if state != self._seen:
@@ -35,7 +35,7 @@ class HostRuleReader:
             return self._rules
 
     def _read(self) -> None:
-        """Reads the file, and keeps what it said before where it is faulty."""
+        """Reads the file. If it is faulty, the settings stay as they were."""
         try:
             rules = read_settings(self.path).host_rules
         except OperatorFault as fault:

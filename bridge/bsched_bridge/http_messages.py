@@ -27,7 +27,7 @@ LENGTH = re.compile("[0-9]{1,18}")
 FORM = "application/x-www-form-urlencoded"
 MOST_FORM, MOST_FIELDS = 16_384, 32  # bytes of a form, fields of a form or a query
 NO_STORE = {"Cache-Control": "no-store"}
-# what browsers add to a message, and BOINC's client does not
+# fields that browsers add to a message, and BOINC's client does not
 BROWSER_FIELDS = ("HTTP_ORIGIN", "HTTP_REFERER", "HTTP_SEC_FETCH_SITE")
 
 Environ = dict[str, Any]
@@ -35,7 +35,7 @@ log = logging.getLogger(__name__)
 
 
 class HttpFault(Exception):
-    """A message of HTTP that is no message to this application."""
+    """Raised for an HTTP message that the application refuses."""
 
     def __init__(self, status: int, **fields: str) -> None:
         super().__init__(PHRASES[status])
@@ -44,7 +44,7 @@ class HttpFault(Exception):
 
 @dataclass(frozen=True, slots=True)
 class Answer:
-    """What a message gets."""
+    """The answer to a message."""
 
     kind: str  # the media type of the body
     body: bytes
@@ -53,27 +53,27 @@ class Answer:
 
 
 def log_fault(error: Exception) -> None:
-    """Logs where a message could not be answered, and nothing that the message said: it may be a password."""
+    """Logs where a message failed, and nothing that the message said: it may be a password."""
     where = "".join(traceback.format_tb(error.__traceback__))
     log.error("a message could not be answered: %s\n%s", type(error).__name__, where)
 
 
 def has_method(environ: Environ, *methods: str) -> None:
-    """Whether the message has one of these methods."""
+    """Raises HttpFault 405 unless the message has one of these methods."""
     if environ["REQUEST_METHOD"] not in methods:
         raise HttpFault(405, Allow=", ".join(methods))
 
 
 def is_of_no_browser(environ: Environ) -> None:
-    """Whether the message is one that no web page had its visitor send: such a page can't leave out all of
-    these fields.
+    """Raises HttpFault 403 if a web page may have made its visitor send the message. Such a page can't leave
+    out all of these fields.
     """
     if any(name in environ for name in BROWSER_FIELDS):
         raise HttpFault(403)
 
 
 def body_of(environ: Environ, most: int = client_requests.MOST_BYTES) -> bytes:
-    """The body of a POST."""
+    """Returns the body of a POST."""
     length = environ.get("CONTENT_LENGTH") or ""
     if not LENGTH.fullmatch(length):
         raise HttpFault(411)
@@ -86,8 +86,8 @@ def body_of(environ: Environ, most: int = client_requests.MOST_BYTES) -> bytes:
 
 
 def fields_of(text: str) -> dict[str, str]:
-    """The fields of a query or a form. Of one that is told twice the last counts; bytes that are no UTF-8
-    become U+FFFD.
+    """Returns the fields of a query or a form. If a field comes twice, the last one counts. Bytes that are
+    not UTF-8 become U+FFFD.
     """
     try:
         told = parse_qs(text, keep_blank_values=True, errors="replace", max_num_fields=MOST_FIELDS)
@@ -97,12 +97,12 @@ def fields_of(text: str) -> dict[str, str]:
 
 
 def query_of(environ: Environ) -> dict[str, str]:
-    """The fields of the query."""
+    """Returns the fields of the query."""
     return fields_of(environ.get("QUERY_STRING", ""))
 
 
 def form_of(environ: Environ) -> dict[str, str]:
-    """The fields of a form that was posted."""
+    """Returns the fields of a form that was posted."""
     if environ.get("CONTENT_TYPE", "").partition(";")[0].strip().lower() != FORM:
         raise HttpFault(415)
     return fields_of(body_of(environ, MOST_FORM).decode("ascii", errors="replace"))

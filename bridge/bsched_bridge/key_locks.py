@@ -5,7 +5,7 @@ from contextlib import contextmanager
 
 
 class Busy(Exception):
-    """Somebody else has the key, and did not let it go in time."""
+    """Raised if somebody else holds the key and does not release it in time."""
 
 
 class KeyLocks:
@@ -14,10 +14,10 @@ class KeyLocks:
     def __init__(self, wait_seconds: float) -> None:
         self.wait_seconds = wait_seconds
         self._guard = threading.Lock()
-        self._locks: dict[Hashable, tuple[threading.Lock, int]] = {}  # with how many want it or have it
+        self._locks: dict[Hashable, tuple[threading.Lock, int]] = {}  # with how many hold it or wait for it
 
     def _count(self, key: Hashable, step: int) -> threading.Lock:
-        """The lock of a key, of which one more or one less is in want."""
+        """Returns the lock of a key, and adds step to the number of its users."""
         with self._guard:
             lock, users = self._locks.get(key) or (threading.Lock(), 0)
             if users + step:
@@ -28,7 +28,7 @@ class KeyLocks:
 
     @contextmanager
     def held(self, key: Hashable) -> Iterator[None]:
-        """Has the key to itself within the block."""
+        """Holds the key for the block."""
         lock = self._count(key, 1)
         try:
             if not lock.acquire(timeout=self.wait_seconds):

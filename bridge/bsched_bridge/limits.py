@@ -1,4 +1,4 @@
-"""How often somebody did something lately, and whose message one is."""
+"""How often somebody did something lately, and for whom a message counts."""
 import ipaddress
 import threading
 import time
@@ -9,7 +9,7 @@ MOST_KEYS = 100_000
 
 
 class RecentCounts:
-    """Counts what each key did within the last seconds, and lets it do so much.
+    """Counts what each key did within the last seconds, and allows it no more than the limit.
 
     The counts are in memory. If there are too many keys, the one that did nothing for the longest time is
     forgotten.
@@ -21,7 +21,7 @@ class RecentCounts:
         self._times: OrderedDict[Hashable, list[float]] = OrderedDict()
 
     def take(self, key: Hashable) -> bool:
-        """Counts one more of a key, if it has not done as much as it may."""
+        """Counts one more for a key. If the key has reached its limit, counts nothing and returns False."""
         with self._lock:
             now = self.clock()
             times = self._times.setdefault(key, [])
@@ -36,7 +36,7 @@ class RecentCounts:
             return True
 
     def give_back(self, key: Hashable) -> None:
-        """The last one of a key does not count."""
+        """Takes back the last count of a key."""
         with self._lock:
             times = self._times.get(key)
             if times:
@@ -44,7 +44,7 @@ class RecentCounts:
 
 
 def network_of(address: str) -> str:
-    """Whom an address is counted as: itself, or its /64 if it is of IPv6, since one user has all of these."""
+    """Returns whom an address counts as: itself, or its /64 if it is IPv6, since one user has a whole /64."""
     try:
         told = ipaddress.ip_address(address.partition("%")[0])
     except ValueError:
@@ -57,7 +57,7 @@ def network_of(address: str) -> str:
 
 
 def is_loopback(address: str) -> bool:
-    """Whether an address is one of this machine; a socket in the file system has none."""
+    """Returns whether an address is one of this machine. A Unix socket has an empty address."""
     try:
         return address == "" or ipaddress.ip_address(address.partition("%")[0]).is_loopback
     except ValueError:

@@ -45,25 +45,26 @@ EMPTY_ELEMENTS = {"input", "br", "link", "meta"}
 
 
 class Markup(str):
-    """HTML. Any other text is escaped where it is put into some."""
+    """HTML. Any other text is escaped when it is put into a page."""
 
 
 class Number(str):
-    """A number as it is shown, such as `1.000`."""
+    """A number in the form in which it is shown, such as `1.000`."""
 
 
 def put(part: object) -> str:
-    """A part of a page as HTML."""
+    """Returns a part of a page as HTML."""
     return part if isinstance(part, Markup) else escape(str(part))
 
 
 def joined(*parts: object) -> Markup:
-    """Parts one after the other."""
+    """Returns parts joined one after the other."""
     return Markup("".join(map(put, parts)))
 
 
 def element(name: str, /, *parts: object, **attributes: object) -> Markup:
-    """An element. Attributes that are None or False are left out, and True stands for one without a value."""
+    """Returns an element. Attributes that are None or False are left out, and one that is True has no value.
+    """
     told = "".join(
         f" {key.rstrip('_').replace('_', '-')}" + ("" if value is True else f'="{escape(str(value))}"')
         for key, value in attributes.items() if value is not None and value is not False
@@ -74,13 +75,13 @@ def element(name: str, /, *parts: object, **attributes: object) -> Markup:
 
 
 def paragraphs(text: str) -> Markup:
-    """A text that somebody wrote: parted at empty lines, with web addresses as links."""
+    """Returns a text that somebody wrote as HTML: split at empty lines, with web addresses as links."""
     parts = (part.strip() for part in re.split(r"\n\s*\n", text.replace("\r\n", "\n")))
     return element("div", *(element("p", linked(part)) for part in parts if part), class_="text")
 
 
 def linked(text: str) -> Markup:
-    """A text in which web addresses are links."""
+    """Returns a text in which web addresses are links."""
     parts: list[object] = []
     last = 0
     for found in WEB_ADDRESS.finditer(text):
@@ -91,7 +92,7 @@ def linked(text: str) -> Markup:
 
 
 def table(header: list[str], rows: list[list[object]]) -> Markup:
-    """A table; columns with numbers stand on the right."""
+    """Returns a table. Columns with numbers are aligned to the right."""
     numbers = [any(isinstance(row[place], (int, Number)) for row in rows) for place in range(len(header))]
 
     def cell(name: str, value: object, is_number: bool, **more: object) -> Markup:
@@ -115,7 +116,9 @@ def page(
     is_kept: bool = True,
     status: int = 200,
 ) -> Answer:
-    """A page, with links at its end; one with a key is not kept by browsers."""
+    """Returns a page, with links at its end. If is_kept is false, browsers don't keep it, because it may show
+    a key.
+    """
     lines = [
         Markup('<!DOCTYPE html>\n<html lang="en">\n<head>\n<meta charset="utf-8">\n'),
         Markup('<meta name="viewport" content="width=device-width, initial-scale=1">\n'),

@@ -1,7 +1,7 @@
 """The accounts that the bridge knows, in the state file.
 
-There are accounts that volunteers made, with an e-mail address and a password, and those of the operator,
-which are known once a host of theirs was heard.
+Volunteers made some of them, with an e-mail address and a password. The others are the operator's. The bridge
+knows an operator's account after the first reply to one of its hosts.
 """
 import secrets
 import sqlite3
@@ -26,11 +26,11 @@ DAY = 86400
 
 
 class EmailTaken(Exception):
-    """Another account has this e-mail address."""
+    """Raised if another account has this e-mail address."""
 
 
 class DayIsFull(Exception):
-    """As many accounts as may be were made in the last 24 hours."""
+    """Raised if the limit of new accounts in 24 hours is reached."""
 
 
 @dataclass(frozen=True, slots=True)
@@ -42,7 +42,7 @@ class Member:
     email: str | None
     secret: Secret | None
     name: str
-    batch: str | None  # of the import that makes it; none for the operator's accounts
+    batch: str | None  # the import that makes it; none for the operator's accounts
     is_imported: bool
     cpid: str
     consent_at: int | None
@@ -51,7 +51,7 @@ class Member:
 
 
 def member_of(row: tuple[object, ...]) -> Member:
-    """The account of a row."""
+    """Returns the account in a row."""
     (
         number,
         authenticator,
@@ -83,12 +83,12 @@ def member_of(row: tuple[object, ...]) -> Member:
 
 
 def new_batch_name() -> str:
-    """The name of an import that nobody else chooses."""
+    """Returns a new random name for an import."""
     return "account-" + secrets.token_hex(16)
 
 
 def first_heard(connection: sqlite3.Connection, authenticator: str, name: str, now: int) -> None:
-    """Notes an account that a reply told, if it is not known; within a transaction."""
+    """Inserts the account that a reply is for, if it is not known yet, within a transaction."""
     connection.execute(
         "INSERT INTO member (authenticator, name, is_imported, cpid, created_at) VALUES (?, ?, 1, ?, ?) "
         "ON CONFLICT (authenticator) DO NOTHING", (authenticator, name, secrets.token_hex(16), now),
@@ -102,41 +102,45 @@ class Members:
         self.file = file
 
     def _one(self, where: str, *values: object) -> Member | None:
-        """The first account that a condition holds of."""
+        """Returns the first account for which a condition holds."""
         row = self.file.row(f"SELECT {COLUMNS} FROM member WHERE {where}", *values)
         return None if row is None else member_of(row)
 
     def of_email(self, email: str) -> Member | None:
-        """The account with an e-mail address."""
+        """Returns the account with an e-mail address."""
         return self._one("email = ?", email)
 
     def of_key(self, authenticator: str) -> Member | None:
-        """The account with a key."""
+        """Returns the account with a key."""
         return self._one("authenticator = ?", authenticator)
 
     def open_ones(self) -> Iterator[Member]:
-        """The accounts whose import got no answer yet; each is read when it is its turn."""
+        """Yields the accounts whose import has no answer yet. Each is read when its turn comes."""
         last = 0
         while (member := self._one("is_imported = 0 AND id > ? ORDER BY id", last)) is not None:
             yield member
             last = member.id
 
     def names(self) -> dict[str, str]:
-        """The name of each account, by its key."""
+        """Returns the name of each account, by its key."""
         rows = self.file.rows("SELECT authenticator, name FROM member")
         return {cast(str, row[0]): cast(str, row[1]) for row in rows}
 
     # ---- Making an account
 
     def is_day_full(self, now: int, most_a_day: int) -> bool:
-        """Whether as many accounts as may be were made in the last 24 hours; the operator's don't count."""
+        """Returns whether the limit of new accounts in 24 hours is reached. The operator's accounts don't
+        count.
+        """
         row = self.file.row(MADE_SINCE, now - DAY)
         return row is not None and cast(int, row[0]) >= most_a_day
 
     def insert(
         self, email: str, secret: Secret, name: str, has_consent: bool, now: int, most_a_day: int
     ) -> Member:
-        """A new account with a key of its own; it is on the disk before it is given, and not yet imported."""
+        """Inserts a new account with a key of its own. It is on the disk before it is returned, and not yet
+        imported.
+        """
         member = Member(
             id=0,
             authenticator=secrets.token_hex(16),
@@ -169,12 +173,14 @@ class Members:
         return replace(member, id=cast(int, cursor.lastrowid))
 
     def imported(self, member: Member) -> None:
-        """bsched has the account. It need not be synced: if this is lost, one more equal import follows."""
+        """Notes that bsched has the account. This is not synced: if it is lost, the same import is sent once
+        more.
+        """
         with self.file.transaction(is_synced=False) as connection:
             connection.execute("UPDATE member SET is_imported = 1 WHERE id = ?", (member.id,))
 
     def with_new_batch(self, member: Member) -> Member:
-        """The account, which is imported under another name from now on."""
+        """Gives the account another import name from now on, and returns the account."""
         with self.file.transaction() as connection:
             connection.execute("UPDATE member SET batch = ? WHERE id = ?", (new_batch_name(), member.id))
         again = self.of_key(member.authenticator)
@@ -182,21 +188,21 @@ class Members:
         return again
 
     def deleted(self, member: Member) -> None:
-        """The account was never made."""
+        """Deletes an account that was not imported."""
         with self.file.transaction() as connection:
             connection.execute("DELETE FROM member WHERE id = ? AND is_imported = 0", (member.id,))
 
     # ---- What a user changes
 
     def changed(self, member: Member, name: str, is_exported: bool) -> None:
-        """The user chose a name, and whether statistics sites may show it."""
+        """Stores the name that the user chose, and whether statistics sites may show it."""
         with self.file.transaction() as connection:
             connection.execute(
                 "UPDATE member SET name = ?, is_exported = ? WHERE id = ?", (name, is_exported, member.id)
             )
 
     def has_password(self, member: Member, email: str, secret: Secret) -> None:
-        """The user chose an e-mail address and a password."""
+        """Stores the e-mail address and the password that the user chose."""
         try:
             with self.file.transaction() as connection:
                 connection.execute(

@@ -1,4 +1,4 @@
-"""TOML files that an operator writes: each fault is told with its line."""
+"""TOML files that an operator writes. Each fault is reported with its line."""
 import re
 import tomllib
 from bisect import bisect_right
@@ -7,12 +7,12 @@ from typing import Any, NoReturn, cast
 
 from .words import is_word
 
-MOST_TEXT = 65_536  # characters of a file whose text stands on a page
+MOST_TEXT = 65_536  # characters of a file whose text is shown on a page
 TABLE = re.compile(r"[ \t]*\[\[?[ \t]*([A-Za-z0-9_-]+)[ \t]*\]\]?")
 
 
 class OperatorFault(Exception):
-    """A fault in a file that an operator wrote."""
+    """Raised for a fault in a file that an operator wrote."""
 
     def __init__(self, path: Path, line: int | None, what: str) -> None:
         where = f"{path}: " if line is None else f"{path}: line {line}: "
@@ -20,14 +20,16 @@ class OperatorFault(Exception):
 
 
 class Entry:
-    """A table of such a file: its members are taken one after the other, and what is left over is a fault."""
+    """A table of such a file. Its members are taken one after the other, and a member that is left over is a
+    fault.
+    """
 
     def __init__(self, path: Path, members: dict[str, Any], lines: list[str], first: int, last: int) -> None:
         self.path, self.members, self.untaken = path, members, set(members)
         self._lines, self._first, self._last = lines, first, last
 
     def line(self, member: str | None = None) -> int:
-        """The line on which a member stands, or the one on which the entry begins."""
+        """Returns the line on which a member is, or the one on which the entry begins."""
         if member is not None:
             begins = re.compile(rf"[ \t]*[\"']?{re.escape(member)}[\"']?[ \t]*=")
             for number in range(self._first, self._last + 1):
@@ -36,11 +38,11 @@ class Entry:
         return self._first
 
     def fault(self, what: str, member: str | None = None) -> NoReturn:
-        """Tells a fault of a member, or of the whole entry."""
+        """Raises a fault of a member, or of the whole entry."""
         raise OperatorFault(self.path, self.line(member), what)
 
     def taken(self, member: str, kind: type, kind_name: str, default: Any = ...) -> Any:
-        """The value of a member, of a kind; without a default the member has to stand."""
+        """Returns the value of a member, which must be of a kind. Without a default the member must exist."""
         self.untaken.discard(member)
         value = self.members.get(member, default)
         if value is ...:
@@ -50,25 +52,25 @@ class Entry:
         return value
 
     def text(self, member: str, default: Any = ...) -> str:
-        """A text."""
+        """Returns a text."""
         return cast(str, self.taken(member, str, "a text in quotes", default))
 
     def word(self, member: str) -> str:
-        """A word: 1 to 64 letters, digits, `_`, `-` and `.`."""
+        """Returns a word: 1 to 64 letters, digits, `_`, `-` and `.`."""
         value = self.text(member)
         if not is_word(value):
             self.fault(f"{member} is not 1 to 64 letters, digits, '_', '-' and '.'", member)
         return value
 
     def whole(self, member: str, least: int, most: int, default: Any = ...) -> int:
-        """A whole number within a range."""
+        """Returns a whole number within a range."""
         value = self.taken(member, int, "a whole number", default)
         if value is not default and not least <= value <= most:
             self.fault(f"{member} is not within {least} to {most}", member)
         return cast(int, value)
 
     def words(self, member: str) -> frozenset[str]:
-        """A list of words, which may be absent."""
+        """Returns a list of words, which may be absent."""
         value = self.taken(member, list, "a list of words", [])
         for item in value:
             if not is_word(item):
@@ -76,7 +78,7 @@ class Entry:
         return frozenset(value)
 
     def entries(self, member: str, default: Any = ...) -> list["Entry"]:
-        """The tables of an array that stands in one member."""
+        """Returns the tables of an array that is in one member."""
         value = self.taken(member, list, "an array", default)
         if not all(isinstance(item, dict) for item in value):
             self.fault(f"{member} is not an array of tables {{ .. }}", member)
@@ -84,14 +86,15 @@ class Entry:
         return [Entry(self.path, item, self._lines, line, line) for item in value]
 
     def existing(self, member: str, default: Any = ...) -> Path:
-        """The path of something that stands, relative to the folder of this file."""
+        """Returns a path that must exist. It is relative to the folder of this file."""
         path = self.path.parent / self.text(member, default)
         if not path.exists():
             self.fault(f"{member}: {path} does not stand", member if member in self.members else None)
         return path
 
     def short_text(self, member: str) -> str | None:
-        """The text of a file that is named, for pages; none where no file is named."""
+        """Returns the text of the file that a member names, for pages. Returns None if the member is absent.
+        """
         if member not in self.members:
             return None
         path = self.existing(member)
@@ -106,14 +109,14 @@ class Entry:
         return text
 
     def end(self) -> None:
-        """No further members may stand."""
+        """Refuses any further members."""
         if self.untaken:
             member = min(self.untaken, key=self.line)
             self.fault(f"{member} is not known here", member)
 
 
 class OperatorFile(Entry):
-    """The whole file; the members before the first table are its own."""
+    """The whole file. The members before the first table are its own."""
 
     def __init__(self, path: Path) -> None:
         try:
@@ -125,7 +128,7 @@ class OperatorFile(Entry):
             line = error.object.count(b"\n", 0, error.start) + 1
             raise OperatorFault(path, line, "is not UTF-8") from None
         except tomllib.TOMLDecodeError as error:
-            raise OperatorFault(path, None, f"is not TOML: {error}") from None  # it tells line and column
+            raise OperatorFault(path, None, f"is not TOML: {error}") from None  # it has line and column
         lines = text.split("\n")
         self._tables = [
             (match[1], number) for number, line in enumerate(lines, 1) if (match := TABLE.match(line))
@@ -134,11 +137,11 @@ class OperatorFile(Entry):
         super().__init__(path, members, lines, 1, max(own, 1))
 
     def line(self, member: str | None = None) -> int:
-        """The line on which a member stands, be it a table."""
+        """Returns the line on which a member is, even if the member is a table."""
         return next((line for name, line in self._tables if name == member), super().line(member))
 
     def table(self, name: str) -> Entry | None:
-        """The table under the header `[name]`, if there is one."""
+        """Returns the table under the header `[name]`, if there is one."""
         self.untaken.discard(name)
         if name not in self.members:
             return None
@@ -150,7 +153,7 @@ class OperatorFile(Entry):
         return Entry(self.path, members, self._lines, first, min([*following, len(self._lines) + 1]) - 1)
 
     def tables(self, name: str) -> list[Entry]:
-        """The tables under the headers `[[name]]`, each with its lines."""
+        """Returns the tables under the headers `[[name]]`, each with its lines."""
         self.untaken.discard(name)
         found = self.members.get(name, [])
         if not isinstance(found, list) or not all(isinstance(item, dict) for item in found):

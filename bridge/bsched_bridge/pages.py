@@ -1,4 +1,4 @@
-"""The pages of the project, for people: the master page, and how the project stands."""
+"""The project's pages for people: the master page and the status page."""
 import re
 from html import escape
 
@@ -13,8 +13,8 @@ PAGE_NUMBER = re.compile("[1-9][0-9]{0,5}")
 
 
 def master_page(settings: Settings) -> Answer:
-    """The page at the master URL. The client reads the scheduler's URL there, in one of two forms; each
-    stands on a line.
+    """Returns the page at the master URL. The client reads the scheduler's URL there, in one of two forms.
+    Each is on a line of its own.
     """
     scheduler = escape(f"{settings.url}cgi")
     head = Markup(
@@ -34,7 +34,7 @@ def master_page(settings: Settings) -> Answer:
 
 
 def steps(settings: Settings, *last: Markup) -> Markup:
-    """What a volunteer does in the Manager: the first steps, and some more."""
+    """Returns what a volunteer does in the Manager: the first steps, and some more."""
     anyway = "If it says that the project may not have work for your type of computer, answer “Yes”."
     url = element("code", settings.url)
     first = element("li", "Choose “Add project”, and enter ", url, " as the project URL.")
@@ -42,7 +42,7 @@ def steps(settings: Settings, *last: Markup) -> Markup:
 
 
 def joining_by_key(settings: Settings) -> list[Markup]:
-    """How a volunteer joins where only the operator makes accounts."""
+    """Returns how a volunteer joins if only the operator makes accounts."""
     return [
         element("p", "The project's operator gives you an account key. Then, in the BOINC Manager:"),
         steps(settings, element("li", "Enter the account key as user name, and anything as password.")),
@@ -50,7 +50,7 @@ def joining_by_key(settings: Settings) -> list[Markup]:
 
 
 def joining_by_oneself(settings: Settings, has_terms: bool) -> list[Markup]:
-    """How a volunteer joins without the operator."""
+    """Returns how a volunteer joins without the operator."""
     boinc = element("a", "boinc.berkeley.edu", href="https://boinc.berkeley.edu/download.php")
     terms = element("a", "terms of use", href="terms")
     agree = [element("li", "Read the ", terms, " and agree to them.")] if has_terms else []
@@ -71,7 +71,7 @@ def joining_by_oneself(settings: Settings, has_terms: bool) -> list[Markup]:
 
 
 def no_passwords_page(settings: Settings) -> Answer:
-    """What a volunteer does who has no key, where only the operator makes accounts."""
+    """Returns the page for a volunteer without a key, if only the operator makes accounts."""
     return page(
         f"{settings.name}: no passwords",
         element(
@@ -87,7 +87,7 @@ def no_passwords_page(settings: Settings) -> Answer:
 
 
 def status_page(settings: Settings, status: Status, environ: Environ) -> Answer:
-    """How the project stands: workunits, credit by user, and hosts with their results."""
+    """Returns the status page: workunits, credit by user, and hosts with their results."""
     recent = status.recent
     parts: list[object] = []
     if status.silent_since is not None:
@@ -104,7 +104,7 @@ def status_page(settings: Settings, status: Status, environ: Environ) -> Answer:
 
 
 def units_markup(units: UnitCounts) -> list[Markup]:
-    """Workunits by their status."""
+    """Returns the workunits by their status."""
     rows: list[list[object]] = [[name, count] for name, count in units.by_status.items()]
     rows.append(["all", sum(units.by_status.values())])
     return [
@@ -114,7 +114,7 @@ def units_markup(units: UnitCounts) -> list[Markup]:
 
 
 def users_markup(status: Status, environ: Environ) -> list[Markup]:
-    """A part of the users, by their credit."""
+    """Returns one page of the users, by their credit."""
     pages = max(1, -(-len(status.ranking) // USERS_ON_A_PAGE))
     told = query_of(environ).get("page", "")
     number = min(int(told), pages) if PAGE_NUMBER.fullmatch(told) else 1
@@ -137,7 +137,7 @@ def users_markup(status: Status, environ: Environ) -> list[Markup]:
 
 
 def hosts_markup(status: Status) -> list[Markup]:
-    """The hosts that called last, with their results where these are known."""
+    """Returns the hosts that called last, with their results if these are known."""
     recent = status.recent
     header = ["computer", "user", "called last (UTC)", "credit"]
     rows: list[list[object]] = [

@@ -1,7 +1,8 @@
 """Passwords as the bridge keeps them.
 
-BOINC's client sends no password but its MD5 with the e-mail address, 32 hexadecimal digits. Who has these can
-log in, so they are treated as the password itself: only their scrypt is kept.
+BOINC's client does not send the password. It sends the MD5 of the password and the e-mail address, 32
+hexadecimal digits. Whoever has these digits can log in, so they are treated like the password itself: only
+their scrypt is kept.
 """
 import hashlib
 import hmac
@@ -20,7 +21,7 @@ WAIT_SECONDS = 5.0
 
 
 class TooBusy(Exception):
-    """As many passwords as may be are being looked at."""
+    """Raised if the limit of passwords that are checked at once is reached."""
 
 
 @dataclass(frozen=True, slots=True)
@@ -32,7 +33,7 @@ class Cost:
     p: int
 
     def text(self) -> str:
-        """As it is kept beside a secret."""
+        """Returns the parameters as they are kept with a secret."""
         return f"scrypt {self.n} {self.r} {self.p}"
 
 
@@ -40,7 +41,7 @@ COST = Cost(2**15, 8, 1)  # 0.13 seconds
 
 
 def read_cost(text: str) -> Cost:
-    """The parameters that were kept."""
+    """Reads the parameters that were kept."""
     _, n, r, p = text.split()
     return Cost(int(n), int(r), int(p))
 
@@ -55,24 +56,24 @@ class Secret:
 
 
 def client_hash(password: str, email: str) -> str:
-    """What BOINC's client sends of a password; the address is in small letters."""
+    """Returns what BOINC's client sends for a password. The address must be in small letters."""
     return hashlib.md5((password + email).encode(), usedforsecurity=False).hexdigest()
 
 
 def is_client_hash(told: str, email: str) -> bool:
-    """Whether a text is the hash of a password that is not empty."""
+    """Returns whether a text is the hash of a password that is not empty."""
     return HASH.fullmatch(told) is not None and told != client_hash("", email)
 
 
 def scrypt(told: str, salt: bytes, cost: Cost) -> bytes:
-    """The scrypt of what a client sent."""
+    """Returns the scrypt of what a client sent."""
     return hashlib.scrypt(told.encode(), salt=salt, n=cost.n, r=cost.r, p=cost.p, maxmem=MOST_MEMORY)
 
 
 class Passwords:
-    """Who makes and looks at secrets: at most two at once, since each takes memory and time.
+    """Makes and checks secrets. It does at most two at once, since each takes memory and time.
 
-    Few may wait for their turn, so that other messages find a thread.
+    Only a few may wait for their turn, so that other messages find a free thread.
     """
 
     def __init__(self, cost: Cost = COST) -> None:
@@ -83,7 +84,7 @@ class Passwords:
 
     @contextmanager
     def _turn(self) -> Iterator[None]:
-        """One of the few places in which a hash is made."""
+        """Takes one of the few turns in which a hash is computed."""
         if not self._places.acquire(blocking=False):
             raise TooBusy
         try:
@@ -97,14 +98,14 @@ class Passwords:
             self._places.release()
 
     def new_secret(self, told: str) -> Secret:
-        """What is kept of a new password."""
+        """Returns what is kept of a new password."""
         salt = secrets.token_bytes(SALT_BYTES)
         with self._turn():
             return Secret(salt, scrypt(told, salt, self.cost), self.cost.text())
 
     def is_right(self, told: str, secret: Secret | None) -> bool:
-        """Whether a password is the one that is kept. If none is kept, it is wrong, and takes the
-        same time.
+        """Returns whether a password is the one that is kept. If none is kept, the answer is no, and takes
+        the same time.
         """
         kept = secret or self._unknown
         with self._turn():

@@ -20,8 +20,8 @@ log = logging.getLogger(__name__)
 
 
 class NoAnswer(Exception):
-    """bsched gave no answer, or was unavailable. What was sent may have been acted on, and is sent again as
-    it was.
+    """Raised if bsched gave no answer, or was unavailable. bsched may have acted on the message, so the same
+    bytes are sent again.
     """
 
 
@@ -57,7 +57,7 @@ class Reply:
 
 @dataclass(frozen=True, slots=True)
 class Refusal:
-    """A refusal, by the name of its error, with what it tells beside."""
+    """A refusal: the name of its error, and its other members."""
 
     error: str
     members: dict[str, Any] = field(default_factory=dict)
@@ -68,19 +68,21 @@ JOB_MEMBERS = frozenset(member.name for member in fields(Job))
 
 
 def known_members(said: dict[str, Any], known: frozenset[str]) -> dict[str, Any]:
-    """The members that the bridge knows. A newer bsched may send more of them."""
+    """Returns the members that the bridge knows. A newer bsched may send more of them."""
     return {name: value for name, value in said.items() if name in known}
 
 
 def read_reply(said: dict[str, Any]) -> Reply:
-    """The reply of a JSON object; a KeyError or a TypeError where a member is missing."""
+    """Returns the reply in a JSON object. Raises KeyError or TypeError if a member is missing."""
     jobs = [Job(**known_members(job, JOB_MEMBERS)) for job in said["results"]]
     members: dict[str, Any] = {**known_members(said, REPLY_MEMBERS), "results": jobs}
     return Reply(**members)
 
 
 def read_refusal(status: int, said: object) -> Refusal:
-    """The refusal of a JSON object; a NoAnswer where it is none, or says that bsched was unavailable."""
+    """Returns the refusal in a JSON object. Raises NoAnswer if it is none, or says that bsched was
+    unavailable.
+    """
     error = said.get("error") if isinstance(said, dict) else None
     if not isinstance(said, dict) or not isinstance(error, str):
         raise NoAnswer(f"status {status} with a body that is no answer of bsched")
@@ -90,16 +92,16 @@ def read_refusal(status: int, said: object) -> Refusal:
 
 
 class Scheduler:
-    """Who sends messages to bsched. Each message has a connection of its own, as bsched wants it."""
+    """Sends messages to bsched. Each message has a connection of its own, as bsched requires."""
 
     def __init__(self, address: Address, answer_seconds: int) -> None:
         self.address, self.answer_seconds = address, answer_seconds
-        self.silent_since: float | None = None  # when bsched first gave no answer, if none came since
+        self.silent_since: float | None = None  # since when bsched gives no answer; None after an answer
 
     def message(
         self, method: str, path: str, body: bytes | None = None, fields: dict[str, str] | None = None
     ) -> tuple[int, bytes]:
-        """The status and the body of the answer to a message; a NoAnswer where bsched says that it
+        """Returns the status and the body of the answer to a message. Raises NoAnswer if bsched says that it
         has none.
         """
         try:
@@ -117,7 +119,7 @@ class Scheduler:
     def _exchange(
         self, method: str, path: str, body: bytes | None, fields: dict[str, str]
     ) -> tuple[int, bytes]:
-        """The status of the answer, and as much of its body as is looked at."""
+        """Returns the status of the answer, and at most MOST_ANSWER + 1 bytes of its body."""
         connection = http.client.HTTPConnection(
             self.address.host, self.address.port, timeout=self.answer_seconds
         )
@@ -141,7 +143,7 @@ class Scheduler:
         raise NoAnswer(f"an answer longer than {MOST_ANSWER} bytes")
 
     def call_once(self, body: bytes) -> Reply | Refusal:
-        """The answer to a call."""
+        """Sends a call once, and returns the answer."""
         status, told = self.message("POST", "/scheduler", body, {"content-type": "application/json"})
         try:
             said = json.loads(told)
@@ -152,8 +154,8 @@ class Scheduler:
         return read_refusal(status, said)
 
     def call(self, body: bytes) -> Reply | Refusal:
-        """The answer to a call; where none comes, the same bytes are sent again, a few times and within a
-        bounded time.
+        """Returns the answer to a call. If none comes, the same bytes are sent again, a few times and within
+        a bounded time.
         """
         ends = time.monotonic() + self.answer_seconds
         for attempt in range(1, ATTEMPTS + 1):
@@ -167,7 +169,7 @@ class Scheduler:
         raise AssertionError("the last attempt returns or raises")
 
     def import_accounts(self, batch: str, text: bytes, operator_key: str) -> Refusal | None:
-        """Imports accounts; the refusal, or nothing where bsched has them."""
+        """Imports accounts. Returns the refusal, or None if bsched has them."""
         fields = {"x-operator-key": operator_key, "content-type": "text/csv"}
         status, told = self.message("POST", f"/import/accounts/{batch}", text, fields)
         try:
@@ -181,27 +183,27 @@ class Scheduler:
         return None
 
     def statement(self, hostid: int, operator_key: str) -> str | None:
-        """The statement of a host; none where bsched refuses it."""
+        """Returns the statement of a host, or None if bsched refuses it."""
         status, told = self.message("GET", f"/hosts/{hostid}", None, {"x-operator-key": operator_key})
         return told.decode(errors="replace") if status == 200 else None
 
-    # What follows is asked by a call that changes nothing: one of a host that has another number than the
-    # call tells is refused as bad_host, and that comes after the look for the account; and no host has had a
-    # call of number 0, so that of a host that has this number is refused as stale.
+    # The next two functions send a call that changes nothing. If the host's number is not the one in the
+    # call, bsched refuses the call as bad_host. It does so only after it has found the account. No host ever
+    # had a call of number 0. So if the host has the number in the call, bsched refuses the call as stale.
 
     def has_account(self, authenticator: str) -> bool:
-        """Whether an account exists."""
+        """Returns whether an account exists."""
         answer = self.call_once(asking_call(authenticator, "none", NO_HOST))
         return isinstance(answer, Refusal) and answer.error == "bad_host"
 
     def has_host(self, authenticator: str, host_cpid: str, hostid: int) -> bool:
-        """Whether a host exists with this key and this number."""
+        """Returns whether a host exists with this key and this number."""
         answer = self.call_once(asking_call(authenticator, host_cpid, hostid))
         return isinstance(answer, Refusal) and answer.error in ("stale", "reused")
 
 
 def asking_call(authenticator: str, host_cpid: str, hostid: int) -> bytes:
-    """A call that changes nothing."""
+    """Returns a call that changes nothing."""
     record = {
         "authenticator": authenticator, "hostid": hostid, "rpc_seqno": 0, "platform_name": "none",
         "host_info": {"host_cpid": host_cpid, "p_fpops": 1, "m_nbytes": 0, "d_free": 0},

@@ -8,7 +8,7 @@ from urllib.parse import urlsplit
 from .operator_files import Entry, OperatorFile
 
 FIELD_NAME = re.compile("[A-Za-z][A-Za-z0-9-]{0,63}")
-LISTED_FIELDS = {"x-forwarded-for", "forwarded"}  # a proxy adds to what a client wrote there
+LISTED_FIELDS = {"x-forwarded-for", "forwarded"}  # clients write here; a proxy only adds
 
 
 @dataclass(frozen=True, slots=True)
@@ -21,19 +21,19 @@ class Address:
 
 @dataclass(frozen=True, slots=True)
 class AccountSettings:
-    """How volunteers make accounts by themselves."""
+    """The settings for accounts that volunteers make themselves."""
 
     most_a_day: int  # new accounts in 24 hours
     most_from_address: int  # the same for one client address
-    # the field of a message's head in which a proxy on this machine tells that address
+    # the header field in which a proxy on this machine gives the client's address
     address_field: str | None
-    is_name_told: bool  # a user's name is the one that the client tells; else it is made
+    is_name_told: bool  # the client gives the user's name; otherwise the name is made up
     terms: str | None  # the terms of use
 
 
 @dataclass(frozen=True, slots=True)
 class HostRules:
-    """What is read again while the bridge runs."""
+    """The settings that are read again while the bridge runs."""
 
     most_hosts: int  # of one account
     barred: frozenset[str]  # keys of accounts
@@ -41,22 +41,22 @@ class HostRules:
 
 @dataclass(frozen=True, slots=True)
 class Settings:
-    """What an operator chooses."""
+    """The settings that an operator chooses."""
 
     name: str  # of the project, as volunteers see it
     url: str  # the master URL, by which volunteers know the project
     listen: Address  # where the bridge listens
     scheduler: Address  # where bsched listens
     catalogue: Path
-    state: Path  # the SQLite file of keys and counts
-    operator_key: str | None  # bsched's, with which the status page reads statements
-    threads: int  # how many messages are worked on at once
-    answer_seconds: int  # how long an answer of bsched is waited for
-    retry_delay: int  # the seconds that a client is told to wait where bsched gave no answer
+    state: Path  # the SQLite file of keys, counts and accounts
+    operator_key: str | None  # bsched's; the bridge reads statements and imports accounts with it
+    threads: int  # how many messages are handled at once
+    answer_seconds: int  # how long the bridge waits for an answer of bsched
+    retry_delay: int  # the seconds that a client must wait if bsched gave no answer
     welcome: str | None  # what the project's page says, in the operator's own words
     counts: Path | None  # a file with the counts of a copy of bsched's tables
     host_rules: HostRules
-    accounts: AccountSettings | None  # none where only the operator makes accounts
+    accounts: AccountSettings | None  # None if only the operator makes accounts
     archives: tuple[Path, ...] = ()  # earlier files of the project, whose credit is added
 
     @property
@@ -66,16 +66,14 @@ class Settings:
 
     @property
     def is_without_addresses(self) -> bool:
-        """Whether the limits of accounts see a proxy alone: TLS ends at one, and it tells no address of a
-        client.
-        """
+        """Whether the limits of accounts see only a proxy: it ends TLS, and gives no address of a client."""
         return (
             self.accounts is not None and self.accounts.address_field is None and self.url.startswith("https")
         )
 
 
 def address(file: Entry, member: str) -> Address:
-    """The address that a member tells as HOST:PORT."""
+    """Reads an address that a member gives as HOST:PORT."""
     host, colon, port = file.text(member).rpartition(":")
     if not colon or not host or not (port.isascii() and port.isdigit() and 1 <= int(port) <= 65535):
         file.fault(f"{member} is not HOST:PORT, with a port from 1 to 65535", member)
@@ -83,8 +81,8 @@ def address(file: Entry, member: str) -> Address:
 
 
 def master_url(file: Entry) -> str:
-    """The master URL. Clients bring it to this form: a scheme, a host in small letters, and a slash at the
-    end.
+    """Reads the master URL. It must have the form that clients give it: a scheme, a host in small letters,
+    and a slash at the end.
     """
     url = file.text("url")
     try:
@@ -103,8 +101,8 @@ def master_url(file: Entry) -> str:
 
 
 def is_private(url: str) -> bool:
-    """Whether what is sent to a URL can be read by its two ends alone: by TLS, or since both are this
-    machine.
+    """Returns whether only the two ends can read what is sent to a URL: it is sent by TLS, or both ends are
+    on this machine.
     """
     parts = urlsplit(url)
     if parts.scheme == "https" or parts.hostname == "localhost":
@@ -116,7 +114,7 @@ def is_private(url: str) -> bool:
 
 
 def read_accounts(file: OperatorFile, url: str, has_key: bool) -> AccountSettings | None:
-    """The table `[accounts]`, if there is one."""
+    """Reads the table `[accounts]`, if there is one."""
     entry = file.table("accounts")
     if entry is None:
         return None
@@ -144,12 +142,12 @@ def read_accounts(file: OperatorFile, url: str, has_key: bool) -> AccountSetting
 
 
 def read_host_rules(file: OperatorFile) -> HostRules:
-    """The members that are read again while the bridge runs."""
+    """Reads the members that are read again while the bridge runs."""
     return HostRules(file.whole("most_hosts", 1, 100_000, 20), file.words("barred"))
 
 
 def archive_paths(file: Entry) -> tuple[Path, ...]:
-    """The earlier files of the project."""
+    """Reads the paths of the project's earlier files."""
     paths = []
     for name in file.taken("archives", list, "an array of texts in quotes", []):
         if not isinstance(name, str):
@@ -161,7 +159,7 @@ def archive_paths(file: Entry) -> tuple[Path, ...]:
 
 
 def read_settings(path: Path) -> Settings:
-    """The settings of a file; paths in it are relative to its folder."""
+    """Reads the settings from a file. Paths in it are relative to its folder."""
     file = OperatorFile(path)
     url = master_url(file)
     key = file.word("operator_key") if "operator_key" in file.members else None

@@ -1,6 +1,6 @@
 """The state file: what must outlive a stop of the bridge, in SQLite.
 
-Two modules keep their rows in it: `counts` the keys of bsched with their calls, `members` the accounts.
+Two modules keep their rows in it: `counts` the keys of bsched with their calls, and `members` the accounts.
 """
 import sqlite3
 import threading
@@ -42,7 +42,7 @@ CREATE TABLE member (
 CREATE INDEX member_open ON member (id) WHERE is_imported = 0;
 CREATE INDEX member_created ON member (created_at) WHERE batch IS NOT NULL;
 """
-# the accounts of hosts that were heard before there were members
+# inserts the accounts of hosts that had a reply before the table member existed
 HEARD_MEMBERS = """
 INSERT INTO member (authenticator, name, is_imported, cpid, created_at)
   SELECT authenticator, user_name, 1, lower(hex(randomblob(16))), heard_at FROM host AS one
@@ -52,15 +52,17 @@ INSERT INTO member (authenticator, name, is_imported, cpid, created_at)
   ) ORDER BY heard_at, hostid;
 """
 NEW_FILE = HOSTS + MEMBERS
-UPGRADES = {1: MEMBERS + HEARD_MEMBERS}  # by the version from which one goes to the next
+UPGRADES = {1: MEMBERS + HEARD_MEMBERS}  # by the version that is upgraded, to the next one
 
 
 class StateFault(Exception):
-    """The state file can't be used."""
+    """Raised if the state file can't be used."""
 
 
 class StateFile:
-    """A connection to the state file. One process at a time has it; its threads take turns."""
+    """A connection to the state file. Only one process at a time can have it. The threads of that process
+    take turns.
+    """
 
     def __init__(self, path: Path) -> None:
         self._lock = threading.Lock()
@@ -82,9 +84,10 @@ class StateFile:
 
     @contextmanager
     def transaction(self, is_synced: bool = True) -> Iterator[sqlite3.Connection]:
-        """One transaction: it is on the disk after the block, or was not.
+        """Runs the block in one transaction. If the block ends without an exception, it is committed;
+        otherwise it is undone.
 
-        If it need not be synced, a power failure may undo it, but only with no later one that was synced.
+        If is_synced is false, a power failure may undo it, until a later transaction is synced.
         """
         with self._lock:
             self._connection.execute(f"PRAGMA synchronous = {'FULL' if is_synced else 'NORMAL'}")
@@ -98,12 +101,12 @@ class StateFile:
                 raise
 
     def row(self, statement: str, *values: object) -> tuple[object, ...] | None:
-        """The first row of a query."""
+        """Returns the first row of a query."""
         rows = self.rows(statement, *values)
         return rows[0] if rows else None
 
     def rows(self, statement: str, *values: object) -> list[tuple[object, ...]]:
-        """The rows of a query."""
+        """Returns the rows of a query."""
         with self._lock:
             return self._connection.execute(statement, values).fetchall()
 
@@ -114,9 +117,7 @@ class StateFile:
 
 
 def prepare(connection: sqlite3.Connection) -> None:
-    """Makes the tables in a new file, and brings those of an older format to this one; within a
-    transaction.
-    """
+    """Makes the tables in a new file, or upgrades those of an older format, within a transaction."""
     identity, version = (
         connection.execute(f"PRAGMA {name}").fetchone()[0] for name in ("application_id", "user_version")
     )

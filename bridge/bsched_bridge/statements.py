@@ -1,5 +1,5 @@
-"""How hosts and users stand, from bsched's statements (docs/PROFILE.md, "The statement of a host") and from
-what replies told.
+"""The status of hosts and users, from bsched's statements (docs/PROFILE.md, "The statement of a host") and
+from replies.
 """
 import csv
 import io
@@ -17,7 +17,7 @@ from .scheduler import NoAnswer, Scheduler
 
 MOST_HOSTS = 50
 KEPT_SECONDS = 60  # how long what was read is shown again, so that a page costs bsched nothing
-MOST_KEPT = 200  # accounts whose hosts are kept so long
+MOST_KEPT = 200  # accounts whose hosts are kept for that time
 MOST_COUNTS = 1_048_576  # bytes of a file of counts
 MOST_MOMENT = 250_000_000_000  # seconds; years have four digits
 NO_REPLY, SUCCESS = "4", "1"
@@ -25,9 +25,7 @@ NO_REPLY, SUCCESS = "4", "1"
 
 @dataclass(frozen=True, slots=True)
 class HostStatus:
-    """A host, its credit, and how many of its results are out, wait, are done, came too late or have
-    failed.
-    """
+    """A host, its credit, and how many of its results are out, waiting, done, late or failed."""
 
     host: HeardHost
     credit: int  # millicredits
@@ -40,7 +38,7 @@ class HostStatus:
 
 @dataclass(frozen=True, slots=True)
 class Hosts:
-    """How some hosts stand."""
+    """The status of some hosts."""
 
     hosts: list[HostStatus]
     with_results: bool  # whether statements could be read
@@ -57,17 +55,17 @@ class UnitCounts:
 
 @dataclass(frozen=True, slots=True)
 class Status:
-    """How the project stands."""
+    """The status of the project."""
 
-    recent: Hosts  # those that called last
+    recent: Hosts  # the hosts that called last
     count_of_hosts: int
-    ranking: list[tuple[str, int]]  # each user with the credit, the greatest first
+    ranking: list[tuple[str, int]]  # each user's name and credit, the greatest credit first
     units: UnitCounts | None
     silent_since: float | None  # since when bsched gives no answer
 
 
 def standing(row: dict[str, str]) -> str:
-    """How a result stands, by its line of a statement."""
+    """Returns the state of a result, from its line of a statement."""
     state, outcome, verdict = row["server_state"], row["outcome"], row["validate_state"]
     if state == "4":
         return "out"
@@ -79,7 +77,7 @@ def standing(row: dict[str, str]) -> str:
 
 
 def read_statement(host: HeardHost, text: str) -> HostStatus:
-    """How a host stands by its statement. Its last line is the credit, and no result."""
+    """Reads the status of a host from its statement. The last line is the credit, not a result."""
     rows = list(csv.DictReader(io.StringIO(text)))
     try:
         counted = Counter(map(standing, rows[:-1]))
@@ -90,7 +88,9 @@ def read_statement(host: HeardHost, text: str) -> HostStatus:
 
 
 def read_unit_counts(path: Path | None) -> UnitCounts | None:
-    """The counts of workunits in a file; none where the operator makes no such file, or it can't be read."""
+    """Reads the counts of workunits from a file. Returns None if the operator makes no such file, or it can't
+    be read.
+    """
     if path is None:
         return None
     try:
@@ -107,7 +107,7 @@ def read_unit_counts(path: Path | None) -> UnitCounts | None:
 
 
 class Statements:
-    """Who reads how hosts stand, at most once in a while."""
+    """Reads the status of hosts, and keeps it for a while."""
 
     def __init__(
         self,
@@ -129,8 +129,8 @@ class Statements:
         self._accounts: OrderedDict[str, tuple[Hosts, float]] = OrderedDict()
 
     def status(self) -> Status:
-        """How the project stands. What was read a short time ago is shown again, as it is while somebody
-        reads.
+        """Returns the status of the project. What was read a short time ago is shown again. While
+        somebody else reads, the older status is shown.
         """
         kept = self._kept
         if not self._lock.acquire(blocking=kept is None):
@@ -144,7 +144,7 @@ class Statements:
             self._lock.release()
 
     def of_account(self, authenticator: str) -> Hosts:
-        """How the hosts of an account stand; what was read a short time ago is shown again."""
+        """Returns the status of the hosts of an account. What was read a short time ago is shown again."""
         with self._accounts_lock:
             kept = self._accounts.get(authenticator)
         if kept is not None and time.monotonic() <= kept[1]:
@@ -158,7 +158,7 @@ class Statements:
         return hosts
 
     def _read(self) -> Status:
-        """Reads how the project stands."""
+        """Reads the status of the project."""
         names = self.members.names()
         heard = self.counts.heard_hosts(MOST_HOSTS)
         recent = self._hosts([replace(host, user_name=names.get(host.authenticator, "?")) for host in heard])
@@ -169,8 +169,8 @@ class Statements:
         )
 
     def _hosts(self, heard: list[HeardHost]) -> Hosts:
-        """Reads how hosts stand. Without an answer, or the operator's key, only what replies told is
-        known.
+        """Reads the status of hosts. Without an answer, or without the operator's key, only what replies said
+        is known.
         """
         if self.operator_key is not None:
             try:
@@ -180,7 +180,7 @@ class Statements:
         return Hosts([HostStatus(host, host.host_credit) for host in heard], False, time.time())
 
     def _host(self, host: HeardHost, operator_key: str) -> HostStatus:
-        """How a host stands, by its statement."""
+        """Reads the status of a host from its statement."""
         statement = self.scheduler.statement(host.hostid, operator_key)
         if statement is None:
             raise NoAnswer("the statement is refused")

@@ -5,10 +5,10 @@ MILLICREDITS = 1000
 
 
 def credits_text(millicredits: int) -> str:
-    """Credit."""
+    """Returns credit as text."""
     return f"{millicredits / MILLICREDITS:,.3f}"
 
 
 def moment_text(seconds: float) -> str:
-    """A moment, in UTC."""
+    """Returns a moment as text, in UTC."""
     return datetime.fromtimestamp(seconds, timezone.utc).strftime("%Y-%m-%d %H:%M:%S")

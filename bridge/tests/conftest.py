@@ -51,8 +51,8 @@ input_files = [{ name = "two.txt", open_name = "numbers" }]
 
 @pytest.fixture
 def tmp_path():
-    """A folder of a test, in memory where there is room: tests stop programs and never the power, so nothing
-    need reach a disk.
+    """Yields a folder for a test. It is in memory if there is room. Tests stop programs but never the power,
+    so nothing needs to reach a disk.
     """
     has_room = os.access(MEMORY, os.W_OK) and shutil.disk_usage(MEMORY).free > 2**30
     with tempfile.TemporaryDirectory(prefix="bridge_", dir=MEMORY if has_room else None) as folder:
@@ -61,13 +61,13 @@ def tmp_path():
 
 @pytest.fixture(scope="session")
 def key():
-    """A code signing key."""
+    """Returns a code signing key."""
     return new_key()
 
 
 @pytest.fixture
 def project(tmp_path, key):
-    """A folder with the files of a bridge."""
+    """Makes a folder with the files of a bridge."""
     (tmp_path / "files").mkdir()
     (tmp_path / "files" / "sum_1").write_text("#!/bin/sh\n")
     (tmp_path / "files" / "two.txt").write_text("2\n")
@@ -84,7 +84,7 @@ def project(tmp_path, key):
 
 @pytest.fixture
 def twin():
-    """A bsched: the plain twin behind HTTP."""
+    """A bsched: the plain twin, served over HTTP."""
     served = Twin()
     yield served
     served.close()
@@ -98,7 +98,7 @@ class Bridge:
         self.start()
 
     def start(self) -> None:
-        """Starts it over what its file has."""
+        """Starts the bridge with what its file has."""
         path = self.folder / "bridge.toml"
         settings = read_settings(path)
         self.file = StateFile(settings.state)
@@ -113,14 +113,14 @@ class Bridge:
         self.counts, self.members = self.application.exchange.counts, self.application.members
 
     def restart(self) -> None:
-        """What a stop leaves is what is on the disk."""
+        """Starts the bridge again from what is on the disk."""
         self.file.close()
         self.start()
 
     def got(
         self, path: str, method: str = "GET", body: bytes = b"", **more: str
     ) -> tuple[str, dict[str, str], bytes]:
-        """The status, the fields and the body of an answer."""
+        """Sends a message, and returns the status, the fields and the body of the answer."""
         path, _, query = path.partition("?")
         environ = {
             "REQUEST_METHOD": method,
@@ -136,7 +136,7 @@ class Bridge:
         return *told[0], body
 
     def call(self, body: bytes | str) -> bytes:
-        """The reply to a scheduler_request."""
+        """Returns the reply to a scheduler_request."""
         status, _, told = self.got("/p/cgi", "POST", body.encode() if isinstance(body, str) else body)
         assert status == "200 OK"
         return told

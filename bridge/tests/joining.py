@@ -1,5 +1,5 @@
-"""What tests of accounts share: messages as BOINC's client sends them, and what is asked of accounts in the
-end.
+"""What tests of accounts share: messages as BOINC's client sends them, and questions about the accounts at
+the end.
 """
 import hashlib
 import re
@@ -16,7 +16,7 @@ OPERATORS = {line.partition(",")[0] for line in IMPORTS["accounts"].splitlines()
 
 
 def escaped(text):
-    """A text as the client writes it into a URL: everything but letters and digits is escaped."""
+    """Returns a text as the client writes it into a URL: everything but letters and digits is escaped."""
     return "".join(
         part
         if part.isalnum() and part.isascii()
@@ -30,18 +30,18 @@ def escaped(text):
 
 
 def client_hash(password, email):
-    """What the client sends of a password."""
+    """Returns what the client sends for a password."""
     return hashlib.md5((password + email).encode()).hexdigest()
 
 
 def account_query(page, email, password, **more):
-    """The URL of a message about an account."""
+    """Returns the URL of a message about an account."""
     told = {"email_addr": email, "passwd_hash": client_hash(password, email), **more}
     return f"/p/{page}?" + "&".join(f"{name}={escaped(text)}" for name, text in told.items())
 
 
 def told(answer):
-    """The key that an answer tells, or the number of its error."""
+    """Returns the key in an answer, or the number of its error."""
     status, fields, body = answer
     assert (status, fields["Content-Type"], fields["Cache-Control"]) == (
         "200 OK",
@@ -58,35 +58,35 @@ def told(answer):
 
 
 def create(bridge, email="ann@sums.example", password="secret1", name="ann", client=CLIENT, **more):
-    """What comes of create_account.php."""
+    """Returns the key or the error number from create_account.php."""
     query = account_query("create_account.php", email, password, user_name=name, **more)
     number = told(bridge.got(query, REMOTE_ADDR=client))
-    assert number not in (-161,)  # the Manager never ends with it in answer to a creation
+    assert number not in (-161,)  # the Manager's wizard never ends after this answer to a creation
     return number
 
 
 def look_up(bridge, email="ann@sums.example", password="secret1", client=CLIENT):
-    """What comes of lookup_account.php."""
+    """Returns the key or the error number from lookup_account.php."""
     number = told(bridge.got(account_query("lookup_account.php", email, password), REMOTE_ADDR=client))
-    # the Manager never ends with one of these in answer to a look-up
+    # the Manager's wizard never ends after one of these answers to a look-up
     assert number not in (-136, -161, -204, -205, -206)
     return number
 
 
 def works(bridge, key, cpid="cpid"):
-    """Whether a key is one with which a client gets a host."""
+    """Returns whether a client gets a host with this key."""
     return value(bridge.call(request(key=key, cpid=cpid, seconds=0)), "hostid") is not None
 
 
 def rows(bridge):
-    """The accounts in the state file: the address, the key, and whether bsched has it."""
+    """Returns the accounts in the state file: the address, the key, and whether bsched has it."""
     return bridge.file.rows(
         "SELECT email, authenticator, is_imported FROM member WHERE batch IS NOT NULL ORDER BY id"
     )
 
 
 def made_accounts(twin):
-    """The keys that bsched has, but for the operator's."""
+    """Returns the keys that bsched has, without the operator's."""
     return [key for key in twin.service.machine.rows["accounts"] if key not in OPERATORS]
 
 
@@ -103,13 +103,13 @@ def wait_until(is_so):
 
 
 class Stopped(BaseException):
-    """The bridge is stopped here."""
+    """Raised at the point where a bridge is stopped."""
 
 
 @dataclass
 class Stops:
-    """Stops a bridge at the n-th of its writes and sends, before it or after it; from then on it does nothing
-    more.
+    """Stops a bridge at the n-th of its writes and sends, before or after it. From then on the bridge does
+    nothing more.
     """
 
     at: int
@@ -119,7 +119,7 @@ class Stops:
     points: list = field(default_factory=list)
 
     def around(self, name, act):
-        """Does something, or stops."""
+        """Does one send, or stops."""
         if self.is_stopped:
             raise Stopped
         self.passed += 1
@@ -132,7 +132,7 @@ class Stops:
         raise Stopped
 
     def set(self, monkeypatch, bridge):
-        """Puts it around the writes and sends of a bridge."""
+        """Watches the writes and sends of a bridge."""
         transaction, message = bridge.file.transaction, bridge.application.scheduler.message
         stops = self
 

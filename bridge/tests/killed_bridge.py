@@ -22,7 +22,7 @@ from bsched_bridge.state_file import StateFile  # noqa: E402
 
 
 class Killed(joining.Stopped):
-    """The process ends here, with no time to do anything."""
+    """Ends the process, which gets no time to do anything."""
 
     def __init__(self):
         os.kill(os.getpid(), signal.SIGKILL)
@@ -30,7 +30,7 @@ class Killed(joining.Stopped):
 
 
 class Places:
-    """Where the parts of a bridge are replaced."""
+    """Takes the place of pytest's monkeypatch."""
 
     @staticmethod
     def setattr(target, name, value):
@@ -39,7 +39,7 @@ class Places:
 
 
 class Served:
-    """A bridge as the tests have it."""
+    """A bridge like the one in the tests."""
 
     def __init__(self, path):
         settings = read_settings(path)
@@ -50,7 +50,7 @@ class Served:
 
 
 def main():
-    """Serves until it is killed."""
+    """Serves until the process is killed."""
     path, port, at, when = sys.argv[1:]
     joining.Stopped = Killed
     bridge = Served(Path(path))

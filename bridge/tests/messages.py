@@ -1,9 +1,9 @@
-"""Requests that tests write, and what they read in replies."""
+"""Requests that tests write, and what tests read in replies."""
 import re
 
 
 def request(hostid=0, cpid="c1", key="ann-key", seconds=60, listed=(), reports=(), seqno=0, **more):
-    """A scheduler_request; with listed None it has no list of what the client has."""
+    """Returns a scheduler_request. If listed is None, it has no list of what the client has."""
     other = ""
     if listed is not None:
         names = "".join(f"<other_result><name>{name}</name></other_result>\n" for name in listed)
@@ -35,16 +35,16 @@ def request(hostid=0, cpid="c1", key="ann-key", seconds=60, listed=(), reports=(
 
 
 def names(reply, element):
-    """The names that stand in the elements of a kind."""
+    """Returns the names in the elements of a kind."""
     return re.findall(rf"<{element}>\s*<name>([^<]*)</name>", reply.decode())
 
 
 def jobs(reply):
-    """The names of the jobs of a reply."""
+    """Returns the names of the jobs of a reply."""
     return names(reply, "result")
 
 
 def value(reply, element):
-    """The text of the first element of a kind, or none."""
+    """Returns the text of the first element of a kind, or None."""
     found = re.search(rf"<{element}[^>]*>([^<]*)</{element}>", reply.decode())
     return found[1] if found else None

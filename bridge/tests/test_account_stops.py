@@ -1,5 +1,5 @@
-"""A bridge that is stopped while it makes an account: none is lost, none is made twice, and each told key
-works.
+"""A bridge that is stopped while it makes an account: no account is lost or made twice, and each key that a
+client got works.
 """
 import http.client
 import os
@@ -20,7 +20,7 @@ from bsched_bridge.scheduler import NoAnswer
 
 EMAIL = "ann@sums.example"
 FULL = '{"error":"table_full","number":18}'
-# the answers to the first imports; the last ones are good
+# the answers to the first imports; later answers are good
 PASTS = {
     "good": [],
     "lost": ["lost"],
@@ -34,7 +34,7 @@ PASTS = {
 
 
 def ended_well(bridge, twin, keys):
-    """What has to be so after a stop, once the client has asked until it has a key."""
+    """Checks what must be so after a stop, after the client has asked until it has a key."""
     key = [create(bridge) for _ in range(4)][-1]
     assert look_up(bridge) == key
     assert rows(bridge) == [(EMAIL, key, 1)]
@@ -44,7 +44,7 @@ def ended_well(bridge, twin, keys):
 
 
 def resent(bridge):
-    """Sends what is open again, as the bridge does at its start and now and then."""
+    """Sends open imports again, as the bridge does at its start and at intervals."""
     for _ in range(4):
         try:
             bridge.application.accounts.resend_open()
@@ -56,8 +56,7 @@ def resent(bridge):
 @pytest.mark.parametrize("past", PASTS)
 @pytest.mark.parametrize("asks_first", [True, False], ids=["client first", "resending first"])
 def test_a_stop_at_each_write_and_send(project, monkeypatch, past, is_after, asks_first):
-    """The client asks until it has a key; the bridge is stopped once, at the n-th write or send, for
-    each n.
+    """The client asks until it has a key. The bridge is stopped once, at the n-th write or send, for each n.
     """
     with (project / "bridge.toml").open("a") as file:
         file.write(ACCOUNTS)
@@ -89,7 +88,7 @@ def test_a_stop_at_each_write_and_send(project, monkeypatch, past, is_after, ask
 
 @pytest.mark.parametrize("is_after", [False, True], ids=["before", "after"])
 def test_a_stop_where_the_table_is_full(project, monkeypatch, is_after):
-    """No account is made, and none is left over."""
+    """No account is made, and no row is left over."""
     with (project / "bridge.toml").open("a") as file:
         file.write(ACCOUNTS)
     for at in range(1, 10):
@@ -127,7 +126,7 @@ FAULTS = [
 
 
 def two_at_once(bridge, act):
-    """The answers to the same message twice at once; those that a stop leaves."""
+    """Returns the answers to the same message, sent twice at once. A stop may leave fewer than two."""
     answers = []
 
     def asks():
@@ -169,7 +168,7 @@ def test_a_life_of_accounts(open_bridge, twin, monkeypatch, seed):
         for answer in answers:
             if isinstance(answer, str):
                 assert keys.setdefault(email, answer) == answer
-                # who is the first to make an account has its password, a wrong one too
+                # whoever makes the account first sets its password, even a wrong one
         if chance.random() < 0.2:
             resent(open_bridge)
     twin.import_faults = []
@@ -185,19 +184,19 @@ def test_a_life_of_accounts(open_bridge, twin, monkeypatch, seed):
 
 # ---- A bridge that is killed
 
-# the row, the import, and that it counted
+# the row, the import, and the mark that it counted
 POINTS = [(at, is_after) for at in (1, 2, 3) for is_after in (False, True)]
 
 
 def free_port():
-    """A port that nobody has."""
+    """Returns a port that nobody uses."""
     with socket.socket() as listener:
         listener.bind(("127.0.0.1", 0))
         return listener.getsockname()[1]
 
 
 def asked(port, query):
-    """The answer of a bridge in a process of its own; none where it is killed before."""
+    """Returns the answer of a bridge in another process, or None if the bridge is killed first."""
     for _ in range(100):
         connection = http.client.HTTPConnection("127.0.0.1", port, timeout=20)
         try:
@@ -216,7 +215,7 @@ def asked(port, query):
 
 @pytest.mark.parametrize("at, is_after", POINTS)
 def test_a_bridge_that_is_killed(project, twin, at, is_after):
-    """The process is killed by SIGKILL at a write or at the send; what it left is enough."""
+    """SIGKILL ends the process at a write or at the send. What it leaves is enough."""
     port = free_port()
     with (project / "bridge.toml").open("a") as file:
         file.write(ACCOUNTS)
@@ -244,7 +243,7 @@ def test_a_bridge_that_is_killed(project, twin, at, is_after):
 
 
 def test_a_bridge_that_is_not_killed_answers(project, twin):
-    """The same without a kill: there are as many writes and sends as the test above goes through."""
+    """The same without a kill. There are as many writes and sends as the test above goes through."""
     with (project / "bridge.toml").open("a") as file:
         file.write(ACCOUNTS)
     bridge = Bridge(project, twin)

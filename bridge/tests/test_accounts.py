@@ -77,7 +77,7 @@ def test_queries(open_bridge, query):
         ("@sums.example", -205),
         ("a@b@c.de", -205),
         ("ann@localhost", -205),
-        # the Manager takes these for addresses, and does not end with -205
+        # the Manager accepts these as addresses, and its wizard never ends with -205
         ("a b@sums.example", -208),
         ("a@sums.ex ample", -208),
         ("a\x01@sums.example", -208),
@@ -128,7 +128,7 @@ def test_terms_need_consent(project, open_bridge, twin):
     assert rows(open_bridge) == []
     key = create(open_bridge, consent_flag="1", source="BOINC Manager 7.20.5")
     assert open_bridge.members.of_key(key).consent_at > 0
-    assert create(open_bridge) == key  # consent was given
+    assert create(open_bridge) == key  # consent was given before
     assert b"Be &lt;kind&gt;." in open_bridge.got("/p/terms")[2]
 
 
@@ -197,7 +197,7 @@ def test_a_thousand_creations_from_one_address(open_bridge, twin):
     assert [type(answer) for answer in answers[:3]] == [str] * 3
     assert answers[3:] == [-208] * 997
     assert len(rows(open_bridge)) == len(made_accounts(twin)) == 3
-    assert look_up(open_bridge, "u0@sums.example") == answers[0]  # who has an account goes on
+    assert look_up(open_bridge, "u0@sums.example") == answers[0]  # a user with an account is not affected
     assert isinstance(create(open_bridge, "v@sums.example", client="198.51.100.8"), str)
 
 
@@ -222,13 +222,13 @@ def test_a_day_takes_so_many_accounts(project, open_bridge, twin, caplog):
     ]
     assert answers[4:] == [-208] * 4
     assert "4 accounts were made in 24 hours" in caplog.text
-    open_bridge.restart()  # the day is counted in the table
+    open_bridge.restart()  # the table has the count of the day
     assert create(open_bridge, "v@sums.example", client="198.51.100.4") == -208
     with open_bridge.file.transaction() as connection:
         connection.execute(
             "UPDATE member SET created_at = created_at - 86400 WHERE id = (SELECT min(id) FROM member)"
         )
-    # who was refused because of the day was not counted for the address
+    # a refusal because of the day does not count for the address
     assert isinstance(create(open_bridge, "v@sums.example", client="198.51.100.4"), str)
     assert create(open_bridge, "w@sums.example", client="198.51.100.5") == -208
 
@@ -249,7 +249,7 @@ def test_wrong_passwords_of_a_client(open_bridge):
             -155,
             -207,
         )
-    # now a right one does not help, and it makes no difference whether the address is known
+    # now the right one does not help either, and known and unknown addresses get the same answer
     assert look_up(open_bridge, "u0@sums.example") == look_up(open_bridge, "nobody@sums.example") == -183
     assert look_up(open_bridge, "u0@sums.example", client="198.51.100.8") == keys[0]
 
@@ -304,10 +304,10 @@ def test_whose_address_it_is(project, open_bridge):
     assert isinstance(made("a", "127.0.0.1", HTTP_X_REAL_IP="198.51.100.1"), str)
     assert made("b", "127.0.0.1", HTTP_X_REAL_IP="198.51.100.1") == -208
     assert isinstance(made("b", "127.0.0.1", HTTP_X_REAL_IP="198.51.100.2"), str)
-    # only a proxy on this machine is believed
+    # the bridge believes only a proxy on this machine
     assert isinstance(made("c", "203.0.113.1", HTTP_X_REAL_IP="198.51.100.3"), str)
     assert made("d", "203.0.113.1", HTTP_X_REAL_IP="198.51.100.4") == -208
-    # what is no address counts for the peer
+    # if the field is no address, the message counts for the peer
     assert isinstance(made("e", "127.0.0.1", HTTP_X_REAL_IP="nobody"), str)
     assert made("f", "127.0.0.1") == -208
 
@@ -397,7 +397,7 @@ def test_what_is_refused_takes_no_hash(project, open_bridge, monkeypatch):
 
 
 def test_letters_are_made_small_as_the_client_does_it(open_bridge):
-    key = create(open_bridge, "É@sums.example")  # as the client sends what was written É@Sums.example
+    key = create(open_bridge, "É@sums.example")  # the client sends this for É@Sums.example
     assert look_up(open_bridge, "É@sums.example") == key
     assert rows(open_bridge)[0][0] == "É@sums.example"
 
@@ -413,7 +413,7 @@ def test_a_bridge_that_is_busy(open_bridge, monkeypatch):
 
 
 def test_account_messages_leave_threads_for_calls(open_bridge):
-    """Half of the threads at most are at work for accounts; who comes then is told to try again, at once."""
+    """At most half of the threads work for accounts. Any further message is asked at once to try again."""
     answers = []
     locks = open_bridge.application.accounts._locks
     with locks.held(EMAIL):
@@ -487,7 +487,7 @@ def test_another_refusal_keeps_the_row(open_bridge, twin, caplog, error):
     assert len(rows(open_bridge)) == 1
     assert f"refuses the import of account {rows(open_bridge)[0][1][:6]}.. as {error}" in caplog.text
     twin.import_faults = [json.dumps({"error": error, "number": 1})]
-    open_bridge.application.accounts.resend_open()  # it does not keep others from theirs
+    open_bridge.application.accounts.resend_open()  # this account does not hold up the others
     assert works(open_bridge, create(open_bridge))
 
 
@@ -511,9 +511,9 @@ def test_bsched_that_was_put_back_to_an_older_copy(open_bridge, twin, caplog):
     assert len(twin.imports) == 3
     assert made_accounts(twin) == [key]
     assert "does not know account" in caplog.text
-    # a key that nobody made is refused as ever
+    # a key that nobody made is still refused
     assert "Invalid or missing account key" in value(open_bridge.call(request(key="nobody")), "message")
-    # and a told key is kept where bsched has no room for it any more
+    # and a key that a client got is kept, even if bsched has no more room for it
     del machine.rows["accounts"][key]
     twin.import_faults = ['{"error":"table_full","number":18}']
     machine.hosts.clear()
@@ -540,7 +540,7 @@ def test_creations_at_once_are_one(open_bridge, twin, monkeypatch):
 
 
 def test_the_day_is_counted_where_the_row_is_made(open_bridge):
-    """Creations that come at once look at the day before any of them has its row."""
+    """Creations that come at once check the day before any of them has its row."""
     members, secret = open_bridge.members, Passwords(Cost(2**4, 8, 1)).new_secret("0" * 32)
     for number in range(2):
         members.insert(f"u{number}@sums.example", secret, "N", False, 1000, 2)
@@ -550,7 +550,9 @@ def test_the_day_is_counted_where_the_row_is_made(open_bridge):
 
 
 def test_a_full_disk(open_bridge, twin, monkeypatch):
-    """Nothing can be written for a while: no key is told, and afterwards there is one account."""
+    """For a while nothing can be written. No client gets a key, and afterwards there is one account for each
+    address.
+    """
     with monkeypatch.context() as patch:
         patch.setattr(open_bridge.file, "transaction", lambda is_synced=True: 1 // 0)
         assert create(open_bridge) == -183

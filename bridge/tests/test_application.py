@@ -1,4 +1,4 @@
-"""The pages, the downloads, and what is no message to the bridge."""
+"""The pages, the downloads, and messages that the bridge refuses."""
 import re
 import xml.etree.ElementTree as ElementTree
 
@@ -16,12 +16,13 @@ def test_the_master_page_has_both_forms(bridge):
     assert '<link rel="boinc_scheduler" href="http://127.0.0.1:8081/p/cgi">' in lines
 
 
-# the numbers of BOINC's errors with which the Manager's wizard never ends, in an answer to a look-up
+# the error numbers of BOINC with which the Manager's wizard never ends, in an answer to a look-up
 HANGING_ERRORS = {"-136", "-161", "-205", "-206", "-204"}
 
 
 def account_answer(bridge, query):
-    """The answer to a message about an account; the client reads its body only where the status is 200."""
+    """Returns the answer to a message about an account. The client reads its body only if the status is 200.
+    """
     status, fields, body = bridge.got(f"/p/{query}")
     assert (status, fields["Content-Type"]) == ("200 OK", "text/xml; charset=utf-8")
     return ElementTree.fromstring(body)
@@ -32,7 +33,7 @@ def test_what_a_client_asks_before_it_attaches(bridge):
     assert config.findtext("name") == "Sums"
     assert config.findtext("master_url") == config.findtext("web_rpc_url_base") == "http://127.0.0.1:8081/p/"
     assert config.findtext("platforms/platform/platform_name") == "x86_64-pc-linux-gnu"
-    # as an e-mail address the Manager takes no account key, as a user name it takes any text
+    # the Manager accepts no account key as an e-mail address, but any text as a user name
     for member in ("uses_username", "account_creation_disabled", "client_account_creation_disabled"):
         assert config.findtext(member) == "1"
 
@@ -57,7 +58,7 @@ def test_no_client_makes_an_account(bridge):
 
 
 def cells(page, before, place):
-    """The numbers that stand in a row of a table after the place-th occurrence of a text."""
+    """Returns the numbers in the rest of a table row, after the place-th occurrence of a text."""
     rest = page.split(before)[place].partition("</tr>")[0]
     return re.findall('<td class="number">([^<]*)</td>', rest)
 
@@ -69,7 +70,7 @@ def test_the_status_page(bridge):
     # credit, out, waiting, done, late, failed
     assert cells(page, "<td>Ann</td>", 2) == ["5.000", "1", "1", "1", "1", "1"]
     bridge.call(request(key="bob-key", cpid="c2"))
-    assert "Bob" not in bridge.got("/p/status")[2].decode()  # it is not read anew for each look
+    assert "Bob" not in bridge.got("/p/status")[2].decode()  # the page is not read anew each time
 
 
 def test_users_of_one_name_are_two(bridge):

@@ -1,4 +1,4 @@
-"""Credit of earlier files of a project is added to replies and to the status page."""
+"""Credit from earlier files of the project is added to replies and to the status page."""
 import sqlite3
 
 import plain_tables
@@ -12,7 +12,7 @@ from bsched_bridge.settings import read_settings
 
 
 def archive(path, credits):
-    """An archive with some credit for each authenticator and host_cpid."""
+    """Makes an archive with some credit for each authenticator and host_cpid."""
     connection = sqlite3.connect(path)
     connection.executescript(plain_tables.FIRST_SCHEMA)
     users = list(dict.fromkeys(user for user, _ in credits))

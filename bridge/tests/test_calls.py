@@ -1,4 +1,4 @@
-"""The JSON of calls, at the bounds of the profile."""
+"""The JSON of calls, at the limits of the profile."""
 import json
 from dataclasses import replace
 
@@ -13,7 +13,7 @@ REQUEST = read_request(request(hostid=7).encode())
 
 
 def told(asked, in_hand=(), seconds=0):
-    """The record of the call of a request; the twin's reader has to take it."""
+    """Returns the record of the call of a request. The twin's reader must accept it."""
     body = calls.call_text(asked, "made", 5, list(in_hand), seconds)
     record_of(body)
     return json.loads(body)
@@ -76,5 +76,5 @@ def test_no_call_is_too_large(output, length, listed):
     other = None if listed is None else tuple(f"{number:04}".rjust(length, "o") for number in range(listed))
     call = told(replace(REQUEST, results=results, other_results=other))
     assert call["results"]
-    if "other_results" in call:  # each result is told in one way or the other
+    if "other_results" in call:  # each result is either reported or listed
         assert len(call["results"]) + len(call["other_results"]) == 300 + listed

@@ -1,4 +1,4 @@
-"""What is read of XML, and what is refused."""
+"""What the bridge reads from XML, and what it refuses."""
 import time
 from pathlib import Path
 
@@ -94,7 +94,7 @@ def test_sections_are_looked_at_once():
     for body in (part * 350_000, (part + b"]]>") * 350_000, (part + b"</stderr_out>") * 200_000):
         with pytest.raises(RequestFault):
             read_request(body)
-    assert time.process_time() - began < 60  # each section once: looked at again and again, it would be hours
+    assert time.process_time() - began < 60  # each section is looked at once; otherwise it would take hours
 
 
 @pytest.mark.parametrize("told, status", [

@@ -35,7 +35,7 @@ def test_keys_are_read_again(key):
     assert read_public_key(public).public_numbers() == key.public_key().public_numbers()
     lines = public.split("\n")
     assert (lines[0], lines[-2:], len(lines)) == ("1024", [".", ""], 1 + 8 + 2)
-    assert lines[8].endswith("010001")  # the exponent, with zeros before it
+    assert lines[8].endswith("010001")  # the exponent, after zeros
 
 
 def test_signatures(key):
@@ -75,7 +75,7 @@ def test_the_commands(tmp_path):
     assert told.returncode == 0
     assert file_md5(tmp_path / "program") == MD5
     assert is_signature(MD5, told.stdout, public)
-    assert ordered(tmp_path, "keygen").returncode == 1  # it writes over no key
+    assert ordered(tmp_path, "keygen").returncode == 1  # it overwrites no key
     told = ordered(tmp_path, "sign", "program", "--key", "code_sign_public")
     assert (told.returncode, told.stderr) == (
         1,

@@ -1,4 +1,4 @@
-"""What the file of keys and counts keeps."""
+"""What the bridge keeps in its state file about keys and counts."""
 import threading
 
 import pytest
@@ -87,7 +87,7 @@ def test_a_number_of_a_host_that_is_given_anew(counts):
     counts.opened(other, lambda number: b"call")
     counts.answered(other, reply(hostid=1), [])
     assert counts.key_of("ann-key", 1, "new") == other
-    assert counts.key_of("ann-key", 1, "c1") == KEY  # who tells a host_cpid of its own goes on with it
+    assert counts.key_of("ann-key", 1, "c1") == KEY  # a host that sends its own host_cpid keeps its key
 
 
 def test_numbers_end(counts):
@@ -116,7 +116,7 @@ def test_a_new_host_is_refused_where_there_are_as_many_as_may_be(counts):
         counts.opened(Key("ann-key", f"c{number}"), lambda number: b"call", most_hosts=3)
     with pytest.raises(TooManyHosts):
         counts.opened(Key("ann-key", "c3"), lambda number: b"call", most_hosts=3)
-    counts.opened(Key("ann-key", "c1"), lambda number: b"call", most_hosts=1)  # it is there
+    counts.opened(Key("ann-key", "c1"), lambda number: b"call", most_hosts=1)  # this host exists already
     counts.opened(Key("bob-key", "c3"), lambda number: b"call", most_hosts=3)
-    counts.refused(Key("ann-key", "c0"))  # no host came of it
+    counts.refused(Key("ann-key", "c0"))  # it has no host, so its key is forgotten
     counts.opened(Key("ann-key", "c3"), lambda number: b"call", most_hosts=3)

@@ -1,6 +1,4 @@
-"""The promises of the bridge: counts, answers that get lost, restarts, and what a client sees of a
-refusal.
-"""
+"""The promises of the bridge: counts, lost answers, restarts, and what a client sees of a refusal."""
 import json
 import threading
 
@@ -29,7 +27,7 @@ def test_hostid_is_left_out_for_a_client_that_has_one(bridge):
 
 
 def test_the_bridge_counts_by_itself(bridge, twin):
-    for seqno in (5, 5, 0, 7):  # whatever the client counts
+    for seqno in (5, 5, 0, 7):  # for any number of the client
         bridge.call(request(seqno=seqno, listed=None))
     assert [call["rpc_seqno"] for call in twin.calls()] == [1, 2, 3, 4]
 
@@ -46,7 +44,7 @@ def test_a_host_cpid_that_changes_is_mapped(bridge, twin):
 
 def test_a_reply_that_the_client_lost(bridge):
     assert jobs(bridge.call(request())) == ["u1_0"]
-    assert jobs(bridge.call(request())) == ["u1_0"]  # it lists nothing, so the job comes again
+    assert jobs(bridge.call(request())) == ["u1_0"]  # the client lists nothing, so the job comes again
     assert jobs(bridge.call(request(hostid=1, listed=["u1_0"]))) == ["u2_0"]
 
 
@@ -78,7 +76,7 @@ def test_no_answer_is_a_reply_with_a_delay_and_no_loss(bridge, twin, fault):
     assert names(reply, "result_ack") == []
     reply = bridge.call(request(hostid=1, reports=[("u1_0", "42")]))
     assert names(reply, "result_ack") == ["u1_0"]
-    assert twin.heard[1] == twin.heard[4]  # the call without an answer comes first
+    assert twin.heard[1] == twin.heard[4]  # the call without an answer is sent first
     assert twin.calls()[5]["rpc_seqno"] == 3
     assert len(twin.heard) == 6
 
@@ -132,7 +130,7 @@ def test_jobs_of_an_answer_that_came_too_late_are_kept(project, monkeypatch, res
     bridge.restart()
     reply = bridge.call(request(listed=listed, seconds=61))
     assert twin.heard[2] == twin.heard[3]
-    # one of the late answer, and one for the second that it leaves wanting
+    # the job of the late answer, and one more for the second that it does not fill
     assert jobs(reply) == ["u1_0", "u2_0"]
     assert value(reply, "hostid") == "1"
     assert jobs(bridge.call(request(hostid=1, listed=["u1_0", "u2_0"], seconds=0))) == []
@@ -141,8 +139,8 @@ def test_jobs_of_an_answer_that_came_too_late_are_kept(project, monkeypatch, res
 
 
 def test_a_stop_between_a_call_and_its_answer(bridge, twin):
-    """The call stands with its bytes when bsched hears it; what a stop at that moment leaves is enough to go
-    on.
+    """When bsched gets a call, the call's bytes are in the state file. So a stop at that moment leaves enough
+    to continue.
     """
     bridge.call(request())
     seen = []
@@ -167,7 +165,7 @@ def test_open_calls_are_sent_again_at_the_start(bridge, twin):
     wait_until(lambda: bridge.counts.next_open(FIRST_KEY) is None)
     resending.end()
     assert twin.heard[3] == twin.heard[4]
-    assert len(twin.heard) == 5  # and no more, once there is an answer
+    assert len(twin.heard) == 5  # and no more after the answer
     assert json.loads(twin.told[-1])["result_ack"] == ["u1_0"]
 
 
@@ -233,7 +231,7 @@ def test_a_count_that_was_lost_goes_on(bridge, twin, project):
     assert twin.calls()[-1]["rpc_seqno"] == 5
 
 
-# what a client is told of each refusal of the profile, where a call gets it; no call gets those of operators'
+# what a client reads after each refusal of the profile, if a call gets it; no call gets those of operators'
 # messages
 REFUSED = ("refused this request", "3600.000000", "low")
 REFUSALS = {
@@ -246,7 +244,7 @@ REFUSALS = {
     "bad_member": ("can't read what this computer tells", "86400.000000", "notice"),
     "bad_account": ("Invalid or missing account key", "86400.000000", "notice"),
     "bad_host": REFUSED,
-    "stale": REFUSED,  # again and again; once is the matter of the bridge alone
+    "stale": REFUSED,  # three times in a row; the bridge handles a single one itself
     "reused": REFUSED,
     "hosts_full": ("takes no more computers", "86400.000000", "notice"),
     **dict.fromkeys(
@@ -293,7 +291,7 @@ def test_a_count_behind_that_of_bsched(bridge, twin, error):
     bridge.call(request())
     assert [call["rpc_seqno"] for call in twin.calls()] == [1, 42]
     twin.faults = [json.dumps({"error": error, "last": last, "number": 10}) for last in (50, 60, 70)]
-    assert "refused" in value(bridge.call(request(hostid=1)), "message")  # tried a few times, and no more
+    assert "refused" in value(bridge.call(request(hostid=1)), "message")  # after three attempts
     assert [call["rpc_seqno"] for call in twin.calls()[2:]] == [43, 51, 61]
 
 

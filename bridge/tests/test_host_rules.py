@@ -1,6 +1,4 @@
-"""How many hosts an account may have, and accounts that are barred; the settings are read again without a new
-start.
-"""
+"""How many hosts an account may have, and barred accounts. The settings are read again without a restart."""
 import os
 import threading
 
@@ -12,7 +10,7 @@ FULL = "Your account has 3 computers at this project, and may have no more."
 
 @pytest.fixture
 def small(project, bridge):
-    """A bridge with three hosts for each account."""
+    """A bridge that allows each account three hosts."""
     settings(project, "most_hosts = 3")
     return bridge
 
@@ -26,13 +24,13 @@ def settings(project, *lines):
 
 
 def called(bridge, number, key="ann-key", hostid=0):
-    """The hostid of a host that calls, or the message to a volunteer."""
+    """Has a host call. Returns its hostid, or the message to the volunteer."""
     reply = bridge.call(request(key=key, cpid=f"c{number}", hostid=hostid, seconds=0))
     return value(reply, "hostid") or value(reply, "message") or "known"
 
 
 def test_one_account_fills_no_project(bridge, twin):
-    """20 where nothing is said."""
+    """The limit is 20 by default."""
     answers = [called(bridge, number) for number in range(200)]
     assert answers[:20] == [str(number) for number in range(1, 21)]
     assert {answer[:24] for answer in answers[20:]} == {"Your account has 20 comp"}
@@ -79,7 +77,7 @@ def test_the_settings_are_read_again(project, small, caplog):
     assert FULL in called(small, 3)
     settings(project, "most_hosts = 4")
     assert called(small, 3) == "4"
-    settings(project, "most_hosts = 1")  # those that are there go on
+    settings(project, "most_hosts = 1")  # existing hosts continue
     assert called(small, 3) == "4" and "4 computers" in called(small, 4)
     settings(project, "most_hosts = 0")
     assert "4 computers" in called(small, 4)
@@ -111,7 +109,7 @@ def test_a_barred_account(project, bridge, twin, caplog):
 def test_hosts_that_bsched_has_lost_make_room(small, twin):
     assert [called(small, number) for number in range(3)] == ["1", "2", "3"]
     machine = twin.service.machine
-    for key in [key for key, host in machine.hosts.items() if host.number == 3]:  # put back to an older copy
+    for key in [key for key, host in machine.hosts.items() if host.number == 3]:  # as in an older copy
         del machine.hosts[key]
     assert called(small, 7) == "3"
     assert FULL in called(small, 8)
@@ -126,7 +124,7 @@ def test_a_host_that_bsched_has_is_let_in(small, twin, project):
     for path in project.glob("bridge.db*"):
         path.unlink()
     small.start()
-    assert [called(small, number) for number in (7, 8, 9)] == ["4", "5", "6"]  # the lost ones are not known
+    assert [called(small, number) for number in (7, 8, 9)] == ["4", "5", "6"]  # the file is new
     assert called(small, 0, hostid=1) == "known"
     assert FULL.replace("3", "4") in called(small, 10)
 

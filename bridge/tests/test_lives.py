@@ -1,4 +1,4 @@
-"""Random lives of clients: answers, replies and bridges get lost, and nothing else does."""
+"""Random lives of clients. Answers, replies and bridges get lost, and nothing else does."""
 import http.client
 import json
 import random
@@ -15,7 +15,7 @@ FAULTS = ["lost", "unheard", "unavailable", "garbage"]
 
 
 class Client:
-    """A client as BOINC's is: what it has it lists, and what it finished it reports until that is
+    """A client that acts as BOINC's does. It lists what it has, and reports what it finished until that is
     acknowledged.
     """
 
@@ -30,7 +30,7 @@ class Client:
         )
 
     def call(self, bridge, chance, loses, seconds=61):
-        """Calls; the reply may be lost on the way, or the bridge."""
+        """Calls. The reply may get lost on the way, and the bridge may be killed."""
         self.finished |= {name for name in self.working if chance.random() < 0.5}
         self.working -= self.finished
         told = request(
@@ -75,7 +75,7 @@ def test_a_life(bridge, twin, seed):
     for _ in range(40):
         for client in clients:
             client.call(bridge, chance, loses=False)
-    # each client has had each of the eight workunits, and has credit for each, once
+    # each client has had each of the eight workunits, and has credit for each one once
     for number, client in enumerate(clients, 1):
         reply = bridge.call(request(hostid=client.hostid, key=client.key, cpid=client.cpid, seconds=0))
         assert value(reply, "user_total_credit") == "40.000"
@@ -85,7 +85,9 @@ def test_a_life(bridge, twin, seed):
 
 
 def looked_at_numbers(twin):
-    """The numbers of a key rise, and only the same bytes have the same number; no call was refused."""
+    """Checks that the numbers of a key rise, that only the same bytes repeat a number, and that no call was
+    refused.
+    """
     last = {}
     for body in twin.heard:
         call = json.loads(body)
@@ -98,9 +100,7 @@ def looked_at_numbers(twin):
 
 @pytest.mark.parametrize("seed", range(6))
 def test_a_life_of_a_client_that_lists_nothing(bridge, twin, seed):
-    """Such a client is sent nothing again by bsched: what answers bring that were late is handed on by the
-    bridge alone.
-    """
+    """bsched sends nothing again to such a client. Only the bridge passes on the jobs of late answers."""
     chance = random.Random(seed)
     clients = [Client("ann-key", "c1", False), Client("bob-key", "c2", False)]
     for _ in range(60):
@@ -124,8 +124,8 @@ class KilledBridge(Bridge):
     """A bridge in a process of its own."""
 
     def call(self, body):
-        """The reply to a scheduler_request; an OSError or an HTTPException where the bridge is killed before
-        it is there.
+        """Returns the reply to a scheduler_request. Raises OSError or HTTPException if the bridge is killed
+        before the reply comes.
         """
         connection = http.client.HTTPConnection("127.0.0.1", self.port, timeout=10)
         try:

@@ -1,4 +1,4 @@
-"""Faults of the settings and of the catalogue are told with their line."""
+"""Faults of the settings and of the catalogue are reported with their line."""
 import re
 import subprocess
 import sys
@@ -208,7 +208,7 @@ def test_a_signature_of_another_key(project):
 
 
 def ordered(folder, *words):
-    """What the command line does."""
+    """Runs the command line, and returns what it did."""
     return subprocess.run(
         [sys.executable, "-m", "bsched_bridge", *words],
         cwd=folder,

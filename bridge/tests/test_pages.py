@@ -15,8 +15,7 @@ FORM = "application/x-www-form-urlencoded"
 
 
 class Page(HTMLParser):
-    """A page as a browser reads it: each element is closed, and no script and no style stands beside the one
-    style.
+    """A page as a browser reads it. Each element is closed, and there is no script, and no style but the one.
     """
 
     def __init__(self, text):
@@ -49,7 +48,7 @@ class Page(HTMLParser):
 
 
 def page_of(answer, status="200 OK", has_key=False):
-    """The page of an answer, whose fields are as they have to be."""
+    """Returns the page of an answer, and checks the answer's fields."""
     told, fields, body = answer
     assert (told, fields["Content-Type"]) == (status, "text/html; charset=utf-8")
     assert fields["Referrer-Policy"] == "no-referrer"
@@ -64,7 +63,7 @@ def page_of(answer, status="200 OK", has_key=False):
     assert text.count(f"<style>{STYLE}</style>") == 1 and "<script" not in text and "javascript:" not in text
     page = Page(text)
     assert ("meta", {"name": "viewport", "content": "width=device-width, initial-scale=1"}) in page.tags
-    for tag, told in page.tags:  # each field has a label and what describes it
+    for tag, told in page.tags:  # each field has a label, and its descriptions exist
         if tag == "input" and told["type"] not in ("hidden", "checkbox"):
             assert [1 for name, other in page.tags if name == "label" and other.get("for") == told["id"]]
             for target in (told.get("aria-describedby") or "").split():
@@ -73,7 +72,7 @@ def page_of(answer, status="200 OK", has_key=False):
 
 
 def posted(bridge, path, client=CLIENT, **fields):
-    """The answer to a form."""
+    """Returns the answer to a form."""
     body = urlencode(fields).encode()
     return bridge.got(f"/p/{path}", "POST", body, CONTENT_TYPE=FORM, REMOTE_ADDR=client, HTTP_ORIGIN="null")
 
@@ -151,7 +150,7 @@ def test_the_page_of_an_account(open_bridge, twin):
 
 
 def test_an_account_of_the_operator_has_a_page(open_bridge):
-    page_of(open_bridge.got("/p/account_finish.php?auth=ann-key"), "404 Not Found")  # no host was heard yet
+    page_of(open_bridge.got("/p/account_finish.php?auth=ann-key"), "404 Not Found")  # no host has called yet
     open_bridge.call(request())
     assert "Ann" in page_of(open_bridge.got("/p/account_finish.php?auth=ann-key"), has_key=True).text
 
@@ -183,7 +182,7 @@ def test_a_name_and_consent_are_changed(open_bridge):
     reply = open_bridge.call(request(key=key, cpid="c1")).decode()
     assert "<user_name>Ann &lt;A&gt;</user_name>" in reply
     shown = open_bridge.got("/p/status")[2].decode()
-    assert shown.count("<td>Ann &lt;A&gt;</td>") == 2  # as user, and of the host
+    assert shown.count("<td>Ann &lt;A&gt;</td>") == 2  # once for the user, once for the host
     posted(open_bridge, "account_finish.php", key=key, name="Ann")
     assert open_bridge.members.of_key(key).is_exported is False
 
@@ -328,7 +327,7 @@ def test_a_scheduler_that_is_silent(open_bridge, twin):
     twin.import_faults = ["unavailable"]
     create(open_bridge)
     open_bridge.application.statements._kept = None
-    # it answered the statement since
+    # it has answered the statement since
     assert "no answer since" not in page_of(open_bridge.got("/p/status")).text
     twin.close()
     open_bridge.application.statements._kept = None

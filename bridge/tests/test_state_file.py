@@ -1,4 +1,4 @@
-"""The state file: one bridge has it, older formats are brought to this one, and others are refused."""
+"""The state file: only one bridge has it, older formats are upgraded, and other files are refused."""
 import re
 import sqlite3
 
@@ -34,7 +34,7 @@ ROWS = [
 
 
 def old_file(path):
-    """A state file of version 1."""
+    """Makes a state file of version 1."""
     connection = sqlite3.connect(path)
     connection.executescript(VERSION_1)
     connection.executemany(
@@ -48,7 +48,7 @@ def old_file(path):
 
 
 def contents(path):
-    """What a file has."""
+    """Returns what a file has."""
     connection = sqlite3.connect(path)
     try:
         return list(connection.iterdump()), connection.execute("PRAGMA user_version").fetchone()[0]
@@ -99,7 +99,7 @@ def test_a_file_of_version_1_is_brought_to_version_2(tmp_path):
     assert [counts.open_call(Key("ann-key", cpid)) for cpid in ("c1", "c2")] == [None, b"call 9"]
     assert counts.open_call(Key("eve-key", "c4")) == b"call 1"
     assert counts.key_of("ann-key", 3, "new") == Key("ann-key", "c2")
-    # the accounts that were heard are known, in the order in which they were heard; made by nobody here
+    # the accounts whose hosts had a reply are known, in the order of the first replies; they have no batch
     ann, bob = members.of_key("ann-key"), members.of_key("bob-key")
     assert (ann.name, ann.created_at, ann.email, ann.batch, ann.is_imported) == ("Ann", 100, None, None, True)
     assert (bob.name, bob.id) == ("Bob", 1)
@@ -108,7 +108,7 @@ def test_a_file_of_version_1_is_brought_to_version_2(tmp_path):
     assert list(members.open_ones()) == []
     file.close()
     kept = contents(path)
-    StateFile(path).close()  # it is opened as it is
+    StateFile(path).close()  # no upgrade is needed
     assert contents(path) == kept
     assert kept[1] == 2
 

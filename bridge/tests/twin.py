@@ -1,6 +1,4 @@
-"""A bsched for tests: the plain twin of bench/plain.py behind HTTP, which loses answers where it is
-told to.
-"""
+"""A bsched for tests: the plain twin of bench/plain.py, served over HTTP. It can lose answers."""
 import json
 import threading
 import time
@@ -31,14 +29,14 @@ total,,,,,,,5.000
 
 
 class Handler(BaseHTTPRequestHandler):
-    """One message."""
+    """The handler of one message."""
 
     def do_POST(self):
-        """A call or an import."""
+        """Answers a call or an import."""
         twin = self.server.twin
         body = self.rfile.read(int(self.headers["content-length"]))
         if len(body) < int(self.headers["content-length"]):
-            return  # the bridge was killed while it sent this; bsched does not act on it either
+            return  # the bridge was killed while it sent this; bsched does not act on such a message either
         if self.path.startswith("/import/"):
             return self.do_import(body)
         with twin.lock:
@@ -64,7 +62,7 @@ class Handler(BaseHTTPRequestHandler):
             self.say(status, told)
 
     def do_import(self, body):
-        """An import."""
+        """Answers an import."""
         twin = self.server.twin
         _, _, kind, batch = self.path.split("/")
         with twin.lock:
@@ -91,7 +89,7 @@ class Handler(BaseHTTPRequestHandler):
             self.say(status, told)
 
     def do_GET(self):
-        """A statement."""
+        """Answers with a statement."""
         if self.headers["x-operator-key"] != "change-this-key":
             return self.say(403, '{"error":"not_operator","number":13}')
         return self.say(200, STATEMENT)
@@ -104,22 +102,22 @@ class Handler(BaseHTTPRequestHandler):
         self.wfile.write(told.encode())
 
     def log_message(self, *_words):
-        """Nothing."""
+        """Prints nothing."""
 
 
 class Server(ThreadingHTTPServer):
-    """A server that tells nothing of connections that break."""
+    """A server that prints nothing about broken connections."""
 
     def handle_error(self, _request, _address):
-        """Nothing."""
+        """Prints nothing."""
 
 
 class Twin:
-    """The twin with what it heard.
+    """The twin, with the messages that it got.
 
     Each call takes one of the faults, in their order: `unheard`, `lost`, `slow`, `unavailable`, `garbage`, or
-    the JSON of a refusal. Each import takes one of its own: these without `slow`, or `another`, the answer to
-    another import.
+    the JSON of a refusal. Each import takes one of the import faults: the same ones but `slow`, or `another`,
+    the answer to another import.
     """
 
     def __init__(self, **settings):
@@ -143,10 +141,10 @@ class Twin:
         threading.Thread(target=self.server.serve_forever, args=(0.02,), daemon=True).start()
 
     def calls(self):
-        """What was heard, as JSON."""
+        """Returns the calls that it got, as JSON."""
         return [json.loads(body) for body in self.heard]
 
     def close(self):
-        """Ends it."""
+        """Stops the server."""
         self.server.shutdown()
         self.server.server_close()

@@ -1,1 +1,1 @@
-"""What `bridge/try` is made of. None of it is part of the bridge."""
+"""The modules that `bridge/try` uses. None of them is part of the bridge."""

@@ -1,7 +1,7 @@
 """BOINC's Manager on a screen of its own, with a mouse and a keyboard.
 
-The places are those of the Manager 7.20.5 of Debian 12 on a screen without a window manager, from the upper
-left corner of its wizard.
+The places are those of the Manager 7.20.5 of Debian 12 on a screen without a window manager. They are counted
+from the upper left corner of its wizard.
 """
 import mmap
 import os
@@ -19,19 +19,19 @@ STILL_SECONDS, MOST_SECONDS = 1.0, 30.0
 NEXT, YES_ANYWAY = (462, 452), (439, 270)
 URL_FIELD, AGREE, NEW_USER, EXISTING_USER = (349, 355), (27, 355), (32, 85), (308, 85)
 EMAIL, PASSWORD, CONFIRM = (221, 149), (221, 184), (221, 221)
-# the pointer in a text does not blink, so that a page that is ready does not change
+# the cursor in a text field does not blink, so a page that is ready does not change
 GTK_SETTINGS = "[Settings]\ngtk-cursor-blink=0\ngtk-enable-animations=0\n"
 
 
 class Screen(Program):
-    """A screen that nobody sees."""
+    """A virtual screen."""
 
     def __init__(self, folder: Path):
         words = ["Xvfb", DISPLAY, "-screen", "0", "1024x768x24", "-fbdir", str(folder)]
         super().__init__("screen", [*words, "-noreset", "-listen", "tcp", "-ac"], folder, SCREEN_PORT)
 
     def kill(self) -> None:
-        """Ends it, with the time to remove its lock."""
+        """Ends the screen, and gives it time to remove its lock."""
         if self.process is not None and self.process.poll() is None:
             self.process.terminate()
             try:
@@ -40,7 +40,7 @@ class Screen(Program):
                 super().kill()
 
     def picture(self) -> tuple[int, int, bytes]:
-        """What is on it: width, height, and four bytes for each point (the format of xwd)."""
+        """Returns what is on the screen: width, height, and four bytes for each point (the format of xwd)."""
         with (self.folder / "Xvfb_screen0").open("rb") as file:
             with mmap.mmap(file.fileno(), 0, access=mmap.ACCESS_READ) as shown:
                 head = struct.unpack(">25I", shown[:100])
@@ -49,7 +49,7 @@ class Screen(Program):
                 return width, height, shown[start:][: line * height]
 
     def keep(self, name: str) -> None:
-        """Keeps what is on it as a picture."""
+        """Saves what is on the screen as a picture."""
         width, height, points = self.picture()
         colours = bytearray(3 * width * height)
         for place, source in enumerate((2, 1, 0)):
@@ -75,7 +75,7 @@ class Manager(Program):
         (self.home / ".config" / "gtk-3.0").mkdir(parents=True)
         (self.home / ".config" / "gtk-3.0" / "settings.ini").write_text(GTK_SETTINGS)
         self.opened = self.home / "opened"
-        browser = self.home / "xdg-open"  # what the Manager opens pages with
+        browser = self.home / "xdg-open"  # with this the Manager opens pages
         browser.write_text(f'#!/bin/sh\necho "$1" >> {self.opened}\n')
         browser.chmod(0o755)
         words = ["boincmgr", "-m", "-nd", "-n", "127.0.0.1", "-g", str(client.port), "-d", str(client.home)]
@@ -87,7 +87,7 @@ class Manager(Program):
         self.client, self.screen = client, screen
 
     def start(self) -> None:
-        """Starts it; a Manager without a project shows its wizard."""
+        """Starts the Manager. Without a project it shows its wizard."""
         password = (self.client.home / "gui_rpc_auth.cfg").read_text().strip()
         self.words = [*self.words[:9], "-p", password]
         super().start()
@@ -100,7 +100,7 @@ class Manager(Program):
         self.screen.until_still()
 
     def _wizard(self) -> tuple[int, int] | None:
-        """The corner of the wizard, where it is there."""
+        """Returns the corner of the wizard, or None if it does not show yet."""
         for window in self._do("search", "--onlyvisible", "--name", "BOINC Manager").split():
             told = self._do("getwindowgeometry", window)
             place, size = re.search(r"Position: (\d+),(\d+)", told), re.search(r"Geometry: (\d+)x(\d+)", told)
@@ -109,7 +109,7 @@ class Manager(Program):
         return None
 
     def _do(self, *words: str) -> str:
-        """What xdotool does and prints."""
+        """Runs xdotool, and returns what it prints."""
         return subprocess.run(
             ["xdotool", *words], env=self.environment, capture_output=True, text=True, timeout=30
         ).stdout
@@ -121,20 +121,20 @@ class Manager(Program):
         self.screen.until_still()
 
     def write(self, place: tuple[int, int], text: str) -> None:
-        """Writes a text into a field, in place of what stands in it."""
+        """Replaces the text in a field."""
         self.click(place)
         self._do("key", "ctrl+a")
         self._do("type", "--delay", "20", text)
         self.screen.until_still()
 
     def page(self, number: int, what: str) -> None:
-        """Keeps a picture of a page of the wizard."""
+        """Saves a picture of a page of the wizard."""
         self.screen.keep(f"{self.client.name}_{number}_{what}")
 
     # ---- The wizard
 
     def to_the_account(self) -> None:
-        """From the URL to the page that asks for an account; the project has terms."""
+        """Goes from the URL to the page that asks for an account. The project has terms."""
         self.write(URL_FIELD, self.client.url)
         self.page(1, "url")
         self.click(NEXT)
@@ -152,7 +152,7 @@ class Manager(Program):
         self.finish("account")
 
     def look_up(self, email: str, password: str) -> None:
-        """Uses an account."""
+        """Uses an existing account."""
         self.to_the_account()
         self.click(EXISTING_USER)
         for place, text in ((EMAIL, email), (PASSWORD, password)):
@@ -171,4 +171,4 @@ class Manager(Program):
             time.sleep(0.5)
         self.screen.until_still()
         self.page(5, "added")
-        self.click(NEXT)  # the button says Finish here
+        self.click(NEXT)  # the button's label is Finish here

@@ -23,11 +23,11 @@ PREFERENCES = "<global_preferences><suspend_cpu_usage>0</suspend_cpu_usage></glo
 
 
 class TrialFault(Exception):
-    """Something is not as it has to be."""
+    """Raised if something is wrong."""
 
 
 def listens(port: int) -> bool:
-    """Whether somebody listens on a port of 127.0.0.1."""
+    """Returns whether something listens on a port of 127.0.0.1."""
     with socket.socket() as probe:
         return probe.connect_ex(("127.0.0.1", port)) == 0
 
@@ -43,7 +43,7 @@ class Program:
         self.process: subprocess.Popen | None = None
 
     def start(self) -> None:
-        """Starts it, and waits until it listens."""
+        """Starts the program, and waits until it listens."""
         with (self.folder / f"{self.name}.log").open("ab") as log:
             self.process = subprocess.Popen(
                 self.words, cwd=self.folder, env=self.environment, stdout=log, stderr=log
@@ -57,18 +57,18 @@ class Program:
         raise TrialFault(f"{self.name} does not start, see {self.folder / self.name}.log")
 
     def log(self) -> str:
-        """What it told."""
+        """Returns what the program wrote to its log."""
         return (self.folder / f"{self.name}.log").read_text(errors="replace")
 
     def kill(self) -> None:
-        """Kills it with no time to do anything."""
+        """Kills the program, which gets no time to do anything."""
         if self.process is not None and self.process.poll() is None:
             self.process.send_signal(signal.SIGKILL)
             self.process.wait()
 
 
 class Scheduler(Program):
-    """A bsched over tables in a file."""
+    """A bsched with its tables in a file."""
 
     def __init__(self, program: str, folder: Path, port: int, operator_key: str):
         words = [program, "serve", "--tables", "project.db", "--port", str(port), "--count", "100000"]
@@ -76,7 +76,7 @@ class Scheduler(Program):
         self.program, self.operator_key = program, operator_key
 
     def order(self, *words: str) -> str:
-        """What an order prints."""
+        """Runs a subcommand, and returns what it prints."""
         told = subprocess.run([self.program, *words], cwd=self.folder, capture_output=True, text=True)
         if told.returncode:
             raise TrialFault(
@@ -85,7 +85,7 @@ class Scheduler(Program):
         return told.stdout
 
     def asked(self, path: str, body: str | None = None) -> str:
-        """The answer to an operator's message."""
+        """Returns the answer to an operator's message."""
         message = urllib.request.Request(
             f"http://127.0.0.1:{self.port}{path}",
             None if body is None else body.encode(),
@@ -95,7 +95,7 @@ class Scheduler(Program):
             return response.read().decode()
 
     def statement(self, host: int) -> dict[str, list[str]]:
-        """The lines of a host's statement, by the results."""
+        """Returns the lines of a host's statement, by result."""
         lines = [line.split(",") for line in self.asked(f"/hosts/{host}").splitlines()]
         return {line[0]: line[1:] for line in lines[1:]}
 
@@ -110,7 +110,7 @@ class Bridge(Program):
         )
 
     def order(self, *words: str) -> str:
-        """What an order prints."""
+        """Runs a subcommand, and returns what it prints."""
         return subprocess.run(
             [*self.words[:3], *words],
             cwd=self.folder,
@@ -135,7 +135,7 @@ class Client(Program):
         self.said = ""  # what boinccmd printed about an account
 
     def command(self, *words: str) -> str:
-        """What boinccmd prints."""
+        """Runs boinccmd, and returns what it prints."""
         password = (self.home / "gui_rpc_auth.cfg").read_text().strip()
         told = subprocess.run(
             ["boinccmd", "--host", f"127.0.0.1:{self.port}", "--passwd", password, *words],
@@ -148,21 +148,21 @@ class Client(Program):
         self.command("--project_attach", self.url, self.authenticator)
 
     def create_account(self, email: str, password: str, name: str) -> str | None:
-        """Makes an account at the project; its key, or none where it gets none."""
+        """Makes an account at the project. Returns its key, or None if the client gets no key."""
         return self._account_key("--create_account", self.url, email, password, name)
 
     def look_up(self, email: str, password: str) -> str | None:
-        """Looks an account up; its key, or none."""
+        """Looks an account up. Returns its key, or None."""
         return self._account_key("--lookup_account", self.url, email, password)
 
     def _account_key(self, *words: str) -> str | None:
-        """The key that boinccmd prints."""
+        """Returns the key that boinccmd prints."""
         self.said = self.command(*words)
         found = re.search(r"account key: (\S+)", self.said)
         return found[1] if found else None
 
     def credit(self) -> float:
-        """The credit of this machine at the project, as the client shows it."""
+        """Returns the credit of this machine at the project, as the client shows it."""
         told = self.command("--get_project_status").partition(f"master URL: {self.url}\n")[2]
         found = re.search(r"host_total_credit: (\S+)", told)
         return float(found[1]) if found else 0.0
@@ -172,13 +172,13 @@ class Client(Program):
         self.command("--project", self.url, "update")
 
     def tasks(self) -> dict[str, str]:
-        """The results that the client has, with its own state of each."""
+        """Returns the results that the client has, with the client's own state of each."""
         told = self.command("--get_tasks")
         return dict(re.findall(r"^   name: (\S+)$.*?^   state: ([^\n]*)$", told, re.MULTILINE | re.DOTALL))
 
     def downloads(self) -> bool:
-        """Whether files of a task are on their way. What breaks off is tried again minutes later, and no job
-        is asked for till then.
+        """Returns whether files of a task are still being downloaded. The client retries a broken download
+        only minutes later, and asks for no job until then.
         """
         return any(state in ("new", "downloading") for state in self.tasks().values())
 

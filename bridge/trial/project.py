@@ -1,4 +1,4 @@
-"""The project of a trial: its files, and the workunits that are imported on the way."""
+"""The project of a trial: its files, and the workunits that are imported during the trial."""
 import shutil
 from pathlib import Path
 
@@ -24,7 +24,7 @@ WORKUNITS = (
     "name,app,min_quorum,target_nresults,max_error_results,max_total_results,max_success_results,"
     "delay_bound,rsc_fpops_est,rsc_memory_bound,rsc_disk_bound,credit\n"
 )
-# how long a job of each workunit takes
+# how many seconds a job of each workunit takes
 SECONDS = {
     "first": 1, "lost": 8, "given_up": 5, "failing": 60, "held": 1, "next": 1, "last": 12, "carol": 1,
     "second": 1,
@@ -33,7 +33,7 @@ NUMBERS = range(1, 101)
 
 
 def workunit(name: str, quorum: int, errors: int) -> str:
-    """The import of one workunit, which fails by more than so many errors."""
+    """Returns the import of one workunit, which fails after more than this many errors."""
     return (
         f"{WORKUNITS}{name},sum,{quorum},{quorum},{errors},5,4,86400,10000000000,100000000,100000000,5000\n"
     )

@@ -1,4 +1,4 @@
-"""A proxy of HTTP between two programs of a trial, which loses or holds answers where it is told to."""
+"""An HTTP proxy between two programs of a trial. It can lose or hold answers."""
 import http.client
 import threading
 from collections.abc import Callable
@@ -11,7 +11,7 @@ HOP_FIELDS = {"connection", "keep-alive", "transfer-encoding", "content-length",
 
 @dataclass
 class Message:
-    """A message that went through, and its answer."""
+    """A message that the proxy passed on, and its answer."""
 
     path: str
     body: bytes
@@ -21,25 +21,25 @@ class Message:
 
 @dataclass
 class Fault:
-    """What is done with the answer to the first message that it fits: it is lost, at once or when it is let
-    go.
+    """A fault for the first message that fits: its answer is lost. If is_held is true, the connection stays
+    open until let_go is set.
     """
 
     fits: Callable[[Message], bool]
     is_held: bool = False
-    # the other program has answered such a message
+    # set when the other program has answered such a message
     met: threading.Event = field(default_factory=threading.Event)
     let_go: threading.Event = field(default_factory=threading.Event)
     message: Message | None = None  # that message
 
 
 class Handler(BaseHTTPRequestHandler):
-    """One message."""
+    """The handler of one message."""
 
     protocol_version = "HTTP/1.1"
 
     def pass_on(self) -> None:
-        """Passes a message on, and its answer back."""
+        """Passes a message on, and the answer back."""
         proxy = self.server.proxy
         self.close_connection = True
         message = Message(self.path, self.rfile.read(int(self.headers.get("content-length", 0))))
@@ -77,7 +77,7 @@ class Handler(BaseHTTPRequestHandler):
     do_GET = do_POST = pass_on
 
     def log_message(self, *_words) -> None:
-        """Nothing: no line for each message."""
+        """Prints nothing: no line for each message."""
 
 
 class Proxy:
@@ -94,13 +94,13 @@ class Proxy:
         threading.Thread(target=self._server.serve_forever, daemon=True).start()
 
     def plan(self, fault: Fault) -> Fault:
-        """Plans a fault; it happens once."""
+        """Plans a fault. It happens once."""
         with self._lock:
             self._faults.append(fault)
         return fault
 
     def fault_of(self, message: Message) -> Fault | None:
-        """The first planned fault that a message fits."""
+        """Takes and returns the first planned fault that a message fits."""
         with self._lock:
             fault = next((fault for fault in self._faults if fault.fits(message)), None)
             if fault is not None:

@@ -24,18 +24,18 @@ began = time.monotonic()
 
 
 def seen(text: str) -> None:
-    """Prints what was seen, and when."""
+    """Prints what was seen, and after how many seconds."""
     print(f"{time.monotonic() - began:6.1f} s  {text}", flush=True)
 
 
 def wants(is_so: object, what: str) -> None:
-    """Ends the trial where something is not so."""
+    """Ends the trial if something is not so."""
     if not is_so:
         raise TrialFault(what)
 
 
 def is_request_of(client: Client, part: str = "") -> Callable[[Message], bool]:
-    """The test for a request of a client, in XML or JSON, in which a text stands."""
+    """Returns the test for a request of a client, in XML or JSON, that has this text in it."""
     key, text = client.authenticator.encode(), part.encode()
     return lambda message: key in message.body and text in message.body
 
@@ -51,7 +51,7 @@ class Run:
         self.programs: list[Program] = [self.bridge, self.scheduler]
 
     def begin(self) -> None:
-        """Makes the project and starts bsched and the bridge."""
+        """Makes the project and starts bsched, the proxies and the bridge."""
         self.scheduler.order("create", "--settings", "settings.toml", "--tables", "project.db")
         for kind in project.IMPORTS:
             words = (
@@ -75,14 +75,14 @@ class Run:
         self.bridge.start()
 
     def client(self, name: str, authenticator: str) -> Client:
-        """A client that is ended with the others."""
+        """Returns a new client, which ends with the other programs."""
         count = sum(isinstance(program, Client) for program in self.programs)
         made = Client(name, authenticator, URL, self.folder, GUI_PORT + count)
         self.programs.insert(0, made)
         return made
 
     def end(self) -> None:
-        """Ends all."""
+        """Ends all programs."""
         for program in self.programs:
             program.kill()
 
@@ -91,7 +91,7 @@ class Run:
         self.scheduler.asked(f"/import/workunits/{name}", project.workunit(name, quorum, errors))
 
     def until(self, is_so: Callable[[], object], what: str, *callers: Client) -> None:
-        """Waits until something is so, while clients call."""
+        """Waits until something is so. Meanwhile these clients call."""
         ends = time.monotonic() + STEP_SECONDS
         while not is_so():
             wants(time.monotonic() < ends, f"{what}: not so after {STEP_SECONDS} seconds")
@@ -103,12 +103,12 @@ class Run:
                     break
 
     def run(self) -> None:
-        """All steps."""
+        """Runs all steps."""
         raise NotImplementedError
 
 
 def missing(needed: dict[str, str]) -> list[str]:
-    """The packages of Debian that are missing."""
+    """Returns the Debian packages that are missing."""
     lacks = {package for word, package in needed.items() if shutil.which(word) is None}
     for module, package in MODULES.items():
         if subprocess.run(
