@@ -70,8 +70,8 @@ class ReplyWriter:
         return written(root)
 
     def reply(self, request: ClientRequest, reply: Reply) -> bytes:
-        """Returns the reply to a request. It has a hostid only if the client has none yet: a client with
-        another hostid would take itself for a copy.
+        """Returns the reply to a request. It gives a hostid only to a client that has none. A client that has
+        one would take another one as a sign that it was copied.
         """
         root = self._begun(reply.request_delay)
         add(root, "user_name", reply.user_name)

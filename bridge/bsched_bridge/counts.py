@@ -80,7 +80,7 @@ class Counts:
         )
 
     def newest_host(self, authenticator: str) -> tuple[Key, int] | None:
-        """Returns the newest host of an account that has no open call, with its number."""
+        """Returns the account's newest host without an open call, with its number."""
         row = self.file.row(
             "SELECT host_cpid, hostid FROM host WHERE authenticator = ? AND hostid IS NOT NULL AND "
             "open_call IS NULL "

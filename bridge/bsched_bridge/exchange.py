@@ -185,8 +185,8 @@ class Exchange:
 
 
 def jobs_with(reply: Reply, in_hand: list[Job]) -> list[Job]:
-    """Returns the jobs of a reply, after those in hand that it neither sends again nor tells the client to
-    drop.
+    """Returns the jobs in hand that the reply does not send again, acknowledge or abort, followed by the jobs
+    of the reply.
     """
     told = {*reply.result_abort, *reply.result_ack, *(job.name for job in reply.results)}
     return [job for job in in_hand if job.name not in told] + reply.results

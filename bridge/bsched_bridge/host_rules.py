@@ -18,7 +18,7 @@ class HostRuleReader:
         self._seen = self._state()
 
     def _state(self) -> tuple[int, int, int] | None:
-        """Returns what changes if the file is edited, or None if the file can't be found."""
+        """Returns what changes if the file is edited, or None if the file can't be looked at."""
         try:
             status = self.path.stat()
         except OSError:

@@ -52,7 +52,7 @@ INSERT INTO member (authenticator, name, is_imported, cpid, created_at)
   ) ORDER BY heard_at, hostid;
 """
 NEW_FILE = HOSTS + MEMBERS
-UPGRADES = {1: MEMBERS + HEARD_MEMBERS}  # by the version that is upgraded, to the next one
+UPGRADES = {1: MEMBERS + HEARD_MEMBERS}  # the statements from each version to the next
 
 
 class StateFault(Exception):

@@ -1,5 +1,4 @@
-"""What tests of accounts share: messages as BOINC's client sends them, and questions about the accounts at
-the end.
+"""What tests of accounts share: messages as BOINC's client sends them, and checks of the accounts at the end.
 """
 import hashlib
 import re

@@ -87,7 +87,7 @@ class Manager(Program):
         self.client, self.screen = client, screen
 
     def start(self) -> None:
-        """Starts the Manager. Without a project it shows its wizard."""
+        """Starts the Manager, and waits for the wizard that it shows without a project."""
         password = (self.client.home / "gui_rpc_auth.cfg").read_text().strip()
         self.words = [*self.words[:9], "-p", password]
         super().start()
