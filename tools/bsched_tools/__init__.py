@@ -1,16 +1,16 @@
 """Tools for the operator of a project: copies while it serves, results, counts, and why a file is refused.
 
-All but `copy` and `doctor` read a copy of the tables. Nothing here writes the tables. A module for each noun:
+All commands but `copy` and `doctor` read a copy of the tables. Nothing here writes the tables. The modules:
 
 faults, files         faults in one line, and files that are written whole or not at all
-holders, stopping     which process has the tables, and how it stands still for a moment
+holders, stopping     which process has the tables, and how it is stopped for a moment
 taking, copies        the bytes of the tables at one moment, and a folder of copies
-copying               how a copy is made of these
+copying               how a copy is made with these
 schemas, tables       the tables in a copy, opened for reading
 workunits             what became of a workunit, by the rules of docs/PROFILE.md
 results, cursors      the results of workunits, and which were given out before
 counts                how many there are of each thing
 members, averages, exports      users over several files, and the files that statistics sites read
-history, findings, plots, page  the page: what earlier ones counted, what it says, and how it is drawn
+history, findings, plots, page  the page: what earlier reports counted, what it says, and how it is drawn
 checks, settings_file, doctor   why bsched refuses a file
 """

@@ -24,20 +24,20 @@ class CommandLine(argparse.ArgumentParser):
     """A parser that ends with the status of bsched for a bad command line."""
 
     def error(self, message: str) -> NoReturn:
-        """Says what is wrong."""
+        """Prints what is wrong, and ends the program."""
         self.print_usage(sys.stderr)
         self.exit(BAD_COMMAND_LINE, f"{NAME}: {message}\n")
 
 
 def count(text: str) -> int:
-    """A whole number from 1."""
+    """Reads a whole number that is at least 1."""
     if not (text.isascii() and text.isdigit()) or int(text) < 1:
         raise argparse.ArgumentTypeError(f"{text} is not a whole number from 1")
     return int(text)
 
 
 def words() -> argparse.ArgumentParser:
-    """The command line."""
+    """Returns the parser of the command line."""
     parser = CommandLine(prog=NAME, description="Tools for the operator of a project of bsched.")
     commands = parser.add_subparsers(dest="command", metavar="COMMAND", required=True)
     copy = commands.add_parser("copy", help="copies the tables while a program serves them")
@@ -73,7 +73,7 @@ def words() -> argparse.ArgumentParser:
 
 
 def add_copies(parser: argparse.ArgumentParser) -> None:
-    """The option that names the tables which are read."""
+    """Adds the option that names the tables to read."""
     parser.add_argument(
         "--tables", type=Path, required=True, nargs="+", metavar="COPY",
         help="copies of the tables; a folder stands for its newest copy",
@@ -81,7 +81,7 @@ def add_copies(parser: argparse.ArgumentParser) -> None:
 
 
 def copy(told: argparse.Namespace) -> None:
-    """Copies the tables, and says how long serving stood still."""
+    """Copies the tables, and prints how long serving stood still."""
     copied = copy_tables(told.tables, told.to, told.keep, told.check)
     still = "nobody had the tables"
     if copied.still_seconds is not None:
@@ -92,7 +92,7 @@ def copy(told: argparse.Namespace) -> None:
 
 
 def results(told: argparse.Namespace) -> None:
-    """Writes results."""
+    """Writes the results."""
     write_results(told.tables, told.json, told.after, told.cursor, told.to)
 
 
@@ -104,7 +104,7 @@ def counts(told: argparse.Namespace) -> None:
 
 
 def doctor(told: argparse.Namespace) -> int:
-    """Prints why a file is refused; the status."""
+    """Prints why a file is refused, and returns the exit status."""
     if told.tables is None and told.settings is None:
         words().error("doctor: --tables F, --settings S, or both")
     found = False
@@ -117,7 +117,7 @@ def doctor(told: argparse.Namespace) -> int:
 
 
 def statistics(told: argparse.Namespace) -> None:
-    """Writes the files, and says whose names are in them."""
+    """Writes the files for statistics sites, and prints how many users they name."""
     made = export(told.tables, told.to, told.agreed, told.everybody)
     print(f"{told.to}: {made.users} users, of whom {made.agreed} agreed to be named, and {made.hosts} hosts")
 
@@ -138,12 +138,12 @@ COMMANDS: dict[str, Callable[[argparse.Namespace], int | None]] = {
 
 
 def end_by_signal(number: int, _frame: FrameType | None) -> NoReturn:
-    """A signal to end: what was begun is put away first."""
+    """Handles a signal to end. The fault that it raises lets the command clean up first."""
     raise Fault(f"ended by {signal.Signals(number).name}")
 
 
 def main() -> int:
-    """Does what the command line says; the status."""
+    """Does what the command line says, and returns the exit status."""
     told = words().parse_args()
     for number in (signal.SIGINT, signal.SIGTERM, signal.SIGHUP):
         signal.signal(number, end_by_signal)
@@ -158,7 +158,7 @@ def main() -> int:
     except OSError as error:
         where = f"{error.filename}: " if error.filename else "standard output: "
         print(f"{NAME}: {where}{error.strerror}", file=sys.stderr)
-        # what could not be written is not tried again at the end
+        # so that Python does not try again at exit to write what could not be written
         os.dup2(os.open(os.devnull, os.O_WRONLY), 1)
         return FAULT
     return status or 0

@@ -1,5 +1,4 @@
-"""Average credit a day, with a half-life of a week, as BOINC has it; and what is kept for it between two
-runs."""
+"""Average credit a day, with BOINC's half-life of a week, and what is kept for it between two runs."""
 import hashlib
 import hmac
 import json
@@ -16,8 +15,8 @@ DAY, HALF_LIFE_DAYS = 86400, 7
 
 
 def average_after(average: float | None, days: float, credit: float) -> float:
-    """The average after some days that brought so much new credit. With no average yet it is the credit a
-    day."""
+    """Returns the average after some days that brought this much new credit. If there is no average yet, it
+    is the credit a day."""
     if average is None:
         return credit / max(days, 1)
     if days <= 0:
@@ -28,7 +27,7 @@ def average_after(average: float | None, days: float, credit: float) -> float:
 
 @dataclass(slots=True)
 class Kept:
-    """What is kept of a host."""
+    """What is kept about a host."""
 
     id: int
     created: int
@@ -39,7 +38,7 @@ class Kept:
     time: int = 0
 
     def hear(self, host: Host, moment: int) -> None:
-        """Takes what a copy of a moment says."""
+        """Takes in what a copy of this moment says about the host."""
         if self.calls != host.calls:
             self.calls, self.called = host.calls, moment
         self.called = max(self.called, host.last_sent)
@@ -52,7 +51,7 @@ class Kept:
 
 
 class Averages:
-    """The file in which it is kept. No key is in it: users and hosts are named by a keyed digest."""
+    """The file of the averages. It has no keys: it names users and hosts by a keyed digest."""
 
     def __init__(self, path: Path) -> None:
         self.path = path
@@ -74,19 +73,19 @@ class Averages:
             raise Fault(f"{self.path}: it has no averages: move it away, or put back a copy") from None
 
     def digest(self, *words: str) -> str:
-        """The name of a user or a host, 32 digits, the same in each run."""
+        """Returns the name of a user or a host, 32 digits, the same in each run."""
         said = "\0".join(words).encode()
         return hmac.new(self.salt.encode(), said, hashlib.sha256).hexdigest()[:32]
 
     def user(self, user: User, moment: int) -> tuple[int, int]:
-        """The number of a user, and since when it is known."""
+        """Returns the number of a user, and since when the user is known."""
         firsts = [host.first_sent for host in user.hosts.values() if host.first_sent is not None]
         known = [len(self.users) + 1, min([moment, *firsts])]
         number, created = self.users.setdefault(self.digest(user.authenticator), known)
         return number, created
 
     def host(self, user: User, host: Host, moment: int) -> Kept:
-        """What is kept of a host, after it was heard."""
+        """Returns what is kept about a host, after taking in what the tables say about it."""
         name = self.digest(user.authenticator, host.cpid)
         if name not in self.hosts:
             created = moment if host.first_sent is None else min(moment, host.first_sent)
@@ -95,7 +94,7 @@ class Averages:
         return self.hosts[name]
 
     def write(self) -> None:
-        """Writes the file: whole, or not at all."""
+        """Writes the file, whole or not at all."""
         told = {
             "format": FORMAT, "salt": self.salt, "users": self.users,
             "hosts": {name: asdict(kept) for name, kept in self.hosts.items()},

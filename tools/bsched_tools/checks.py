@@ -1,5 +1,5 @@
-"""What an opening of tables looks at, row by row (docs/STORED.md, "Invariants"): which row of which table is
-wrong."""
+"""What bsched checks row by row when it opens tables (docs/STORED.md, "Invariants"): which row of which table
+is wrong."""
 import re
 import sqlite3
 from collections import Counter
@@ -13,9 +13,9 @@ from .settings_file import KEYS, WORD, shown, value_fault
 from .tables import Tables
 from .workunits import DONE, OPEN, SUCCESS, Instance, agree, canonical_of
 
-MOST_TOLD = 20  # of each kind of fault
+MOST_TOLD = 20  # rows for each kind of fault
 PLATFORMS = re.compile(r"[A-Za-z0-9_.-]{1,64}(,[A-Za-z0-9_.-]{1,64}){0,7}")
-# of each table the columns of its key, and for each column what its value must be; `word`, `platforms` and
+# for each table the columns of its key, and for each column what its value must be; `word`, `platforms` and
 # `size` (in bytes) are functions below
 RULES: dict[str, tuple[str, dict[str, str]]] = {
     "account": ("id", {"auth": "word(auth)", "name": "size(name) BETWEEN 1 AND 64"}),
@@ -70,7 +70,7 @@ RULES: dict[str, tuple[str, dict[str, str]]] = {
         "text": "length(text) <= 1048576",
     }),
 }
-# of what relates rows: the table, a query for the keys of rows that break it, and what is wrong
+# rules between rows: the table, a query for the keys of rows that break the rule, and what is wrong
 RELATIONS = [
     ("version", "SELECT id FROM version WHERE id NOT IN (SELECT version_id FROM version_class)",
      "it has no row in version_class"),
@@ -108,7 +108,7 @@ class Wrong:
 
 
 def add_functions(connection: sqlite3.Connection) -> None:
-    """The functions that rules use."""
+    """Adds the functions that the rules use."""
     def matches(form: re.Pattern[str]) -> Any:
         return lambda value: isinstance(value, str) and form.fullmatch(value) is not None
 
@@ -119,12 +119,12 @@ def add_functions(connection: sqlite3.Connection) -> None:
 
 
 def key_text(values: tuple[Any, ...]) -> str:
-    """The key of a row, as a person reads it."""
+    """Returns the key of a row as text for people."""
     return " ".join(str(value) for value in values)
 
 
 def settings_rows(tables: Tables) -> Iterator[Wrong]:
-    """What is wrong with the settings."""
+    """Yields what is wrong with the settings."""
     for name in sorted(KEYS - tables.settings.keys()):
         yield Wrong("setting", name, "it is missing")
     for name, value in sorted(tables.settings.items()):
@@ -139,7 +139,7 @@ def settings_rows(tables: Tables) -> Iterator[Wrong]:
 
 
 def values_of_rows(tables: Tables) -> Iterator[Wrong]:
-    """Values that are out of their ranges."""
+    """Yields the values that are out of their ranges."""
     for table, (key, columns) in RULES.items():
         for column, rule in columns.items():
             query = f"SELECT {key}, {column} FROM {table} WHERE NOT ({rule}) LIMIT {MOST_TOLD}"
@@ -149,7 +149,7 @@ def values_of_rows(tables: Tables) -> Iterator[Wrong]:
 
 
 def gaps(tables: Tables) -> Iterator[Wrong]:
-    """Rows whose numbers have a gap before them, and tables that are too long."""
+    """Yields rows whose numbers have a gap before them, and tables with too many rows."""
     most = {**MOST, "host": tables.settings.get("max_hosts", 0)}
     for table in WITHOUT_GAPS:
         numbered = f"SELECT id, row_number() OVER (ORDER BY id) AS nth FROM {table}"
@@ -161,7 +161,7 @@ def gaps(tables: Tables) -> Iterator[Wrong]:
 
 
 def relations(tables: Tables) -> Iterator[Wrong]:
-    """Rows that do not fit to other rows."""
+    """Yields rows that do not fit other rows."""
     for table, query, what in RELATIONS:
         for row in tables.rows(f"{query} LIMIT {MOST_TOLD}"):
             yield Wrong(table, key_text(row), what)
@@ -174,7 +174,7 @@ def relations(tables: Tables) -> Iterator[Wrong]:
 
 @dataclass(frozen=True, slots=True)
 class Unit:
-    """A workunit with the limits that its status follows from."""
+    """A workunit with the limits that decide its status."""
 
     id: int
     name: str
@@ -189,7 +189,7 @@ class Unit:
 
 
 class Row(NamedTuple):
-    """What is stored of an instance."""
+    """What is stored about an instance."""
 
     num: int
     host: int | None
@@ -200,7 +200,7 @@ class Row(NamedTuple):
 
 
 def good_of(rows: list[Row]) -> list[Instance]:
-    """The judged successes of a workunit, by place."""
+    """Returns the judged successes of a workunit, by place."""
     judged = [
         (row.place, Instance("", row.host, None, row.outcome, row.output, row.place))
         for row in rows if row.place is not None and row.outcome == SUCCESS
@@ -209,14 +209,14 @@ def good_of(rows: list[Row]) -> list[Instance]:
 
 
 def need_of(unit: Unit, rows: list[Row], good: int) -> int:
-    """How many more instances a workunit needs."""
+    """Returns how many more instances a workunit needs."""
     live = sum(row.host is None or row.outcome is None and row.lapse == 0 for row in rows)
     want = max(unit.target_nresults, good + 1 if good >= unit.min_quorum else 0)
     return max(0, want - live - good)
 
 
 def status_of(unit: Unit, rows: list[Row], good: list[Instance]) -> int:
-    """The status of a workunit by its limits and its instances."""
+    """Returns the status of a workunit, from its limits and its instances."""
     errors = sum(row.place is not None and row.outcome != SUCCESS for row in rows)
     if canonical_of(unit.agreement, unit.min_quorum, good) is not None:
         return DONE
@@ -228,7 +228,7 @@ def status_of(unit: Unit, rows: list[Row], good: list[Instance]) -> int:
 
 
 def workunit_faults(unit: Unit, rows: list[Row], good: list[Instance]) -> Iterator[Wrong]:
-    """What is wrong with a workunit and its instances."""
+    """Yields what is wrong with a workunit and its instances."""
     key = str(unit.id)
     if [row.num for row in rows] != list(range(len(rows))):
         yield Wrong("instance", key, "the numbers of the workunit's instances have a gap")
@@ -243,7 +243,7 @@ def workunit_faults(unit: Unit, rows: list[Row], good: list[Instance]) -> Iterat
 
 
 def workunits(tables: Tables) -> Iterator[Wrong]:
-    """What is wrong with workunits, and with the credit of hosts, which follows from them."""
+    """Yields what is wrong with workunits, and with the credit of hosts, which follows from them."""
     credit: Counter[int | None] = Counter()
     for _, group in groupby(tables.rows(UNITS), key=lambda row: int(row[0])):
         told = list(group)
@@ -258,7 +258,7 @@ def workunits(tables: Tables) -> Iterator[Wrong]:
 
 
 def valid_hosts(unit: Unit, good: list[Instance]) -> list[int | None]:
-    """The hosts of the valid results of a workunit."""
+    """Returns the hosts of the valid results of a workunit."""
     best = canonical_of(unit.agreement, unit.min_quorum, good)
     if best is None or unit.status != DONE:
         return []
@@ -266,7 +266,7 @@ def valid_hosts(unit: Unit, good: list[Instance]) -> list[int | None]:
 
 
 def wrong_rows(tables: Tables) -> Iterator[Wrong]:
-    """Each row that is wrong. Workunits are looked at if their values are in their ranges."""
+    """Yields each row that is wrong. Workunits are checked only if nothing else is wrong."""
     add_functions(tables.connection)
     found = False
     for wrong in (*settings_rows(tables), *values_of_rows(tables), *gaps(tables), *relations(tables)):

@@ -1,4 +1,4 @@
-"""A folder of copies: their names, how one gets its place, and which older ones go."""
+"""A folder of copies: their names, how a copy gets its place, and which older copies are removed."""
 import fcntl
 import os
 import shutil
@@ -15,13 +15,13 @@ from .files import sync
 from .taking import Source, Taken
 
 WORK_PREFIX = ".bsched-copy-"
-LEFT_SECONDS = 60.0  # a folder in which a copy is made is left for good if it is older, and nobody has it
+LEFT_SECONDS = 60.0  # a work folder that is older, and that nobody holds, was left by a killed copy
 PAUSE_SECONDS = 0.05
 
 
 @contextmanager
 def turn(path: Path, seconds: float) -> Iterator[None]:
-    """A file or a folder for one copy at a time. Others wait for so long."""
+    """Holds a file or a folder, so that one copy at a time has it. Others wait for this many seconds."""
     descriptor = os.open(path, os.O_RDONLY)
     try:
         ends = time.monotonic() + seconds
@@ -39,7 +39,7 @@ def turn(path: Path, seconds: float) -> Iterator[None]:
 
 
 def clear_left(folder: Path) -> None:
-    """Removes what copies left that were killed."""
+    """Removes the work folders of copies that were killed."""
     for left in folder.glob(f"{WORK_PREFIX}*"):
         with suppress(OSError, Fault):
             if time.time() - left.stat().st_mtime > LEFT_SECONDS:
@@ -49,7 +49,7 @@ def clear_left(folder: Path) -> None:
 
 @contextmanager
 def work_folder(folder: Path) -> Iterator[Path]:
-    """A new folder beside the copies, which goes away at the end."""
+    """Makes a new folder in the folder of copies, and removes it at the end."""
     clear_left(folder)
     made = Path(tempfile.mkdtemp(prefix=WORK_PREFIX, dir=folder))
     try:
@@ -60,18 +60,18 @@ def work_folder(folder: Path) -> Iterator[Path]:
 
 
 def copy_name(source: Source, moment: float) -> str:
-    """The name of a copy: that of the tables, and the moment in UTC."""
+    """Returns the name of a copy: the name of the tables, and the moment in UTC."""
     at = datetime.fromtimestamp(moment, timezone.utc)
     return f"{source.path.stem}-{at:%Y%m%dT%H%M%S}.{at.microsecond // 1000:03}Z.db"
 
 
 def beside(path: Path) -> list[Path]:
-    """What SQLite and bsched may leave beside a database."""
+    """Returns the files that SQLite and bsched may leave next to a database."""
     return [path.with_name(f"{path.name}-{end}") for end in ("wal", "shm", "journal")]
 
 
 def place(taken: Taken, source: Source, target: Path) -> None:
-    """Gives a copy the owner of the tables and its name, which nothing has yet, by one rename."""
+    """Gives a copy the owner of the tables, and by one rename its name, which no file may have yet."""
     for path in (target, *beside(target)):
         if path.exists():
             raise Fault(f"{path}: it exists, and a copy is never written over another: name a new file")
@@ -85,14 +85,15 @@ def place(taken: Taken, source: Source, target: Path) -> None:
 
 
 def project_of(path: Path) -> tuple[frozenset[object], frozenset[object]]:
-    """By what the copies of one project are known: its settings, and its imports, which only become more."""
+    """Returns what identifies a project among copies: its settings, and its imports, which are only ever
+    added to."""
     with tables.opened(path) as copy:
         settings = {item for item in copy.settings.items() if item[0] != "schema"}
         return frozenset(settings), frozenset(copy.rows("SELECT kind, name, length(text) FROM batch"))
 
 
 def is_of_project(path: Path, settings: frozenset[object], imports: frozenset[object]) -> bool:
-    """Whether a file is an older copy of a project. What can't be read is not."""
+    """Returns whether a file is an older copy of a project. A file that can't be read is none."""
     try:
         its_settings, its_imports = project_of(path)
     except Fault:
@@ -101,7 +102,8 @@ def is_of_project(path: Path, settings: frozenset[object], imports: frozenset[ob
 
 
 def remove_older(newest: Path, stem: str, keep: int) -> list[Path]:
-    """Removes all but so many copies of the project of the newest copy, which stays; what was removed."""
+    """Removes older copies of the newest copy's project. This many copies are left, the newest one included.
+    Returns the removed ones."""
     settings, imports = project_of(newest)
     older = [path for path in tables.copies_in(newest.parent, stem) if path != newest]
     removed = [path for path in older if is_of_project(path, settings, imports)][keep - 1:]

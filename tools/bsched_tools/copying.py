@@ -1,9 +1,10 @@
 """A copy of the tables, taken while a program serves them.
 
-A copy is one file. The file of the tables and its log (`-wal`) are copied while the process that has them
-stands still: as if the power had failed then. Afterwards SQLite moves the log of the copy into the file of
-the copy and looks at the whole of it. Only then the file gets its name, by one rename. No name is used twice:
-nothing is written over, and no log of an older copy is ever beside a newer file.
+A copy is one file. The process that has the tables stands still while the file of the tables and its log
+(`-wal`) are copied. The bytes are those that a power failure would have left then. Afterwards SQLite moves
+the log of the copy into the file of the copy and checks the whole of it. Only then does the file get its
+name, by one rename. No name is used twice, so no file is overwritten, and no log of an older copy is ever
+next to a newer file.
 """
 import json
 import sqlite3
@@ -17,7 +18,7 @@ from .copies import copy_name, place, remove_older, turn, work_folder
 from .faults import Fault
 from .taking import Taken, Work, source_of, take
 
-TURN_SECONDS = 60.0  # how long another copy of the same tables is waited for
+TURN_SECONDS = 60.0  # how long to wait for another copy of the same tables
 CHECK_SECONDS = 600.0  # how long the program may take to open the copy
 
 
@@ -31,7 +32,7 @@ def merge(path: Path) -> None:
 
 
 def check_whole(path: Path) -> None:
-    """Looks at the whole copy by SQLite, and at its schema."""
+    """Has SQLite check the whole copy, and checks its schema."""
     with tables.faults_of(path), closing(sqlite3.connect(path, isolation_level=None)) as connection:
         if fault := tables.schema_fault(connection):
             raise Fault(fault)
@@ -41,7 +42,7 @@ def check_whole(path: Path) -> None:
 
 
 def check_by_program(program: Path, path: Path) -> None:
-    """Has the program open the copy: it must say what host 1 was given, or that there is no such host."""
+    """Has the program open the copy. It must say what host 1 was given, or that there is no such host."""
     words = [str(program), "statement", "--tables", str(path), "--host", "1"]
     try:
         told = subprocess.run(
@@ -59,7 +60,7 @@ def check_by_program(program: Path, path: Path) -> None:
 
 
 def check(taken: Taken, program: Path | None) -> None:
-    """Makes one good file of a copy and its log, and looks at it."""
+    """Makes one file of a copy and its log, and checks it."""
     merge(taken.path)
     check_whole(taken.path)
     if program is not None:
@@ -69,7 +70,7 @@ def check(taken: Taken, program: Path | None) -> None:
 
 @dataclass(frozen=True, slots=True)
 class Copied:
-    """What a copy came to."""
+    """What became of a copy."""
 
     path: Path
     size: int
@@ -78,7 +79,7 @@ class Copied:
 
 
 def folder_of(target: Path, keep: int | None) -> Path:
-    """The folder into which a copy goes."""
+    """Returns the folder into which a copy goes."""
     folder = target if target.is_dir() else target.parent
     if not folder.is_dir():
         raise Fault(f"{folder}: no such folder: make it first")

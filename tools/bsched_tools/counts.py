@@ -1,4 +1,4 @@
-"""How many there are of each thing in some tables, as lines, as JSON, and as metrics of Prometheus."""
+"""How many there are of each thing in some tables, as lines, as JSON, and as Prometheus metrics."""
 import json
 from collections import Counter
 from collections.abc import Iterable, Iterator
@@ -11,7 +11,7 @@ from .tables import COPY_NAME, Tables, copies_in, moment_of, opened
 
 DAY = 86400
 STATUSES = {0: "open", 1: "done", 2: "failed by errors", 3: "failed by successes", 4: "failed by the total"}
-# how many rows there may be (docs/PROFILE.md, "What it knows"); of hosts it is a setting
+# how many rows there may be (docs/PROFILE.md, "What it knows"); for hosts a setting says it
 MOST = {"account": 10_000, "app": 100, "version": 1_000, "unit": 200_000}
 NOUNS = {"account": "accounts", "app": "apps", "version": "versions", "unit": "workunits", "host": "hosts"}
 IS_HELD = "host_id IS NOT NULL AND outcome IS NULL AND lapse = 0"
@@ -51,7 +51,7 @@ class Counts:
     bytes: int = 0
 
     def said(self) -> dict[str, object]:
-        """All of it, for JSON."""
+        """Returns all counts, for JSON."""
         return {
             "schema": SCHEMA_NUMBER, "moment": self.moment, "bytes": self.bytes,
             "millicredits": self.millicredits,
@@ -61,17 +61,17 @@ class Counts:
 
 
 def host_keys(tables: Tables, query: str, *values: int) -> set[HostKey]:
-    """The keys of the hosts that a query gives."""
+    """Returns the keys of the hosts in the rows of a query."""
     return {(user, cpid) for user, cpid in tables.rows(query, *values)}
 
 
 def users_of(hosts: Iterable[HostKey]) -> set[str]:
-    """The users of hosts."""
+    """Returns the users of hosts."""
     return {user for user, _ in hosts}
 
 
 def copy_of_a_day_before(tables: Tables) -> Path | None:
-    """The newest copy of the same tables in the folder that is older by a day."""
+    """Returns the newest copy of the same tables in the folder that is at least a day older."""
     match = COPY_NAME.fullmatch(tables.path.name)
     if match is None:
         return None
@@ -80,20 +80,20 @@ def copy_of_a_day_before(tables: Tables) -> Path | None:
 
 
 def last_calls(tables: Tables) -> dict[HostKey, int]:
-    """The number of the last call of each host."""
+    """Returns the number of the last call of each host."""
     return {(user, cpid): number for user, cpid, number in tables.rows(LAST_CALLS)}
 
 
 def hosts_that_called(tables: Tables, before: Path) -> set[HostKey]:
-    """The hosts that called since a copy was taken."""
+    """Returns the hosts that called since a copy was taken."""
     with opened(before) as older:
         known = last_calls(older)
     return {host for host, number in last_calls(tables).items() if known.get(host) != number}
 
 
 def count_people(all_tables: list[Tables], counts: Counts) -> None:
-    """Counts hosts and users, each once over all files: all, those with a job of the last day, those that
-    called."""
+    """Counts hosts and users: all, those with a job of the last day, and those that called. Each counts once
+    over all files."""
     hosts: set[HostKey] = set()
     given: set[HostKey] = set()
     called: set[HostKey] = set()
@@ -128,7 +128,7 @@ def count_rows(tables: Tables, counts: Counts) -> None:
 
 
 def counted(paths: Iterable[Path]) -> Counts:
-    """The counts over files of tables."""
+    """Returns the counts over files of tables."""
     counts = Counts(workunits=Counter(dict.fromkeys(STATUSES.values(), 0)))
     with ExitStack() as stack:
         all_tables = [stack.enter_context(opened(path)) for path in paths]
@@ -143,7 +143,7 @@ def counted(paths: Iterable[Path]) -> Counts:
 
 
 def as_lines(counts: Counts) -> Iterator[str]:
-    """The counts for a person."""
+    """Returns the counts for a person."""
     rows: list[tuple[str, str]] = []
     rows += [(f"workunits {status}", str(number)) for status, number in counts.workunits.items()]
     rows += [(f"instances {state}", str(number)) for state, number in counts.instances.items()]
@@ -158,7 +158,7 @@ def as_lines(counts: Counts) -> Iterator[str]:
 
 
 def metric(name: str, help_text: str, samples: dict[str, object]) -> Iterator[str]:
-    """A gauge with its samples, each by its labels."""
+    """Yields a gauge with its samples, each by its labels."""
     yield f"# HELP bsched_{name} {help_text}"
     yield f"# TYPE bsched_{name} gauge"
     for labels, value in samples.items():
@@ -166,12 +166,12 @@ def metric(name: str, help_text: str, samples: dict[str, object]) -> Iterator[st
 
 
 def labelled(label: str, values: dict[str, int]) -> dict[str, object]:
-    """Samples, one for each value of a label."""
+    """Returns samples, one for each value of a label."""
     return {f'{{{label}="{name.replace(" ", "_")}"}}': number for name, number in values.items()}
 
 
 def as_metrics(counts: Counts) -> Iterator[str]:
-    """The counts in the text format of Prometheus."""
+    """Yields the counts in the text format of Prometheus."""
     yield from metric("copy_timestamp_seconds", "When the copy was taken.", {"": counts.moment})
     yield from metric("schema", "The schema of the tables.", {"": SCHEMA_NUMBER})
     yield from metric("tables_bytes", "The size of the copies.", {"": counts.bytes})
@@ -186,5 +186,5 @@ def as_metrics(counts: Counts) -> Iterator[str]:
 
 
 def as_json(counts: Counts) -> Iterator[str]:
-    """The counts as one line of JSON."""
+    """Yields the counts as one line of JSON."""
     yield json.dumps(counts.said())

@@ -1,7 +1,7 @@
 """Which results were given out before, in a file.
 
-For each file of tables it has the workunits of which no further result can come, as ranges of their numbers,
-and of others the place of the last result that was given out.
+For each file of tables it has the workunits of which no further result can come, as ranges of their numbers.
+For other workunits it has the place of the last result that was given out.
 """
 import fcntl
 import hashlib
@@ -21,14 +21,14 @@ FORMAT = 1
 
 @dataclass(slots=True)
 class Given:
-    """What was given out of one file of tables."""
+    """What was given out from one file of tables."""
 
     closed: set[int] = field(default_factory=set)
     places: dict[int, int] = field(default_factory=dict)
 
 
 def ranges_of(numbers: set[int]) -> list[list[int]]:
-    """Numbers as ranges, each by its first and its last one."""
+    """Returns numbers as ranges, each with its first and its last number."""
     ranges: list[list[int]] = []
     for number in sorted(numbers):
         if ranges and ranges[-1][1] == number - 1:
@@ -39,13 +39,13 @@ def ranges_of(numbers: set[int]) -> list[list[int]]:
 
 
 def numbers_of(ranges: list[list[int]]) -> set[int]:
-    """The numbers in ranges."""
+    """Returns the numbers in ranges."""
     return {number for first, last in ranges for number in range(first, last + 1)}
 
 
 def project_mark(tables: Tables) -> str:
-    """What tells tables from those of other projects, and stays while a project lives: its first workunit and
-    the settings but for the operator's key."""
+    """Returns what distinguishes tables from those of other projects and stays the same while a project
+    lives. It is made of the first workunit and the settings without the operator's key."""
     unit = next(tables.rows("SELECT * FROM unit WHERE id = 1"), None)
     left_out = ("schema", "operator_key")
     settings = sorted(item for item in tables.settings.items() if item[0] not in left_out)
@@ -54,7 +54,7 @@ def project_mark(tables: Tables) -> str:
 
 
 class Cursor:
-    """The file, and what it says."""
+    """The cursor file, and what it says."""
 
     def __init__(self, path: Path) -> None:
         self.path = path
@@ -77,11 +77,11 @@ class Cursor:
             raise Fault(f"{self.path}: it is no cursor: name another file, or a new one") from None
 
     def given(self, tables: Tables) -> Given:
-        """What was given out of some tables."""
+        """Returns what was given out from some tables."""
         return self.projects.setdefault(project_mark(tables), Given())
 
     def write(self) -> None:
-        """Writes the file: whole, or not at all."""
+        """Writes the file, whole or not at all."""
         told = {
             mark: {"closed": ranges_of(given.closed), "places": given.places}
             for mark, given in self.projects.items()
@@ -91,7 +91,7 @@ class Cursor:
 
 @contextmanager
 def cursor_at(path: Path) -> Iterator[Cursor]:
-    """The cursor in a file, for one run at a time."""
+    """Yields the cursor in a file, for one run at a time."""
     if not path.parent.is_dir():
         raise Fault(f"{path}: its folder does not exist: make it first")
     with path.with_name(f"{path.name}.lock").open("w") as lock:

@@ -19,7 +19,7 @@ RESTORE = "put back a copy (docs/OPERATING.md, \"Backup and restore\")"
 
 
 def file_faults(path: Path) -> Iterator[str]:
-    """What is wrong with a file as a file, or with its log."""
+    """Yields what is wrong with a file as a file, or with its log."""
     for one, name in ((path, ""), (log_of(path), "its log: ")):
         try:
             found = one.stat() if one is path else one.lstat()
@@ -41,7 +41,7 @@ def file_faults(path: Path) -> Iterator[str]:
 
 
 def holder_faults(path: Path) -> Iterator[str]:
-    """Which processes have the file."""
+    """Yields which processes have the file."""
     identity = holders.identity_of(path)
     for one in holders.all_open_files(identity) if identity else []:
         if one.lock == "WRITE":
@@ -52,7 +52,7 @@ def holder_faults(path: Path) -> Iterator[str]:
 
 
 def content_faults(path: Path) -> Iterator[str]:
-    """What is wrong with the tables in a file."""
+    """Yields what is wrong with the tables in a file."""
     with faults_of(path), closing(connected(path)) as connection:
         connection.execute("BEGIN")
         if fault := schema_fault(connection):
@@ -70,7 +70,7 @@ def content_faults(path: Path) -> Iterator[str]:
 
 
 def tables_faults(path: Path) -> Iterator[str]:
-    """Why bsched refuses tables."""
+    """Yields why bsched refuses tables."""
     real = Path(os.path.realpath(path))
     found = False
     for look in (file_faults, holder_faults):
@@ -87,7 +87,7 @@ def tables_faults(path: Path) -> Iterator[str]:
 
 
 def examined(tables: Path | None, settings: Path | None) -> Iterator[str]:
-    """Each reason, with the file."""
+    """Yields each reason, with the file."""
     if settings is not None:
         yield from (f"{settings}: {fault}" for fault in settings_faults(settings))
     if tables is not None:

@@ -16,7 +16,7 @@ from .members import Host, User, agreed_in, users_of
 from .tables import opened
 
 TURN_SECONDS = 60.0
-# the characters that XML 1.0 has no place for
+# the characters that XML 1.0 does not allow
 NO_XML = re.compile("[^\t\n\r\x20-\ud7ff\ue000-\ufffd\U00010000-\U0010ffff]")
 
 
@@ -30,25 +30,25 @@ class Exported:
 
 
 def xml_text(value: object) -> str:
-    """A value as XML has it."""
+    """Returns a value as XML text."""
     return escape(NO_XML.sub("\ufffd", str(value)))
 
 
 def element(name: str, members: dict[str, object]) -> str:
-    """An element with its members, one on a line."""
+    """Returns an element with its members, one on a line."""
     lines = [f"    <{member}>{xml_text(value)}</{member}>" for member, value in members.items()]
     return "\n".join([f"<{name}>", *lines, f"</{name}>", ""])
 
 
 def credits_text(millicredits: int) -> str:
-    """Credit, as statements have it."""
+    """Returns credit as statements write it."""
     return f"{millicredits // 1000}.{millicredits % 1000:03}"
 
 
 def user_members(
     user: User, known: tuple[int, int], average: float, cpid: str, moment: int
 ) -> dict[str, object]:
-    """The members of a user who agreed."""
+    """Returns the members of a user who agreed."""
     number, created = known
     return {
         "id": number,
@@ -63,7 +63,7 @@ def user_members(
 
 
 def host_members(host: Host, kept: Kept, userid: int | None, cpid: str) -> dict[str, object]:
-    """The members of a host. Its user is named only if the user agreed."""
+    """Returns the members of a host. They name its user only if the user agreed."""
     return {
         "id": kept.id,
         **({} if userid is None else {"userid": userid}),
@@ -106,7 +106,7 @@ class Export:
         self.millicredits += user.millicredits
 
     def totals(self) -> str:
-        """The text of tables.xml."""
+        """Returns the text of tables.xml."""
         return element("tables", {
             "update_time": self.moment,
             "nusers_total": self.count,
@@ -117,7 +117,7 @@ class Export:
 
 
 def listed(root: str, elements: Iterable[str]) -> Iterator[bytes]:
-    """A list of elements."""
+    """Yields a list of elements."""
     yield f"<{root}>\n".encode()
     for one in elements:
         yield one.encode()
@@ -125,12 +125,13 @@ def listed(root: str, elements: Iterable[str]) -> Iterator[bytes]:
 
 
 def state_of(folder: Path) -> Path:
-    """Where the averages are kept: beside the folder, which is public."""
+    """Returns the file of the averages. It is next to the folder, because the folder is public."""
     return folder.with_name(f"{folder.name}-averages.json")
 
 
 def export(paths: Iterable[Path], folder: Path, agreed: Path | None, everybody: bool) -> Exported:
-    """Writes the files of some tables into a folder. tables.xml comes last: sites look at it first."""
+    """Writes the files of some tables into a folder. tables.xml is written last, because sites look at it
+    first."""
     folder = Path(os.path.abspath(folder))
     if not folder.is_dir():
         raise Fault(f"{folder}: no such folder: make it first")

@@ -1,9 +1,9 @@
-"""What keeps a command from its work."""
+"""The faults that end a command, or a step of it."""
 
 
 class Fault(Exception):
-    """A fault, said in one line with the file and what to do."""
+    """Raised if a command can't do its work. The text is one line, with the file and what to do."""
 
 
 class Retry(Exception):
-    """Another process was in the way for a moment: the same step may succeed when it is tried again."""
+    """Raised if another process was in the way for a moment. The same step may succeed at the next try."""

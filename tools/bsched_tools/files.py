@@ -8,7 +8,7 @@ from .faults import Fault
 
 
 def sync(path: Path) -> None:
-    """What is in a file, or in a folder, is on the disk then."""
+    """Syncs a file or a folder to the disk."""
     descriptor = os.open(path, os.O_RDONLY)
     try:
         os.fsync(descriptor)
@@ -17,7 +17,8 @@ def sync(path: Path) -> None:
 
 
 def replace_file(path: Path, parts: Iterable[bytes], packed_at: int | None = None, mode: int = 0o644) -> None:
-    """Puts a file in its place, by one rename; compressed if a moment is given for that."""
+    """Writes a file and puts it in its place, by one rename. If packed_at is given, it is compressed, with
+    that moment in it."""
     new = path.with_name(f".{path.name}.new")
     try:
         with open(os.open(new, os.O_WRONLY | os.O_CREAT | os.O_TRUNC, mode), "wb") as file:
@@ -36,7 +37,8 @@ def replace_file(path: Path, parts: Iterable[bytes], packed_at: int | None = Non
 
 
 def append_line(path: Path, line: bytes) -> None:
-    """Appends a line to a file. If a stop left the last line half written, the new one begins after it."""
+    """Appends a line to a file. If a stop left the last line half written, the new one begins on a line of
+    its own."""
     try:
         with path.open("ab") as file:
             begins = b"\n" if file.tell() and not path.read_bytes().endswith(b"\n") else b""

@@ -1,5 +1,5 @@
-"""What a page says of a project beside its counts: deadlines, credit, errors, and marked workunits that
-wait."""
+"""What a page says about a project apart from its counts: deadlines, credit, errors, and marked workunits
+that wait."""
 from collections import Counter
 from dataclasses import dataclass
 
@@ -24,7 +24,7 @@ SELECT ifnull(class, ''), count(DISTINCT unit.id), sum(queued)
 FROM unit JOIN unit_mark ON unit_mark.unit_id = unit.id JOIN instance ON instance.unit_id = unit.id
 WHERE marked = 1 AND status = 0 GROUP BY class ORDER BY class
 """
-# marked workunits whose class no newest version of their application has: they wait for good
+# marked workunits whose class no newest version of their application has: they wait until one is imported
 STUCK = """
 SELECT unit.name, unit_mark.class FROM unit JOIN unit_mark ON unit_id = unit.id
 WHERE status = 0 AND unit_mark.class NOT IN (
@@ -38,7 +38,7 @@ ORDER BY unit.id LIMIT ?1
 
 @dataclass(frozen=True, slots=True)
 class HostErrors:
-    """A host, and how many of its results came to nothing."""
+    """A host, and how many of its results failed."""
 
     host: int
     user: str
@@ -50,12 +50,12 @@ class HostErrors:
 
     @property
     def failed(self) -> int:
-        """All of them."""
+        """How many failed in all."""
         return self.errors + self.invalid + self.late
 
 
 def deadlines_by_hour(tables: Tables) -> list[int]:
-    """How many deadlines of held instances are in each hour of the day after the copy."""
+    """Returns how many deadlines of held instances are in each hour of the day after the copy."""
     counted = [0] * DAY_HOURS
     for deadline, in tables.rows(DEADLINES, tables.moment, tables.moment + DAY_HOURS * HOUR):
         counted[(deadline - tables.moment) // HOUR] += 1
@@ -63,12 +63,12 @@ def deadlines_by_hour(tables: Tables) -> list[int]:
 
 
 def credit_by_user(tables: Tables) -> list[tuple[str, int, int]]:
-    """The users with the most credit: name, millicredits, hosts."""
+    """Returns the users with the most credit: name, millicredits, hosts."""
     return [(name, millicredits, hosts) for name, millicredits, hosts in tables.rows(CREDIT, MOST_LISTED)]
 
 
 def hosts_with_errors(tables: Tables) -> list[HostErrors]:
-    """The hosts with the most results that came to nothing."""
+    """Returns the hosts with the most failed results."""
     invalid = Counter(one.host for unit in decided(tables) for one in unit.results if not one.is_valid)
     hosts = [
         HostErrors(host, user, errors or 0, invalid[host], late or 0, given, quota)
@@ -79,10 +79,10 @@ def hosts_with_errors(tables: Tables) -> list[HostErrors]:
 
 
 def marked_by_class(tables: Tables) -> list[tuple[str, int, int]]:
-    """The open marked workunits: class, how many, and how many of their instances wait."""
+    """Returns the open marked workunits: class, how many, and how many of their instances wait."""
     return [(name, units, waiting or 0) for name, units, waiting in tables.rows(MARKED)]
 
 
 def stuck_workunits(tables: Tables) -> list[tuple[str, str]]:
-    """Marked workunits that wait for a class which no newest version has: name and class."""
+    """Returns the marked workunits that wait for a class which no newest version has: name and class."""
     return [(name, version_class) for name, version_class in tables.rows(STUCK, MOST_LISTED)]

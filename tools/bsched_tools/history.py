@@ -1,4 +1,4 @@
-"""What earlier reports counted, in a small file to which each report appends a line."""
+"""What earlier reports counted, in a small file. Each report appends a line to it."""
 import json
 from dataclasses import asdict, dataclass, field
 from pathlib import Path
@@ -9,7 +9,7 @@ from .files import append_line, replace_file
 from .tables import Tables
 
 HOUR = 3600
-# turnaround is counted in these: up to so many hours
+# the bins of turnaround: up to this many hours
 TURNAROUND_HOURS = (1, 6, 24, 72, 168, 336)
 BINS = len(TURNAROUND_HOURS) + 1
 HELD = f"SELECT unit_id, num FROM instance WHERE {IS_HELD}"
@@ -29,12 +29,12 @@ class Entry:
     people: dict[str, int]
     millicredits: int
     bytes: int
-    # of results that were reported since the last report, by bins
+    # of results that were reported since the last report, by bin
     turnaround: list[int] = field(default_factory=lambda: [0] * BINS)
 
 
 def entry_of(line: str) -> Entry | None:
-    """The entry in a line; None if a stop left it half written."""
+    """Returns the entry in a line, or None if a stop left the line half written."""
     try:
         told = json.loads(line)
         return Entry(**told)
@@ -43,12 +43,12 @@ def entry_of(line: str) -> Entry | None:
 
 
 def bin_of(seconds: int) -> int:
-    """In which bin of turnaround some seconds are."""
+    """Returns the bin of turnaround for a number of seconds."""
     return next((at for at, hours in enumerate(TURNAROUND_HOURS) if seconds <= hours * HOUR), BINS - 1)
 
 
 class History:
-    """The file, and which instances were held at the last report."""
+    """The history file, and which instances were held at the last report."""
 
     def __init__(self, folder: Path) -> None:
         self.path, self.held_path = folder / "history.jsonl", folder / "held.json"
@@ -58,7 +58,7 @@ class History:
             self.entries = [entry for entry in found if entry is not None]
 
     def held_before(self) -> tuple[int, set[str]] | None:
-        """When the last report was, and which instances were held then."""
+        """Returns when the last report was, and which instances were held then."""
         try:
             told: dict[str, Any] = json.loads(self.held_path.read_text())
             return int(told["moment"]), set(told["held"])
@@ -66,8 +66,8 @@ class History:
             return None
 
     def turnaround(self, tables: Tables) -> list[int]:
-        """How long results took at most that were reported since the last report. The tables do not say when
-        a result was reported: it was between the last copy and this one."""
+        """Returns how long results took at most that were reported since the last report. The tables do not
+        say when a result was reported. It was between the last copy and this one."""
         counted = [0] * BINS
         before = self.held_before()
         if before is not None:

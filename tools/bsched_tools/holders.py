@@ -1,8 +1,8 @@
-"""Which process has the tables, by the files that processes have open and the locks on these.
+"""Which process has the tables, by the files that processes have open and the locks on them.
 
 A program that works on the tables locks the 512 bytes of the file that SQLite uses for its locks. bsched
-takes one lock of the kind that belongs to an open file (F_OFD_SETLK). Such a lock names no process in
-/proc/locks. So this module searches for a process that has the file open, by device and inode, with the lock
+takes one lock of the kind that belongs to an open file (F_OFD_SETLK). /proc/locks names no process for such a
+lock. So this module looks for a process that has the file open, by device and inode, and has the lock
 (/proc/PID/fdinfo).
 """
 import os
@@ -12,14 +12,14 @@ from dataclasses import dataclass
 from pathlib import Path
 
 PROC = Path("/proc")
-# the bytes on which SQLite has its locks: the pending byte, the reserved byte and the shared range
+# the bytes that SQLite locks: the pending byte, the reserved byte and the shared range
 LOCKS_START, LOCKS_LENGTH = 1 << 30, 512
 LOCK = re.compile(r"^lock:\s+\d+:\s+\S+\s+\S+\s+(READ|WRITE)\s+\S+\s+\S+\s+(\d+)\s+(\d+|EOF)$", re.MULTILINE)
 
 
 @dataclass(frozen=True, slots=True)
 class Identity:
-    """What a file is, regardless of its names."""
+    """The identity of a file, which does not depend on its names."""
 
     device: int
     inode: int
@@ -31,16 +31,16 @@ class OpenFile:
 
     pid: int
     descriptor: str
-    lock: str  # on the bytes of SQLite's locks: READ, WRITE, or nothing
+    lock: str  # on the bytes that SQLite locks: READ, WRITE, or empty
 
     @property
     def process(self) -> str:
-        """The process, as a person reads it."""
+        """The process, as text for people."""
         return f"process {self.pid} ({process_name(self.pid)})"
 
 
 def identity_of(path: Path | str) -> Identity | None:
-    """The identity of a file, if it is there and may be looked at."""
+    """Returns the identity of a file, or None if it can't be found or looked at."""
     try:
         found = os.stat(path)
     except OSError:
@@ -49,7 +49,7 @@ def identity_of(path: Path | str) -> Identity | None:
 
 
 def process_name(pid: int) -> str:
-    """The name of a process."""
+    """Returns the name of a process."""
     try:
         return (PROC / str(pid) / "comm").read_text().strip()
     except OSError:
@@ -57,7 +57,7 @@ def process_name(pid: int) -> str:
 
 
 def lock_of(pid: int, descriptor: str) -> str:
-    """The lock that an open file has on the bytes of SQLite's locks: READ, WRITE, or nothing."""
+    """Returns the lock that an open file has on the bytes that SQLite locks: READ, WRITE, or empty."""
     try:
         told = (PROC / str(pid) / "fdinfo" / descriptor).read_text()
     except OSError:
@@ -71,7 +71,7 @@ def lock_of(pid: int, descriptor: str) -> str:
 
 
 def descriptors_of(pid: int) -> list[str]:
-    """The descriptors of a process, if they may be listed."""
+    """Returns the descriptors of a process, if they may be listed."""
     try:
         return os.listdir(PROC / str(pid) / "fd")
     except OSError:
@@ -79,18 +79,18 @@ def descriptors_of(pid: int) -> list[str]:
 
 
 def open_files_of(pid: int, identity: Identity) -> Iterator[OpenFile]:
-    """How a process has a file open."""
+    """Yields each descriptor by which a process has a file open."""
     for descriptor in descriptors_of(pid):
         if identity_of(f"/proc/{pid}/fd/{descriptor}") == identity:
             yield OpenFile(pid, descriptor, lock_of(pid, descriptor))
 
 
 def all_open_files(identity: Identity) -> list[OpenFile]:
-    """How other processes have a file open."""
+    """Returns each descriptor by which another process has a file open."""
     pids = [int(name) for name in os.listdir(PROC) if name.isdecimal() and int(name) != os.getpid()]
     return [found for pid in pids for found in open_files_of(pid, identity)]
 
 
 def holder_among(found: list[OpenFile]) -> OpenFile | None:
-    """The open file whose lock keeps all others out."""
+    """Returns the open file whose lock keeps all others out."""
     return next((one for one in found if one.lock == "WRITE"), None)

@@ -1,4 +1,4 @@
-"""Users and their hosts over several files of tables: credit is summed by authenticator and host_cpid."""
+"""Users and their hosts over several files of tables. Credit is summed by authenticator and host_cpid."""
 from collections.abc import Iterable
 from dataclasses import dataclass, field
 from pathlib import Path
@@ -23,9 +23,9 @@ class Host:
     fpops: int = 0
     memory: int = 0
     disk: int = 0
-    first_sent: int | None = None  # when it was given its first job
+    first_sent: int | None = None  # when it got its first job
     last_sent: int = 0
-    calls: list[int] = field(default_factory=list)  # of each file the number of its last call
+    calls: list[int] = field(default_factory=list)  # the number of its last call, for each file
 
 
 @dataclass(slots=True)
@@ -43,7 +43,7 @@ class User:
 
 
 def add_host(host: Host, row: tuple[int, int, int, int, int | None, int | None, int | None]) -> None:
-    """Adds what a file has of a host. What the host is, the file that was named last says."""
+    """Adds what a file says about a host. The file that was named last describes the host."""
     host.fpops, host.memory, host.disk, credit, first, last, seqno = row
     host.millicredits += credit
     if first is not None:
@@ -53,7 +53,7 @@ def add_host(host: Host, row: tuple[int, int, int, int, int | None, int | None, 
 
 
 def users_of(all_tables: Iterable[Tables]) -> dict[str, User]:
-    """The users of files, by authenticator. The name is that of the file that was named last."""
+    """Returns the users of files, by authenticator. The name is that of the file that was named last."""
     users: dict[str, User] = {}
     for tables in all_tables:
         for authenticator, name in tables.rows("SELECT auth, name FROM account ORDER BY id"):
@@ -66,7 +66,7 @@ def users_of(all_tables: Iterable[Tables]) -> dict[str, User]:
 
 
 def agreed_in(path: Path) -> set[str]:
-    """The authenticators in a file, one on a line."""
+    """Returns the authenticators in a file, one on a line."""
     try:
         return {line.strip() for line in path.read_text().splitlines() if line.strip()}
     except OSError as error:

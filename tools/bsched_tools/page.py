@@ -1,4 +1,4 @@
-"""The page: how a project stands, as HTML with plots, each with its numbers in a table."""
+"""The page with the project's status, as HTML with plots. Each plot has its numbers in a table."""
 import re
 from collections.abc import Iterable, Sequence
 from datetime import datetime, timezone
@@ -44,12 +44,12 @@ Cell = str | int
 
 
 def moment_text(moment: int) -> str:
-    """A moment, as a person reads it."""
+    """Returns a moment as text for people."""
     return datetime.fromtimestamp(moment, timezone.utc).strftime("%Y-%m-%d %H:%M UTC")
 
 
 def table(header: Sequence[str], rows: Iterable[Sequence[Cell]]) -> str:
-    """A table; numbers stand at the right."""
+    """Returns a table. Numbers are aligned to the right."""
     told = [list(row) for row in rows]
     if not told:
         return "<p>None.</p>\n"
@@ -65,17 +65,17 @@ def table(header: Sequence[str], rows: Iterable[Sequence[Cell]]) -> str:
 
 
 def section(title: str, *parts: str) -> str:
-    """A part of the page."""
+    """Returns a section of the page."""
     return f"<section>\n<h2>{escape(title)}</h2>\n{''.join(parts)}</section>\n"
 
 
 def hidden(numbers: str) -> str:
-    """The table behind a plot."""
+    """Returns the table of a plot, folded away."""
     return f"<details><summary>The numbers</summary>\n{numbers}</details>\n"
 
 
 def figure(svg: str, caption: str, numbers: str) -> str:
-    """A plot with its numbers."""
+    """Returns a plot with its numbers."""
     said = f"<figcaption>{escape(caption)}</figcaption>\n" if caption else ""
     return f"<figure>\n{svg}\n{said}</figure>\n{hidden(numbers)}"
 
@@ -84,17 +84,17 @@ def figure(svg: str, caption: str, numbers: str) -> str:
 
 
 def change_text(now: int, before: int | None) -> str:
-    """A change."""
+    """Returns a change as text."""
     return "" if before is None else f"{now - before:+}"
 
 
 def whole_credit(millicredits: int) -> dict[str, int]:
-    """Credit without its fraction."""
+    """Returns credit without its fraction."""
     return {"credit": millicredits // 1000}
 
 
 def counts_part(counts: Counts, entries: list[Entry]) -> str:
-    """What is counted now, and how that changed within a day."""
+    """Returns what is counted now, and how it changed within a day."""
     older = next((entry for entry in reversed(entries) if entry.moment <= counts.moment - DAY), None)
     rows: list[Sequence[Cell]] = []
     kinds: list[tuple[str, dict[str, int], dict[str, int]]] = [
@@ -110,7 +110,7 @@ def counts_part(counts: Counts, entries: list[Entry]) -> str:
 
 
 def history_part(title: str, name: str, entries: list[Entry], series: dict[str, list[float]]) -> str:
-    """How some numbers changed."""
+    """Returns how some numbers changed."""
     if len(entries) < 2:
         return section(title, "<p>There is one report so far: the plot comes with the next one.</p>\n")
     first, last = entries[0], entries[-1]
@@ -125,13 +125,13 @@ def history_part(title: str, name: str, entries: list[Entry], series: dict[str, 
 
 
 def thinned(entries: list[Entry]) -> list[Entry]:
-    """At most so many entries, with the last one."""
+    """Returns at most MOST_POINTS entries, the last one among them."""
     step = len(entries) // MOST_POINTS + 1
     return entries[::-1][::step][::-1]
 
 
 def history_parts(entries: list[Entry]) -> str:
-    """How workunits, instances and credit changed."""
+    """Returns how workunits, instances and credit changed."""
     shown = thinned(entries)
     statuses = list(shown[-1].workunits)
     workunits = {name: [float(entry.workunits.get(name, 0)) for entry in shown] for name in statuses[:2]}
@@ -148,7 +148,7 @@ def history_parts(entries: list[Entry]) -> str:
 
 
 def turnaround_part(entries: list[Entry], moment: int) -> str:
-    """How long results took that were reported within the last 30 days."""
+    """Returns how long results took that were reported within the last 30 days."""
     recent = [entry.turnaround for entry in entries if entry.moment > moment - 30 * DAY]
     numbers = [sum(column) for column in zip(*recent)]
     labels = [f"{hours} h" if hours < 24 else f"{hours // 24} d" for hours in TURNAROUND_HOURS] + ["more"]
@@ -162,7 +162,7 @@ def turnaround_part(entries: list[Entry], moment: int) -> str:
 
 
 def deadlines_part(tables: Tables, late: int) -> str:
-    """The deadlines of the next day."""
+    """Returns the deadlines of the next day."""
     numbers = deadlines_by_hour(tables)
     already = f"{late} instances are late already, and lapse at the next tick."
     if not any(numbers):
@@ -179,7 +179,7 @@ def deadlines_part(tables: Tables, late: int) -> str:
 
 
 def credit_part(tables: Tables) -> str:
-    """Credit by user."""
+    """Returns the credit by user."""
     users = credit_by_user(tables)
     rows = [(name, credits_text(millicredits), hosts) for name, millicredits, hosts in users]
     numbers = table(("user", "credit", "hosts"), rows)
@@ -192,7 +192,7 @@ def credit_part(tables: Tables) -> str:
 
 
 def errors_part(tables: Tables) -> str:
-    """The hosts with the most errors."""
+    """Returns the hosts with the most errors."""
     header = ("host", "user", "errors", "invalid", "late", "of", "quota")
     hosts = hosts_with_errors(tables)
     rows = [
@@ -202,7 +202,7 @@ def errors_part(tables: Tables) -> str:
 
 
 def marked_part(tables: Tables) -> str:
-    """Marked workunits that are open, and those that wait for good."""
+    """Returns the open marked workunits, and those that wait for a class that no newest version has."""
     rows = [(name or "none yet", units, waiting) for name, units, waiting in marked_by_class(tables)]
     parts = [table(("class", "open workunits", "instances that wait"), rows)]
     if stuck := stuck_workunits(tables):
@@ -212,7 +212,7 @@ def marked_part(tables: Tables) -> str:
 
 
 def room_part(counts: Counts) -> str:
-    """How full each limit is."""
+    """Returns how full each limit is."""
     rows = [
         (name, limit.used, limit.most, limit.most - limit.used, f"{100 * limit.used / limit.most:.1f} %")
         for name, limit in counts.limits.items()
@@ -228,7 +228,7 @@ def room_part(counts: Counts) -> str:
 
 
 def page(tables: Tables, counts: Counts, entries: list[Entry]) -> str:
-    """The page."""
+    """Returns the page."""
     match = COPY_NAME.fullmatch(tables.path.name)
     name = match["stem"] if match else tables.path.stem
     title = f"{escape(name)}: how it stands"
@@ -247,7 +247,7 @@ def page(tables: Tables, counts: Counts, entries: list[Entry]) -> str:
 
 
 def clean(text: str) -> str:
-    """A text without the characters that HTML and SVG have no place for."""
+    """Returns a text without the characters that HTML and SVG do not allow."""
     return re.sub("[\x00-\x08\x0b\x0c\x0e-\x1f\x7f-\x9f\ufffe\uffff]", "\ufffd", text)
 
 

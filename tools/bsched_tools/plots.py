@@ -1,4 +1,4 @@
-"""Plots as SVG that stands within a page, in the colours of the page."""
+"""Plots as SVG within a page, in the colours of the page."""
 import io
 import re
 import warnings
@@ -12,7 +12,7 @@ from matplotlib.dates import AutoDateLocator, ConciseDateFormatter  # type: igno
 from matplotlib.figure import Figure  # type: ignore[import]
 from matplotlib.ticker import MaxNLocator  # type: ignore[import]
 
-# what the page's text has as its colour, in the place of a colour that nothing else has
+# a colour that nothing else has; in the page it becomes the colour of the text
 TEXT = "#010203"
 COLOURS = ("#3b82c4", "#3a9a5c", "#d1662f", "#9a6bc9", "#c2487f", "#8a8a2c")
 SIZE = (5.4, 2.7)
@@ -26,10 +26,10 @@ SETTINGS = {
 
 
 def written(figure: Figure, name: str, text: str) -> str:
-    """A figure as an element of a page. The text says what is seen, for those who do not see it."""
+    """Returns a figure as an element of a page. The text describes it for those who do not see it."""
     file = io.StringIO()
     with matplotlib.rc_context({"svg.hashsalt": name}), warnings.catch_warnings():
-        warnings.simplefilter("ignore")  # of characters that the font has not: the browser has them
+        warnings.simplefilter("ignore")  # about characters that the font lacks: the browser has them
         figure.savefig(file, format="svg", transparent=True, metadata={"Date": None, "Creator": None})
     svg = file.getvalue()
     svg = svg[svg.index("<svg"):].replace(TEXT, "currentColor")
@@ -41,14 +41,14 @@ def written(figure: Figure, name: str, text: str) -> str:
 
 
 def new_figure() -> Figure:
-    """A figure with no window."""
+    """Returns a figure without a window."""
     figure = Figure(figsize=SIZE)
     FigureCanvasSVG(figure)
     return figure
 
 
 def lines(name: str, text: str, moments: Sequence[int], series: Mapping[str, Sequence[float]]) -> str:
-    """How some numbers changed."""
+    """Returns a plot of how some numbers changed."""
     with matplotlib.rc_context(SETTINGS):
         figure = new_figure()
         axes = figure.add_subplot()
@@ -66,7 +66,7 @@ def lines(name: str, text: str, moments: Sequence[int], series: Mapping[str, Seq
 
 
 def columns(name: str, text: str, labels: Sequence[str], values: Sequence[float], label: str) -> str:
-    """Numbers side by side."""
+    """Returns a plot of numbers side by side."""
     with matplotlib.rc_context(SETTINGS):
         figure = new_figure()
         axes = figure.add_subplot()
@@ -83,7 +83,7 @@ def columns(name: str, text: str, labels: Sequence[str], values: Sequence[float]
 def bars(
     name: str, text: str, labels: Sequence[str], values: Sequence[float], most: float | None = None
 ) -> str:
-    """Numbers one below the other, with their names."""
+    """Returns a plot of numbers one below the other, with their names."""
     with matplotlib.rc_context(SETTINGS):
         figure = new_figure()
         axes = figure.add_subplot()

@@ -32,14 +32,14 @@ class Line:
 
 
 def csv_text(rows: Iterable[Iterable[object]]) -> str:
-    """Rows as comma-separated values."""
+    """Returns rows as comma-separated values."""
     file = io.StringIO()
     csv.writer(file, lineterminator="\n").writerows(rows)
     return file.getvalue()
 
 
 def as_csv(line: Line) -> str:
-    """A workunit as comma-separated values: a row for each result, or one if it failed."""
+    """Returns a workunit as comma-separated values: a row for each result, or one row if it failed."""
     unit, late = line.workunit, int(line.is_late)
     status = "failed" if unit.reason else "done"
     front = (unit.name, unit.app, status, unit.reason, unit.millicredits, unit.canonical, unit.output)
@@ -53,12 +53,12 @@ def as_csv(line: Line) -> str:
 
 
 def member_of(result: Result) -> dict[str, object]:
-    """A result, as a member of a line of JSON."""
+    """Returns a result as a member of a line of JSON."""
     return {"result": result.name, "host": result.host, "user": result.user}
 
 
 def as_json(line: Line) -> str:
-    """A workunit as a line of JSON."""
+    """Returns a workunit as a line of JSON."""
     unit = line.workunit
     said: dict[str, object] = {"workunit": unit.name, "app": unit.app, "late": line.is_late}
     if unit.reason:
@@ -74,7 +74,7 @@ def as_json(line: Line) -> str:
 
 
 def lines_of(tables: Tables, after: int, given: Given | None) -> Iterator[Line]:
-    """The lines of some tables: all of them, or what was not given out before."""
+    """Yields the lines of some tables: all of them, or those that were not given out before."""
     for unit in decided(tables, after):
         if given is None:
             yield Line(unit, False)
@@ -92,8 +92,8 @@ def lines_of(tables: Tables, after: int, given: Given | None) -> Iterator[Line]:
 
 
 def places_after(all_tables: list[Tables], name: str) -> dict[Path, int]:
-    """After which workunit each file begins, if it is to begin after the workunit of a name; files before
-    that one are left out."""
+    """Returns the number of the workunit after which each file's results begin, if all results begin after
+    the workunit with this name. Files before the one with that workunit are left out."""
     query = "SELECT id FROM unit WHERE name = ?1"
     found = [(at, number) for at, tables in enumerate(all_tables) if (number := tables.number(query, name))]
     if len(found) != 1:
@@ -104,7 +104,7 @@ def places_after(all_tables: list[Tables], name: str) -> dict[Path, int]:
 
 
 def flushed(file: TextIO) -> None:
-    """What was written is on its way, and on the disk if it goes to a file."""
+    """Flushes what was written. If it goes to a file, it is then on the disk."""
     file.flush()
     with suppress(OSError, ValueError):
         if stat.S_ISREG(os.fstat(file.fileno()).st_mode):
@@ -114,7 +114,7 @@ def flushed(file: TextIO) -> None:
 def texts(
     all_tables: list[Tables], as_lines: bool, after: str | None, cursor: Cursor | None
 ) -> Iterator[str]:
-    """What is written, part by part."""
+    """Yields the parts of the text to write."""
     begins = dict.fromkeys((tables.path for tables in all_tables), 0)
     if after is not None:
         begins = places_after(all_tables, after)
@@ -135,7 +135,7 @@ def write_results(
     file: TextIO | None = None,
 ) -> None:
     """Writes the results of tables to standard output or to a new file, as comma-separated values or as lines
-    of JSON. The cursor is written last: after a stop in between, results come again."""
+    of JSON. The cursor is written last. If a stop comes before that, the same results come again."""
     with ExitStack() as stack:
         kept = stack.enter_context(cursor_at(cursor)) if cursor is not None else None
         if target is not None and target.exists():

@@ -1,4 +1,4 @@
-"""The schemas of the tables, as `docs/STORED.md` has them, and how a database is compared with one."""
+"""The schemas of the tables, as `docs/STORED.md` states them, and how a database is compared with one."""
 import sqlite3
 from contextlib import closing
 from functools import cache
@@ -39,7 +39,7 @@ CREATE TABLE version_class (version_id INTEGER PRIMARY KEY REFERENCES version, c
 CREATE TABLE unit_mark (unit_id INTEGER PRIMARY KEY REFERENCES unit, marked INTEGER NOT NULL,
   class TEXT) STRICT;
 """
-# of a table its columns, its indexes and its references
+# a table's columns, indexes and references
 Facts = tuple[tuple[object, ...], ...]
 Shape = dict[str, Facts]
 
@@ -56,7 +56,7 @@ REFERENCES = 'SELECT "from", "table", "to" FROM pragma_foreign_key_list(?1) ORDE
 
 
 def shape_of(connection: sqlite3.Connection) -> Shape:
-    """What a database has, without regard to how its texts are written."""
+    """Returns the shape of a database. It does not depend on how the schema's text is written."""
     shape: Shape = {}
     for name, *kind in connection.execute(TABLES).fetchall():
         facts: list[tuple[object, ...]] = []
@@ -68,7 +68,7 @@ def shape_of(connection: sqlite3.Connection) -> Shape:
 
 @cache
 def shape_of_text(schema: str) -> Shape:
-    """What a database of a schema has."""
+    """Returns the shape of a database with this schema."""
     with closing(sqlite3.connect(":memory:")) as connection:
         connection.executescript(schema)
         return shape_of(connection)

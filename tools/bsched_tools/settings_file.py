@@ -14,7 +14,7 @@ KEYS = {*RANGES, "operator_key", "resend_lost_results"}
 
 
 def value_fault(name: str, value: Any) -> str | None:
-    """What is wrong with the value of a setting, if anything is."""
+    """Returns what is wrong with the value of a setting, or None."""
     if name == "operator_key":
         if not isinstance(value, str) or not WORD.fullmatch(value) or len(value) < 8:
             return "it must be a text of 8 to 64 letters, digits, '_', '-' and '.'"
@@ -28,18 +28,18 @@ def value_fault(name: str, value: Any) -> str | None:
 
 
 def shown(name: str, value: Any) -> str:
-    """A value as it is printed: the operator's key is a secret."""
+    """Returns a value as it is printed. The operator's key is a secret, and is not shown."""
     return "another text" if name == "operator_key" else repr(value)
 
 
 def line_of(text: str, name: str) -> str:
-    """Where a key is in the text."""
+    """Returns on which line of the text a key is."""
     found = re.search(rf"^[ \t]*[\"']?{re.escape(name)}[\"']?[ \t]*[=.]", text, re.MULTILINE)
     return "" if found is None else f"line {text.count(chr(10), 0, found.start()) + 1}: "
 
 
 def settings_faults(path: Path) -> Iterator[str]:
-    """Everything that is wrong with a file of settings."""
+    """Yields everything that is wrong with a file of settings."""
     try:
         text = path.read_text(encoding="utf-8")
         told = tomllib.loads(text)

@@ -1,8 +1,8 @@
-"""A process that stands still for a moment, and goes on in every case.
+"""Stops a process for a moment, and makes sure that it is continued.
 
 Before the process is stopped, this one makes a child that waits for the end of a pipe. When this process
-ends, however it ends, the child continues the stopped process. It does so too when the time limit has passed.
-A process is named by its pidfd, since the number of a process can be given to another one.
+ends, in any way, the child continues the stopped process. It also does so after the time limit. A process is
+named by its pidfd, because its number can be given to another process.
 """
 import os
 import re
@@ -15,10 +15,10 @@ from dataclasses import dataclass
 
 from .faults import Fault, Retry
 
-STOP_SECONDS = 1.0  # a process that does not stand still by then goes on
+STOP_SECONDS = 1.0  # a process that does not stand still by then is continued
 STILL_SECONDS = 10.0  # no process stands still for longer
 PAUSE_SECONDS = 0.0005
-CHILD_SECONDS = 2.0  # how long the end of the child is waited for
+CHILD_SECONDS = 2.0  # how long to wait for the end of the child
 SWITCHES = re.compile(r"ctxt_switches:\s+(\d+)")
 
 
@@ -39,13 +39,13 @@ class Process:
             raise Fault(f"process {self.pid} is another user's: run this as root, or as that user") from None
 
     def has_ended(self) -> bool:
-        """Whether it has ended. Until then its number is its own."""
+        """Returns whether the process has ended. Until then no other process gets its number."""
         return bool(select.select([self.pidfd], [], [], 0)[0])
 
 
 @contextmanager
 def process_of(pid: int) -> Iterator[Process]:
-    """A process by its number."""
+    """Yields a process by its number."""
     try:
         pidfd = os.pidfd_open(pid)
     except ProcessLookupError:
@@ -60,7 +60,7 @@ Threads = dict[str, tuple[str, list[str]]]
 
 
 def threads_of(process: Process) -> Threads:
-    """The state of each thread, and how often it gave up the processor so far."""
+    """Returns the state of each thread, and how often it has given up the processor so far."""
     folder, states = f"/proc/{process.pid}/task", {}
     try:
         for thread in os.listdir(folder):
@@ -73,12 +73,12 @@ def threads_of(process: Process) -> Threads:
 
 
 def is_still(states: Threads) -> bool:
-    """Whether all threads stand still by a signal."""
+    """Returns whether a signal has stopped all threads."""
     return bool(states) and all(state == "T" for state, _ in states.values())
 
 
 def wait_until_still(process: Process) -> Threads:
-    """Waits until a process stands still: what its threads did by then."""
+    """Waits until a process stands still. Returns the state of its threads at that time."""
     ends = time.monotonic() + STOP_SECONDS
     while not is_still(states := threads_of(process)):
         if process.has_ended():
@@ -90,8 +90,8 @@ def wait_until_still(process: Process) -> Threads:
 
 
 def watch(process: Process, pipe_end: int) -> None:
-    """What the child does: it waits for the end of the pipe or the time limit, continues the process, and
-    ends."""
+    """Runs in the child. It waits for the end of the pipe or the time limit, continues the process, and ends.
+    """
     try:
         os.setsid()
         poll = select.poll()
@@ -106,7 +106,7 @@ def watch(process: Process, pipe_end: int) -> None:
 
 @contextmanager
 def watched(process: Process) -> Iterator[None]:
-    """While a child watches this process. It takes no signal but SIGKILL."""
+    """Has a child watch this process during the block. The child takes no signal but SIGKILL."""
     pipe_end, own_end = os.pipe()
     before = signal.pthread_sigmask(signal.SIG_BLOCK, signal.valid_signals())
     try:
@@ -125,7 +125,7 @@ def watched(process: Process) -> Iterator[None]:
 
 
 def end_of(child: int) -> None:
-    """Waits for the end of a child, which is near."""
+    """Waits a short time for the end of a child."""
     ends = time.monotonic() + CHILD_SECONDS
     with suppress(ChildProcessError):
         while os.waitpid(child, os.WNOHANG) == (0, 0) and time.monotonic() < ends:
@@ -141,8 +141,8 @@ class Still:
 
 @contextmanager
 def stopped(process: Process) -> Iterator[Still]:
-    """A process stands still within. If it ran meanwhile all the same, what was done within is void
-    (Retry)."""
+    """Stops a process during the block. If the process ran meanwhile, the block's work is void, and Retry is
+    raised."""
     still = Still()
     with watched(process):
         began = time.perf_counter()

@@ -1,4 +1,4 @@
-"""The tables in a copy, opened for reading alone. `docs/STORED.md` has their columns."""
+"""The tables in a copy, opened read-only. `docs/STORED.md` has their columns."""
 import os
 import re
 import sqlite3
@@ -14,7 +14,7 @@ from .faults import Fault
 from .schemas import FIRST_SCHEMA, SCHEMA, SECOND_SCHEMA, SCHEMA_NUMBER, Shape, shape_of, shape_of_text
 
 HEAD = b"SQLite format 3\0"
-# how `copy` names a copy: the name of the tables, and the moment of the copy in UTC
+# the name that `copy` gives a copy: the name of the tables, and the moment of the copy in UTC
 COPY_NAME = re.compile(r"(?P<stem>.+)-(?P<moment>\d{8}T\d{6}\.\d{3}Z)\.db")
 MOMENT = "%Y%m%dT%H%M%S.%fZ"
 BUSY_SECONDS = 1.0
@@ -31,19 +31,19 @@ class Tables:
     settings: dict[str, Any] = field(default_factory=dict)
 
     def rows(self, query: str, *values: Any) -> Iterator[tuple[Any, ...]]:
-        """The rows of a query."""
+        """Yields the rows of a query."""
         with faults_of(self.path):
             yield from self.connection.execute(query, values)
 
     def number(self, query: str, *values: Any) -> int:
-        """The one number that a query gives; 0 where it gives none."""
+        """Returns the one number that a query gives, or 0 if it gives none."""
         row = next(self.rows(query, *values), None)
         return 0 if row is None or row[0] is None else int(row[0])
 
 
 @contextmanager
 def faults_of(path: Path) -> Iterator[None]:
-    """What SQLite finds wrong with a file is a fault of that file."""
+    """Turns what SQLite finds wrong in the block into a fault of the file."""
     try:
         yield
     except sqlite3.Error as error:
@@ -58,7 +58,8 @@ def faults_of(path: Path) -> Iterator[None]:
 
 
 def moment_of(path: Path) -> int:
-    """The moment of a copy: as its name says it, else when the file was written last."""
+    """Returns the moment of a copy. Its name says it; otherwise it is the time of the last write to the file.
+    """
     match = COPY_NAME.fullmatch(path.name)
     if match is None:
         return int(path.stat().st_mtime)
@@ -66,14 +67,15 @@ def moment_of(path: Path) -> int:
 
 
 def copies_in(folder: Path, stem: str | None = None) -> list[Path]:
-    """The copies in a folder, of the tables with a name if one is given, the newest one first."""
+    """Returns the copies in a folder, the newest first. If a name is given, only copies of the tables with
+    that name."""
     named = [(match, path) for path in folder.iterdir() if (match := COPY_NAME.fullmatch(path.name))]
     chosen = [(match["moment"], path) for match, path in named if stem in (None, match["stem"])]
     return [path for _, path in sorted(chosen, reverse=True)]
 
 
 def found_copy(path: Path) -> Path:
-    """The file that is meant: a folder means its newest copy."""
+    """Returns the file that a path means. A folder means its newest copy."""
     if not path.is_dir():
         return path
     copies = copies_in(path)
@@ -86,7 +88,7 @@ def found_copy(path: Path) -> Path:
 
 
 def check_file(path: Path) -> None:
-    """Looks at the bytes of a file: it must be a whole database of SQLite."""
+    """Checks the bytes of a file: it must be a whole SQLite database."""
     try:
         with path.open("rb") as file:
             head, size = file.read(100), os.fstat(file.fileno()).st_size
@@ -105,12 +107,13 @@ def check_file(path: Path) -> None:
 
 
 def log_of(path: Path) -> Path:
-    """The name of the log beside a file."""
+    """Returns the name of a file's log."""
     return path.with_name(f"{path.name}-wal")
 
 
 def journal_fault(path: Path) -> str | None:
-    """What is wrong if SQLite left a journal beside a file that it would play back."""
+    """Returns what is wrong if SQLite left a journal next to a file and would play it back. Otherwise returns
+    None."""
     journal = path.with_name(f"{path.name}-journal")
     if journal.exists() and journal.read_bytes()[:1] not in (b"", b"\0"):
         return f"{journal} is left of SQLite: open the file once with `sqlite3`, which puts it in order"
@@ -118,21 +121,21 @@ def journal_fault(path: Path) -> str | None:
 
 
 def log_size(path: Path) -> int:
-    """The size of the log beside a file; 0 if there is none."""
+    """Returns the size of a file's log, or 0 if there is none."""
     log = log_of(path)
     return log.stat().st_size if log.exists() else 0
 
 
 def connected(path: Path) -> sqlite3.Connection:
-    """A connection that only reads. Each program that works on tables makes a log beside them: a file without
-    one is written by nobody. Then SQLite takes no lock and leaves nothing beside it."""
+    """Returns a connection that only reads. Every program that works on tables makes a log next to them, so
+    nobody writes a file without a log. Then SQLite takes no lock, and leaves no file next to the tables."""
     mode = "mode=ro" if log_of(path).exists() else "mode=ro&immutable=1"
     name = quote(str(path.absolute()))
     return sqlite3.connect(f"file:{name}?{mode}", uri=True, timeout=BUSY_SECONDS, isolation_level=None)
 
 
 def schema_fault(connection: sqlite3.Connection) -> str | None:
-    """What is wrong with the schema of a database, if anything is."""
+    """Returns what is wrong with the schema of a database, or None."""
     shape = shape_of(connection)
     if "setting" not in shape:
         return "it has no tables of bsched"
@@ -150,7 +153,7 @@ def schema_fault(connection: sqlite3.Connection) -> str | None:
 
 @contextmanager
 def opened(path: Path) -> Iterator[Tables]:
-    """The tables of a copy."""
+    """Yields the tables of a copy."""
     path = found_copy(path)
     check_file(path)
     with faults_of(path), closing(connected(path)) as connection:

@@ -1,5 +1,4 @@
-"""The bytes of the tables as they are at one moment: the file and its log, copied while nobody writes
-them."""
+"""The bytes of the tables at one moment: the file and its log, copied while nobody writes them."""
 import errno
 import fcntl
 import os
@@ -14,14 +13,14 @@ from .faults import Fault, Retry
 from .holders import Identity, OpenFile, identity_of
 from .stopping import process_of, stopped
 
-FICLONE = 0x40049409  # shares the blocks of a file, on a file system that can
+FICLONE = 0x40049409  # shares the blocks of a file, if the file system can
 PART = 1 << 24
-SEEK_SECONDS = 10.0  # how long it is tried again when another process is in the way
-# a file that was not written for so long shows each later write by another time: where the file system has
-# fractions of a second, and on every file system
+SEEK_SECONDS = 10.0  # how long to try again when another process is in the way
+# If a file was not written for this long, each later write changes its time. The first number holds if the
+# file system stores fractions of a second, the second one on every file system.
 FINE_SECONDS, SETTLED_SECONDS = 0.1, 3.0
 NANOSECONDS = 1_000_000_000
-# how often a file is copied early, and how long a pause in its writes is awaited
+# how often a file is copied early, and how long to wait for a pause in its writes
 EARLY_COPIES, SETTLE_SECONDS = 3, 0.5
 MOST_IN_MEMORY = 1 << 26
 FROM_ANOTHER_FILE_SYSTEM = (errno.EXDEV, errno.EINVAL, errno.ENOSYS, errno.EOPNOTSUPP)
@@ -29,20 +28,20 @@ FROM_ANOTHER_FILE_SYSTEM = (errno.EXDEV, errno.EINVAL, errno.ENOSYS, errno.EOPNO
 
 @dataclass(frozen=True, slots=True)
 class Source:
-    """The tables that are copied: the file to which all links lead, and its log."""
+    """The tables to copy: the file to which all links lead, and its log."""
 
     path: Path
     identity: Identity
 
     @property
     def log(self) -> Path:
-        """The log beside the file."""
+        """The file's log."""
         return self.path.with_name(f"{self.path.name}-wal")
 
 
 @dataclass(frozen=True, slots=True)
 class Taken:
-    """A copy that was taken: the file, with its log beside it."""
+    """A copy that was taken: the file, with its log next to it."""
 
     path: Path
     moment: float
@@ -50,7 +49,7 @@ class Taken:
 
 
 def source_of(path: Path) -> Source:
-    """The tables at a path."""
+    """Returns the tables at a path."""
     real = Path(os.path.realpath(path))
     identity = identity_of(real)
     if identity is None:
@@ -64,7 +63,8 @@ def source_of(path: Path) -> Source:
 
 
 def copy_bytes(source: int, target: int) -> None:
-    """Copies a file: by sharing its blocks, or within the kernel, where that is possible."""
+    """Copies a file: by sharing its blocks if that is possible, or else within the kernel, or else through
+    this process."""
     os.ftruncate(target, 0)
     with suppress(OSError):
         fcntl.ioctl(target, FICLONE, source)
@@ -83,7 +83,7 @@ def copy_bytes(source: int, target: int) -> None:
 
 
 def write_mark(descriptor: int) -> tuple[int, ...] | None:
-    """What each write to a file changes; None if the last write is too recent for that."""
+    """Returns a mark that each write to a file changes, or None if the last write is too recent for that."""
     found = os.fstat(descriptor)
     is_fine = all(one % NANOSECONDS for one in (found.st_mtime_ns, found.st_ctime_ns))
     age = time.time() - max(found.st_mtime, found.st_ctime)
@@ -93,7 +93,7 @@ def write_mark(descriptor: int) -> tuple[int, ...] | None:
 
 
 def settled_mark(descriptor: int) -> tuple[int, ...] | None:
-    """The same, once there is a pause in the writes; None if there is none soon."""
+    """Returns the same mark after a pause in the writes, or None if there is no pause soon."""
     ends = time.monotonic() + SETTLE_SECONDS
     while (mark := write_mark(descriptor)) is None and time.monotonic() < ends:
         time.sleep(0.02)
@@ -101,7 +101,7 @@ def settled_mark(descriptor: int) -> tuple[int, ...] | None:
 
 
 def opened_file(path: Path, flags: int, stack: ExitStack) -> int:
-    """An open file, until the stack ends."""
+    """Opens a file. It is closed when the stack ends."""
     descriptor = os.open(path, flags, 0o600)
     stack.callback(os.close, descriptor)
     return descriptor
@@ -117,8 +117,8 @@ class Work:
         self.target_log = opened_file(folder / "copy.db-wal", create, stack)
 
     def copy_early(self, descriptor: int) -> tuple[int, ...] | None:
-        """Copies the file before the process stands still. The mark shows later whether it was written since.
-        A file that is written meanwhile is copied again, a few times."""
+        """Copies the file before the process stands still. The mark shows later whether the file was written
+        since. If it is written meanwhile, it is copied again, a few times."""
         for _ in range(EARLY_COPIES):
             mark = settled_mark(descriptor)
             if mark is None:
@@ -143,7 +143,7 @@ class Work:
         return b""
 
     def finish(self, log: bytes) -> None:
-        """Writes the bytes of a log that was returned."""
+        """Writes the bytes of a log that copy_rest returned."""
         at = 0
         while at < len(log):
             at += os.pwrite(self.target_log, log[at:], at)
@@ -153,7 +153,7 @@ class Work:
 
 
 def lock(descriptor: int) -> bool:
-    """Takes the lock of a program that works on the tables; whether it could be had."""
+    """Takes the lock of a program that works on the tables. Returns whether it got the lock."""
     start, length = holders.LOCKS_START, holders.LOCKS_LENGTH
     wanted = struct.pack("hhqqi4x", fcntl.F_WRLCK, os.SEEK_SET, start, length, 0)
     try:
@@ -164,7 +164,7 @@ def lock(descriptor: int) -> bool:
 
 
 def who_reads(found: list[OpenFile]) -> str:
-    """What to do about a lock that is in the way and does not belong to a program which serves."""
+    """Returns what to do about a lock that is in the way and does not belong to a program that serves."""
     reader = next((one for one in found if one.lock), None)
     if reader is None:
         return "a process has it that this user may not look at: run this as root"
@@ -192,13 +192,13 @@ def copy_idle(work: Work, found: list[OpenFile]) -> Taken:
 
 
 def identity_of_open(descriptor: int) -> Identity:
-    """The identity of an open file."""
+    """Returns the identity of an open file."""
     found = os.fstat(descriptor)
     return Identity(found.st_dev, found.st_ino)
 
 
 def log_of(source: Source, holder: OpenFile, stack: ExitStack) -> int | None:
-    """The log of tables that a process has: the process must have just this file open."""
+    """Opens the log of tables that a process has. The process must have this very file open."""
     if not source.log.exists():
         return None
     log = opened_file(source.log, os.O_RDONLY, stack)
@@ -208,7 +208,7 @@ def log_of(source: Source, holder: OpenFile, stack: ExitStack) -> int | None:
 
 
 def check_holder(source: Source, holder: OpenFile, log: int | None) -> None:
-    """A process that stands still has the tables, as it did when it was looked for."""
+    """Checks that a process that stands still has the tables, as it did when it was found."""
     there = identity_of(f"/proc/{holder.pid}/fd/{holder.descriptor}")
     if there != source.identity or holders.lock_of(holder.pid, holder.descriptor) != "WRITE":
         raise Retry(f"{holder.process} gave up the file")
@@ -217,7 +217,7 @@ def check_holder(source: Source, holder: OpenFile, log: int | None) -> None:
 
 
 def copy_served(work: Work, holder: OpenFile) -> Taken:
-    """Copies tables that a process has, while the process stands still."""
+    """Copies tables that a process has, while that process stands still."""
     source = work.source
     with ExitStack() as stack:
         process = stack.enter_context(process_of(holder.pid))

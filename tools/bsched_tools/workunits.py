@@ -10,7 +10,7 @@ from .tables import Tables
 
 WHOLE_NUMBER = re.compile("0|-?[1-9][0-9]{0,17}")
 OPEN, DONE = 0, 1
-REASONS = {2: "errors", 3: "successes", 4: "total"}  # by which a workunit failed
+REASONS = {2: "errors", 3: "successes", 4: "total"}  # why a workunit failed
 SUCCESS = 1
 DECIDED = """
 SELECT unit.id, unit.name, app.name, agreement, min_quorum, unit.credit, status,
@@ -37,12 +37,12 @@ class Instance:
 
     @property
     def text(self) -> str:
-        """What it reported."""
+        """What the host reported as output, or an empty text."""
         return self.output or ""
 
     @property
     def may_be_judged(self) -> bool:
-        """Whether its host may still report it."""
+        """Whether the host may still report it."""
         return self.host is not None and self.outcome is None
 
 
@@ -65,15 +65,15 @@ class Workunit:
     name: str
     app: str
     millicredits: int
-    reason: str | None  # by which it failed; None if it is done
+    reason: str | None  # why it failed; None if it is done
     canonical: str | None = None  # the name of the canonical result
-    output: str | None = None  # of that result
+    output: str | None = None  # the output of that result
     results: tuple[Result, ...] = ()
     is_closed: bool = True  # no further result of it can be judged
 
 
 def agree(agreement: int | None, one: str, other: str) -> bool:
-    """Whether two outputs agree: they are equal, or whole numbers within the distance."""
+    """Returns whether two outputs agree: they are equal, or whole numbers within the distance."""
     if one == other:
         return True
     if agreement is None or not (WHOLE_NUMBER.fullmatch(one) and WHOLE_NUMBER.fullmatch(other)):
@@ -82,8 +82,9 @@ def agree(agreement: int | None, one: str, other: str) -> bool:
 
 
 def canonical_of(agreement: int | None, min_quorum: int, good: list[Instance]) -> Instance | None:
-    """The canonical result among the judged successes by place: of the least front of at least min_quorum of
-    them in which some report agrees with enough of the front, the first such report."""
+    """Returns the canonical result. `good` are the judged successes, by place. Take the shortest front of at
+    least min_quorum of them in which some report agrees with more than half of min_quorum. The first such
+    report is the canonical result."""
     enough = min_quorum // 2 + 1
     for size in range(min_quorum, len(good) + 1):
         front = good[:size]
@@ -94,7 +95,7 @@ def canonical_of(agreement: int | None, min_quorum: int, good: list[Instance]) -
 
 
 def workunit_of(tables: Tables, rows: list[tuple[Any, ...]]) -> Workunit:
-    """A workunit by the rows of its instances."""
+    """Returns a workunit, from the rows of its instances."""
     number, name, app, agreement, min_quorum, millicredits, status = rows[0][:7]
     if status in REASONS:
         return Workunit(number, name, app, millicredits, REASONS[status])
@@ -113,6 +114,7 @@ def workunit_of(tables: Tables, rows: list[tuple[Any, ...]]) -> Workunit:
 
 
 def decided(tables: Tables, after: int = 0) -> Iterator[Workunit]:
-    """The workunits that are done or have failed, in the order of import, after one of them."""
+    """Yields the workunits that are done or have failed, in the order of import. It begins after the workunit
+    with the number `after`."""
     for _, rows in groupby(tables.rows(DECIDED, after), key=lambda row: int(row[0])):
         yield workunit_of(tables, list(rows))

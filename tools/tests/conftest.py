@@ -15,13 +15,13 @@ from small_project import Twin, make_tables  # noqa: E402
 
 @pytest.fixture
 def project(tmp_path: Path) -> Path:
-    """The tables of a small project."""
+    """Makes the tables of a small project."""
     return make_tables(tmp_path / "project.db")
 
 
 @pytest.fixture
 def twin(project: Path) -> Iterator[Twin]:
-    """The small project, served."""
+    """Yields the small project, served."""
     served = Twin(project)
     yield served
     served.end()
@@ -29,7 +29,7 @@ def twin(project: Path) -> Iterator[Twin]:
 
 @pytest.fixture
 def copies(tmp_path: Path) -> Path:
-    """A folder for copies."""
+    """Makes a folder for copies."""
     folder = tmp_path / "copies"
     folder.mkdir()
     return folder
@@ -37,7 +37,7 @@ def copies(tmp_path: Path) -> Path:
 
 @pytest.fixture
 def small_disk(tmp_path: Path) -> Iterator[Path]:
-    """A file system with little room."""
+    """Mounts a file system with little room."""
     folder = tmp_path / "small"
     folder.mkdir()
     words = ["mount", "-t", "tmpfs", "-o", "size=64k", "tmpfs", str(folder)]

@@ -1,4 +1,4 @@
-"""Random lives of a project, over the plain scheduler and over its twin with tables in a file."""
+"""Random lives of a project, with the plain scheduler and with its twin over tables in a file."""
 import random
 from collections.abc import Iterable
 from pathlib import Path
@@ -14,7 +14,8 @@ CALLS = 300
 def life_of(
     seed: int, calls: int = CALLS, made: type[bench_project.Project] = bench_project.Project,
 ) -> bench_project.Project:
-    """A project of the plain scheduler that lived so many calls. Its lines are those of the life."""
+    """Returns a project of the plain scheduler that lived this many calls. Its lines are those of the life.
+    """
     chosen = bench_project.random
     try:
         bench_project.random = type("Chosen", (), {"Random": staticmethod(lambda _: random.Random(seed))})
@@ -34,11 +35,11 @@ class Stored:
         self.service = plain_tables.Service(self.tables)
 
     def answer(self, lines: Iterable[bytes]) -> list[tuple[int, str]]:
-        """The status and the body for each line."""
+        """Returns the status and the body for each line."""
         return [self.service.answer(line.removesuffix(b"\n")) for line in lines]
 
     def copy(self, path: Path) -> Path:
-        """A copy as `copy` makes it: one file."""
+        """Makes a copy as `copy` does: one file."""
         self.tables.connection.execute("VACUUM INTO ?", (str(path),))
         return path
 
@@ -49,15 +50,15 @@ class Stored:
 
 
 def stored_life(lived: bench_project.Project, path: Path) -> Path:
-    """The tables that the lines of a life leave."""
+    """Returns the tables that the lines of a life leave."""
     stored = Stored(path)
     stored.answer(lived.lines)
     return stored.close()
 
 
 def decided_by(lived: bench_project.Project) -> list[tuple[Any, ...]]:
-    """What the plain scheduler says of workunits that are done or have failed: for each its name, the reason
-    or the canonical result, and the verdicts."""
+    """Returns what the plain scheduler says about workunits that are done or have failed: for each its name,
+    the reason or the canonical result, and the verdicts."""
     machine, told = lived.service.machine, []
     for unit in machine.places:
         if unit.failed():

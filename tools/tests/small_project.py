@@ -1,4 +1,4 @@
-"""A small project for the tests, and the plain twin that serves it as a process of its own."""
+"""A small project for the tests, and the plain twin that serves it in another process."""
 import json
 import os
 import sqlite3
@@ -24,7 +24,7 @@ END = 10  # seconds
 
 
 def make_tables(path: Path, units: int = 20, users: int = 4, settings: dict[str, Any] = SETTINGS) -> Path:
-    """A small project in a file."""
+    """Makes a small project in a file."""
     plain_tables.create(path, settings)
     tables = plain_tables.Tables(path, synchronous="OFF")
     service = plain_tables.Service(tables)
@@ -39,7 +39,7 @@ def make_tables(path: Path, units: int = 20, users: int = 4, settings: dict[str,
 
 
 def request(user: int, seqno: int, host: str = "h", **more: Any) -> bytes:
-    """The body of a call."""
+    """Returns the body of a call."""
     return json.dumps({
         "authenticator": f"k{user}", "rpc_seqno": seqno, "platform_name": "linux",
         "host_info": {"host_cpid": host, "p_fpops": 10**9, "m_nbytes": 10**9, "d_free": 10**9}, **more,
@@ -47,7 +47,7 @@ def request(user: int, seqno: int, host: str = "h", **more: Any) -> bytes:
 
 
 class Twin:
-    """The plain twin, which serves tables as a process of its own."""
+    """The plain twin, which serves tables in another process."""
 
     def __init__(self, path: Path) -> None:
         words = [sys.executable, str(BENCH / "plain_tables.py"), str(path), "0"]
@@ -55,20 +55,20 @@ class Twin:
         self.port = int(self.process.stdout.readline())
 
     def call(self, user: int, seqno: int, **more: Any) -> Any:
-        """The reply to a call."""
+        """Returns the reply to a call."""
         url = f"http://127.0.0.1:{self.port}/scheduler"
         message = urllib.request.Request(url, request(user, seqno, **more))
         with urllib.request.urlopen(message, timeout=END) as told:
             return json.load(told)
 
     def end(self) -> None:
-        """Kills it."""
+        """Kills the process."""
         self.process.kill()
         self.process.communicate(timeout=END)
 
 
 def tools(*words: object, seconds: float = 60) -> tuple[int, str, str]:
-    """What the tools print, and their status."""
+    """Runs the tools, and returns their status and what they print."""
     command = [sys.executable, "-m", "bsched_tools", *map(str, words)]
     own = {"PYTHONPATH": str(TOOLS), "PYTHONDONTWRITEBYTECODE": "1"}
     told = subprocess.run(command, capture_output=True, text=True, timeout=seconds, env={**os.environ, **own})
@@ -76,7 +76,7 @@ def tools(*words: object, seconds: float = 60) -> tuple[int, str, str]:
 
 
 def rows_of(path: Path, query: str) -> list[Any]:
-    """The rows of a query over a file."""
+    """Returns the rows of a query over a file."""
     connection = sqlite3.connect(path)
     try:
         return connection.execute(query).fetchall()

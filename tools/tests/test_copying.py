@@ -1,4 +1,4 @@
-"""Copies: each is a stop at one moment, and the process that serves goes on in every case."""
+"""Copies. Each is a stop at one moment, and the process that serves always continues."""
 import fcntl
 import os
 import random
@@ -26,13 +26,13 @@ FROM kept4 JOIN host ON host.id = host_id JOIN account ON account.id = account_i
 
 
 def state_of(pid: int) -> str:
-    """The state of a process."""
+    """Returns the state of a process."""
     with open(f"/proc/{pid}/stat") as file:
         return file.read().rpartition(")")[2].split()[0]
 
 
 def goes_on(twin: Twin) -> bool:
-    """Whether a process goes on, at the latest after a second."""
+    """Returns whether a process runs, after at most a second."""
     ends = time.monotonic() + 1
     while state_of(twin.process.pid) == "T" and time.monotonic() < ends:
         time.sleep(0.005)
@@ -40,7 +40,7 @@ def goes_on(twin: Twin) -> bool:
 
 
 def counted_parts(monkeypatch: pytest.MonkeyPatch) -> list[tuple[int, ...]]:
-    """The files that are copied as a whole, one for each time."""
+    """Returns a list that gets an entry each time a file is copied as a whole."""
     parts, copy_bytes = [], taking.copy_bytes
     monkeypatch.setattr(taking, "copy_bytes", lambda *files: (parts.append(files), copy_bytes(*files)))
     return parts
@@ -83,7 +83,7 @@ def test_copies_under_load_have_what_was_answered(project: Path, twin: Twin, cop
             assert goes_on(twin)
     finally:
         load.end()
-    assert len(list(copies.iterdir())) == 15  # no log, and nothing else, is left beside the copies
+    assert len(list(copies.iterdir())) == 15  # no log, and nothing else, is left next to the copies
 
 
 def test_a_file_that_was_not_written_for_long_is_copied_before_the_stop(
@@ -148,7 +148,7 @@ def test_times_of_whole_seconds_are_not_trusted_soon(project: Path) -> None:
 
 
 def killed_after(seconds: float, project: Path, copies: Path) -> None:
-    """Begins a copy, and kills it after some time."""
+    """Begins a copy, and kills it after this many seconds."""
     words = [sys.executable, "-m", "bsched_tools", "copy", "--tables", str(project), "--to", str(copies)]
     path = {"PYTHONPATH": str(TOOLS)}
     with subprocess.Popen(words, env=path, stdout=subprocess.DEVNULL) as copier:
@@ -165,7 +165,7 @@ def test_serving_goes_on_where_the_tool_is_killed(project: Path, twin: Twin, cop
 
 
 def test_serving_goes_on_where_the_tool_is_killed_while_it_stands_still(project: Path, twin: Twin) -> None:
-    """The parent is killed within the stop: its child continues the process."""
+    """The parent is killed during the stop. Its child continues the process."""
     script = (
         "import sys, time; from bsched_tools import stopping\n"
         f"with stopping.process_of({twin.process.pid}) as process, stopping.stopped(process):\n"
@@ -224,7 +224,7 @@ time.sleep(60)
 
 
 def test_locks_of_open_files(project: Path, copies: Path) -> None:
-    """bsched locks the file and its log by locks of the kind that names no process."""
+    """bsched locks the file and its log with locks of the kind that names no process."""
     log = project.with_name("project.db-wal")
     log.write_bytes(b"")
     words = [sys.executable, "-c", LIKE_THE_PROGRAM, str(project), str(log)]
@@ -239,7 +239,7 @@ def test_locks_of_open_files(project: Path, copies: Path) -> None:
 
 
 def test_a_process_that_stood_still_before_goes_on_too(project: Path, twin: Twin, copies: Path) -> None:
-    """So a copy mends what a killed tool left whose child was killed with it."""
+    """If a tool and its child are both killed, the process stays stopped. The next copy continues it."""
     os.kill(twin.process.pid, signal.SIGSTOP)
     copied = copying.copy_tables(project, copies)
     assert copied.still_seconds is not None and goes_on(twin)
@@ -353,7 +353,7 @@ def test_keep_removes_older_copies_of_the_project_alone(project: Path, copies: P
 
 def test_the_newest_good_copy_is_never_removed(project: Path, copies: Path) -> None:
     first = copying.copy_tables(project, copies, keep=1)
-    later = copies / "project-29990101T000000.000Z.db"  # as a clock that was wrong named it
+    later = copies / "project-29990101T000000.000Z.db"  # as if the clock had been wrong
     os.rename(first.path, later)
     second = copying.copy_tables(project, copies, keep=1)
     assert second.removed == [later] and second.path.exists()

@@ -1,4 +1,4 @@
-"""The doctor names what bsched refuses: the row, the process, or the key of the settings."""
+"""The doctor names what bsched refuses: the row, the process, or the key in the settings."""
 import os
 import re
 import sqlite3
@@ -17,7 +17,8 @@ from bsched_tools import doctor
 STORED_TESTS = TOOLS.parent / "crates" / "bsched" / "src" / "tests" / "stored.rt"
 
 
-# a row that is gone is missed by another table, and a count is off in a third
+# the tables of which the doctor may name a row if a row of this table was changed or deleted: another table
+# refers to the row, or a count there is off
 NAMED = {
     "instance": ["instance", "unit", "host"], "version": ["version", "version_class"],
     "version_class": ["version_class", "version"], "unit": ["unit", "instance", "unit_mark"],
@@ -26,18 +27,20 @@ NAMED = {
 
 
 def statements_of(name: str) -> list[str]:
-    """The statements of a list in the tests of the program: each spoils tables, which it is to refuse."""
+    """Returns the statements of a list in the tests of the program. Each spoils tables in a way that the
+    program must refuse."""
     block = STORED_TESTS.read_text().partition(f"const {name}: &[&str] = &[")[2].partition("];")[0]
     return re.findall(r'^    "(.*)",$', block, re.MULTILINE)
 
 
 def told_of(path: Path) -> list[str]:
-    """What the doctor says of tables."""
+    """Returns what the doctor says about tables."""
     return list(doctor.tables_faults(path))
 
 
 def short_life(path: Path) -> Path:
-    """Two users, three workunits: one is done by host 1, one is given to it, and one waits."""
+    """Makes tables with three users and two workunits. Host 1 has done one workunit, and the other one waits.
+    """
     plain_tables.create(path, {**SETTINGS, "daily_result_quota": 4})
     tables = plain_tables.Tables(path, synchronous="OFF")
     service = plain_tables.Service(tables)

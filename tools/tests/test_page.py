@@ -1,4 +1,4 @@
-"""The page says what the tables have, and the history grows by a line with each report."""
+"""The page says what the tables have, and each report adds a line to the history."""
 import json
 import os
 import re
@@ -22,7 +22,7 @@ VOID = {"meta", "br"}
 
 
 class Read(HTMLParser):
-    """Reads a page: each element must end, and the cells of each table are kept."""
+    """Reads a page. Each element must end. The cells of each table are kept."""
 
     def __init__(self, text: str) -> None:
         super().__init__()
@@ -59,28 +59,28 @@ class Read(HTMLParser):
             self.cell += data
 
     def rows(self, header: Iterable[str]) -> list[list[str]]:
-        """The rows of the table that begins with a header."""
+        """Returns the rows of the table whose header begins with these cells."""
         found, = [table[1:] for table in self.tables if table[0][:len(header)] == list(header)]
         return found
 
 
 @pytest.fixture
 def folder(tmp_path: Path) -> Path:
-    """The folder of the page."""
+    """Makes the folder of the page."""
     made = tmp_path / "page"
     made.mkdir()
     return made
 
 
 def reported(path: Path, folder: Path, moment: float | None = None) -> Read:
-    """The page of a copy."""
+    """Writes the page of a copy, and reads it."""
     if moment is not None:
         os.utime(path, (moment, moment))
     return Read(page.write_report(path, folder).read_text())
 
 
 def lived_in_parts(tmp_path: Path, folder: Path, parts: int = 4) -> tuple[Project, Path, Read]:
-    """Reports over a life; the last one."""
+    """Reports several times over a life. Returns the life, the last copy and the last page."""
     lived = life_of(21, calls=600)
     stored, size = Stored(tmp_path / "project.db"), len(lived.lines) // parts + 1
     for part in range(parts):
@@ -167,7 +167,7 @@ def test_turnaround_is_at_most_what_it_is_said(tmp_path: Path, folder: Path) -> 
 
     done = [{"name": "w1_0", "exit_status": 0, "output": "42"}]
     assert sum(run(10_000, request(1, 1, work_req_seconds=1))) == 0
-    assert run(13_000, request(1, 2, results=done)) == [1, 0, 0, 0, 0, 0, 0]  # after 3,060 seconds at most
+    assert run(13_000, request(1, 2, results=done)) == [1, 0, 0, 0, 0, 0, 0]  # after at most 3,060 seconds
     assert sum(run(13_200, request(1, 3))) == 0
 
 

@@ -1,4 +1,4 @@
-"""Each command refuses what is no copy of the tables, and a full disk, in one line."""
+"""Each command refuses a file that is no copy of the tables, and a full disk, in one line."""
 import contextlib
 import sqlite3
 import subprocess

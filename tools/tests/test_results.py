@@ -1,4 +1,4 @@
-"""Results agree with the plain scheduler, and with a cursor each comes once."""
+"""Results agree with the plain scheduler. With a cursor each result comes once."""
 import csv
 import io
 import json
@@ -19,19 +19,19 @@ REASONS = {"errors": "errors", "success": "successes", "total": "total"}
 
 
 def rows_of(*paths: Path, **more: Any) -> list[dict[str, str]]:
-    """The rows of comma-separated results."""
+    """Returns the rows of comma-separated results."""
     file = io.StringIO()
     results.write_results(paths, file=file, **more)
     return list(csv.DictReader(io.StringIO(file.getvalue())))
 
 
 def verdicts_of(unit: workunits.Workunit) -> dict[str, bool | None]:
-    """The verdict of each result of a workunit."""
+    """Returns the verdict of each result of a workunit."""
     return {one.name: one.is_valid for one in unit.results}
 
 
 def lines_of(*paths: Path, **more: Any) -> list[dict[str, Any]]:
-    """The lines of results as JSON."""
+    """Returns the lines of results as JSON."""
     file = io.StringIO()
     results.write_results(paths, as_lines=True, file=file, **more)
     return [json.loads(line) for line in file.getvalue().splitlines()]
@@ -144,7 +144,7 @@ def test_a_result_that_comes_late_is_marked(tmp_path: Path) -> None:
 
 
 def test_the_worked_example_of_a_quorum() -> None:
-    """One of three disagrees: 10, 13 and 12, which are to agree within 2."""
+    """One of three disagrees: the outputs are 10, 13 and 12, and must agree within 2."""
     good = [
         workunits.Instance(f"w_{number}", number, "u", 1, output, number + 1)
         for number, output in enumerate(("10", "13", "12"))
@@ -224,7 +224,7 @@ def test_a_new_file_is_whole_and_is_never_written_over(tmp_path: Path) -> None:
 
 
 def test_a_stop_before_the_cursor_is_written(tmp_path: Path, monkeypatch: pytest.MonkeyPatch) -> None:
-    """Then what is new comes again."""
+    """After such a stop the new results come again."""
     path = stored_life(life_of(3), tmp_path / "project.db")
     cursor, target = tmp_path / "cursor", tmp_path / "new"
 

@@ -1,4 +1,5 @@
-"""The files for statistics sites: users are sums of hosts, averages are BOINC's, nobody is named unasked."""
+"""The files for statistics sites. Users are sums of hosts, averages are BOINC's, and nobody is named without
+consent."""
 import gzip
 import json
 import os
@@ -17,26 +18,26 @@ DAY = 86400
 
 
 def read(folder: Path, name: str) -> list[dict[str, str]]:
-    """The elements of a file, each with its members."""
+    """Returns the elements of a file, each with its members."""
     root = ElementTree.fromstring(gzip.decompress((folder / name).read_bytes()))
     return [{member.tag: member.text or "" for member in one} for one in root]
 
 
 def totals(folder: Path) -> dict[str, str | None]:
-    """What tables.xml says."""
+    """Returns what tables.xml says."""
     return {member.tag: member.text for member in ElementTree.fromstring((folder / "tables.xml").read_text())}
 
 
 @pytest.fixture
 def folder(tmp_path: Path) -> Path:
-    """The folder of the files."""
+    """Makes the folder of the files."""
     made = tmp_path / "stats"
     made.mkdir()
     return made
 
 
 def test_averages_as_worked_out() -> None:
-    """10 on the first day, then 5 a day later, then nothing for 7 days."""
+    """10 credits on the first day, 5 a day later, then none for 7 days."""
     first = averages.average_after(None, 0.5, 10)
     second = averages.average_after(first, 1, 5)
     third = averages.average_after(averages.average_after(first, 7, 0), 0, 0)
