@@ -282,7 +282,7 @@ class Accounts:
         )
         raise AccountFault(Fault.NO_ANSWER)
 
-    # ---- What is sent again
+    # ---- Resending
 
     def resend_open(self) -> None:
         """Sends every import again that got no answer. Raises NoAnswer at the first one that gets none again.

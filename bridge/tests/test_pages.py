@@ -288,7 +288,7 @@ def test_what_is_no_form(open_bridge):
         assert open_bridge.got(f"/p/{path}", "HEAD")[2] == b""
 
 
-# ---- How the project stands
+# ---- The status page
 
 
 def test_a_ranking_of_all_users(open_bridge, twin):
