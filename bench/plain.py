@@ -209,8 +209,7 @@ class Machine:
         return instance if instance.host is host else None
 
     def version(self, host, app):
-        """Returns number, platform and class of the newest version for the host's first platform that has
-        any."""
+        """Returns number, platform and class of the newest version for the first platform that has one."""
         for platform in host.platforms:
             if (app, platform) in self.newest:
                 number, version_class = self.newest[app, platform]
@@ -218,8 +217,7 @@ class Machine:
         return None
 
     def fits(self, host, unit):
-        """Returns whether the host can run the workunit in time, with a version of its class if it has
-        one."""
+        """Returns whether the host can run the workunit in time, with a version of its class, if any."""
         version = self.version(host, unit.app)
         return (
             unit.rsc_memory_bound <= host.facts["m_nbytes"]
@@ -230,8 +228,7 @@ class Machine:
         )
 
     def settle_all(self, touched, charges):
-        """Settles the touched workunits, then changes credits and quotas. `charges` are those before
-        verdicts."""
+        """Settles touched workunits, then changes credits and quotas. `charges` are those before verdicts."""
         merits = Counter()
         for unit in dict.fromkeys(touched):
             for instance in settle(self.rows["apps"][unit.app], unit):

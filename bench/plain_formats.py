@@ -1,5 +1,4 @@
-"""The formats that plain.py reads and writes: JSON, requests, imports and instants, as docs/PROFILE.md states
-them.
+"""The formats of plain.py: JSON, requests, imports and instants, as docs/PROFILE.md states them.
 
 It reads the instants that Python's datetime reads.
 """
@@ -51,8 +50,7 @@ def is_list(most, test):
 
 
 def decimal(said):
-    """Returns the float of a JSON number with a point or an exponent. Raises ValueError if it is too
-    large."""
+    """Returns the float of a JSON number with point or exponent. Raises ValueError if it is too large."""
     value = float(said)
     if value in (float("inf"), float("-inf")):
         raise ValueError(said)
@@ -60,7 +58,7 @@ def decimal(said):
 
 
 def whole(said):
-    """Returns the value of a JSON number without them. -0 is no whole number, so it gives a float."""
+    """Returns the value of a JSON number with no point or exponent. -0 is not whole, so it gives a float."""
     return decimal(said) if said == "-0" or len(said) > 300 else int(said)
 
 
@@ -159,7 +157,7 @@ def is_count(low, high):
 
 
 def is_count_from(column, high):
-    """Returns the same test with the value of an earlier column as the lower limit."""
+    """Returns such a test, whose lower limit is the value of an earlier column."""
     return lambda row, said: is_count(int(row[column]), high)(row, said)
 
 
@@ -212,7 +210,7 @@ csv.field_size_limit(2**21)
 
 
 def rows_of(kind, said):
-    """Returns an import's data rows, each a list of texts. If the longer header's column is absent, it is
+    """Returns an import's data rows as lists of texts. If the longer header's column is absent, it is
     added."""
     columns = KINDS[kind][0]
     further, test, otherwise = FURTHER.get(kind, (None, None, None))

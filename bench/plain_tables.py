@@ -1,6 +1,5 @@
 #!/usr/bin/env python3
-"""The scheduler in plain Python over a SQLite file: the twin with which `bench/serve life` compares the
-program.
+"""The plain Python scheduler over a SQLite file: the twin with which `bench/serve life` compares bsched.
 
 usage: plain_tables.py [--once] TABLES PORT
        plain_tables.py --upgrade TABLES
@@ -11,10 +10,11 @@ tables of the first schema to the newest.
 
 Settings and applications are cached. All else is looked up by the statements of the proved program, as often
 as the program does. Rows of accounts and workunits, and versions, stay cached until such a row is put. Rows
-of instances and hosts stay cached, as they are put. The slot for a host's next call and the first places of
-what waits stay cached until anything is put. With --once no look-up is cached from one message to the next,
-and no statement runs twice for one message. Each message that changes anything is one transaction, which is
-on the disk before the answer (journal_mode WAL, synchronous FULL).
+of instances and hosts stay cached, as they are put. So do the credit of users and how many jobs a host was
+sent on a day. The slot for a host's next call and the first places of what waits stay cached until anything
+is put. With --once no look-up is cached from one message to the next, and no statement runs twice for one
+message. Each message that changes anything is one transaction, which is on the disk before the answer
+(journal_mode WAL, synchronous FULL).
 """
 import socket
 import sqlite3
@@ -82,7 +82,7 @@ COLUMNS = {
 }
 NEW_TABLES = ("kept4", "version_class", "unit_mark")  # tables that the first schema does not have
 PLACES = "SELECT unit_id, num FROM instance WHERE unit_id > 0 AND num >= 0 AND "
-FIRST_PAGE, FURTHER_PAGE = 8, 64  # how many places of what waits one statement reads: at first, then
+FIRST_PAGE, FURTHER_PAGE = 8, 64  # how many waiting places a statement reads: the first one, and each further one
 # the look-ups by their kinds
 LOOK_UPS = {
     "account by authenticator": "SELECT id, auth, name FROM account WHERE id > 0 AND auth = ?1 ORDER BY id",
@@ -123,12 +123,11 @@ DAY = 86400
 LAST_DEADLINE = 250_100_000_000
 LEAST_DEADLINE = "SELECT min(deadline) FROM instance WHERE lapse = 0 AND outcome IS NULL"
 MOST_LOOKS = 8  # how many workunits are looked up by key before all that the user had are listed
-MOST_NOTED = 16  # how many offered workunits have their rows cached on one way through what waits
+MOST_NOTED = 16  # how many offered workunits are cached in one pass through what waits
 
 
 def put_texts(table):
-    """Returns two statements for a row of a table: one puts it at its key, the other updates an existing
-    row."""
+    """Returns two statements for a table's row: one puts it at its key, the other updates an existing row."""
     columns, keys = COLUMNS[table]
     names = columns.split(", ")
     given = [f"{name} = ?{number}" for number, name in enumerate(names, 1)]
@@ -233,8 +232,7 @@ class Host:
 
 
 def least(numbers):
-    """Returns the slot for a call, given each slot's number: the first free one, else that of the least
-    number."""
+    """Returns the slot for a call, given each slot's number: the first free one, else that of the least."""
     return min(range(SLOTS), key=lambda slot: -1 if numbers[slot] is None else numbers[slot])
 
 
@@ -259,8 +257,7 @@ def create(path, settings):
 
 
 def make_former(path, newest):
-    """Creates tables of the first schema with the rows of newer tables. Of a host's calls it keeps the
-    last."""
+    """Creates tables of the first schema with the rows of newer ones. Of a host's calls it keeps the last."""
     connection = sqlite3.connect(path)
     connection.executescript(f"PRAGMA journal_mode = WAL; BEGIN; {FIRST_SCHEMA} COMMIT;")
     connection.execute("ATTACH ? AS newest", (newest,))
@@ -375,7 +372,7 @@ class Tables:
             self.credits[account] += row[9] - known[0][9]
 
     def move_sent(self, known, row):
-        """If the workunit's instances were cached, changes the cached count of jobs that a host was sent on a
+        """If the workunit's instances were cached, changes the cached count of jobs sent to a host on a
         day."""
         if known is None:
             self.sent.clear()
@@ -500,8 +497,8 @@ class Tables:
         return due
 
     def due_before(self, now):
-        """Returns the same. If the mark is before the last moment asked, it first looks up whether jobs due
-        then are still held."""
+        """Returns what due_from_mark does. If the mark is before the last moment asked, it first looks up
+        whether jobs due then are still held."""
         if self.mark < self.asked:
             self.due_from_mark(self.asked)
         self.asked = now
@@ -516,8 +513,7 @@ class Tables:
         return row[9]
 
     def version(self, host, app):
-        """Returns number, platform and class of the newest version for the host's first platform that has
-        any."""
+        """Returns number, platform and class of the newest version for the first platform that has one."""
         asked = tuple(host.platforms), app
         if asked in self.versions:
             return self.versions[asked]
@@ -596,8 +592,7 @@ class Page:
         self.hosts[host.number] = self.put_hosts[host.number] = host
 
     def rows(self):
-        """Returns the changed rows. What was put is looked up again: hosts' counts change by the
-        difference."""
+        """Returns the changed rows. What was put is looked up again, since counts change by differences."""
         tables, units, marks, instances, shares = self.tables, [], [], [], {}
         for number in self.put_hosts:
             if tables.host(number) is None:
@@ -796,7 +791,7 @@ class Machine:
         return Host(number, account, record["host_info"]["host_cpid"], "", 1, 0, 0, self.settings["daily_result_quota"])
 
     def call(self, account, number, record, now):
-        """Handles a fresh call. A host without a number is new. Returns the host's number, rows to put, and
+        """Handles a fresh call. A host without a number is new. Returns its number, rows to put, and
         reply."""
         tables, page, charges, resent, dropped = self.tables, Page(self.tables), Counter(), [], []
         host = self.new_host(account, record) if number is None else page.host(number)
@@ -974,8 +969,7 @@ class Service(plain.Service):
         return text({"lapsed": self.machine.tick(now)})
 
     def respond(self, message):
-        """Returns the bytes of the response to a message, given as its first line, its fields and its
-        body."""
+        """Returns the bytes of the response to a message, given as first line, fields and body."""
         first, fields, body = message
         method, path, _ = first.split(" ")
         now = int(fields["x-moment"]) if "x-moment" in fields else int(time.time())

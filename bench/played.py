@@ -136,7 +136,7 @@ def same_answers(body: bytes, each: list[bytes]) -> None:
 
 
 class Played(serve_life.Life):
-    """Calls of clients, each of which goes to every server as soon as it is made. The servers take turns at
+    """Calls of clients. Each goes to every server as soon as it is made. The servers take turns at
     being first. They must answer the same, so it does not matter whose answer the client hears."""
 
     def __init__(self, runs: list[serve_life.Run], timed: bool) -> None:

@@ -17,7 +17,7 @@ MOST_GROWTH = 16 * 1024  # the peak memory of its calls grows by less after the 
 
 
 def ratio_told(one: float, other: float) -> str:
-    """Says how many times as much one is as the other."""
+    """Returns the text that says how many times as much one is as the other."""
     return f"{one / other:.2f} times" if other else "no ratio"
 
 

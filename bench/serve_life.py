@@ -51,8 +51,7 @@ MADE = tempfile.TemporaryDirectory()  # the large tables, which several cases us
 
 
 def hosts_of(units):
-    """Returns how many hosts there are for so many workunits: half as many, less 1 in 100 that are yet to
-    come."""
+    """Returns how many hosts there are for so many workunits: half as many, less 1 in 100 still to come."""
     return units // 2 - units // 200
 
 
@@ -252,8 +251,7 @@ class Life:
             client.jobs = had + [job["name"] for job in reply["results"] if job["name"] not in had]
 
     def mixed(self, units, count):
-        """Makes so many calls of a project's life. All hosts of some users call, about 36 times for each
-        user."""
+        """Makes so many calls of a project's life. All hosts of some users call, about 36 times per user."""
         users, active = user_of(hosts_of(units)), max(5, count // 36)
         clients = [standing(10 * (number * users // active) + one) for number in range(active) for one in range(1, 11)]
         for number in range(count):
@@ -453,7 +451,7 @@ def rates_of(runs):
 
 
 def ratio_told(ours, theirs):
-    """Says how the first rates of calls compare with the others."""
+    """Returns the text that says how the first rates of calls compare with the others."""
     return (
         f"{ours[0] / theirs[0]:.2f} times as many calls a second ({ours[0]:.0f} and {theirs[0]:.0f}), "
         f"{ours[1] / theirs[1]:.2f} times as many per second of the server's processor time ({ours[1]:.0f} and {theirs[1]:.0f})"
@@ -461,7 +459,7 @@ def ratio_told(ours, theirs):
 
 
 def memory_told_of(run):
-    """Says the memory of a run, as it is printed."""
+    """Returns the text that says a run's memory."""
     return (
         f"peak memory {run.open_peak / 1024:.0f} MB then, of which {run.open_stays / 1024:.0f} MB stay, and "
         f"{run.end_peak / 1024:.0f} MB after the calls"
