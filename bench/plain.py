@@ -1,9 +1,9 @@
 #!/usr/bin/env python3
-"""The scheduler in plain Python, over lists and dicts. `bench/run` measures the program against it.
+"""The scheduler in plain Python, over lists and dicts. `bench/run` compares the program with it.
 
 usage: plain.py [SETTING=NUMBER..]
-Reads the lines of a replay on standard input and prints the answers; docs/PROFILE.md states the formats and the rules.
-It is written from these, not from the program. plain_formats.py has the formats. The word `hosts/ID` it does not know.
+Reads the lines of a replay from standard input and prints the answers. docs/PROFILE.md states the formats and the rules;
+this twin is written from them, not from the program. plain_formats.py has the formats. `hosts/ID` is not supported.
 """
 import re
 import sys
@@ -32,49 +32,49 @@ class Account:
 
     name: str
     hosts: list = field(default_factory=list)
-    units: set = field(default_factory=set)  # the names of workunits of which a host of the account ever had an instance
+    units: set = field(default_factory=set)  # the workunits that its hosts ever had an instance of
 
 
 @dataclass(eq=False, slots=True)
 class Host:
-    """A volunteer's machine."""
+    """A volunteer's computer."""
 
     number: int
     account: Account
     quota: int
     facts: dict = None
     platforms: list = None
-    held: list = field(default_factory=list)  # the instances with neither report nor lapse
-    sent: Counter = field(default_factory=Counter)  # how many instances were sent on a day
+    held: list = field(default_factory=list)  # its instances with neither report nor lapse
+    sent: Counter = field(default_factory=Counter)  # for each day, how many instances were sent
     credit: int = 0
-    kept: list = field(default_factory=list)  # of the latest four calls the number, the canonical text and the reply
+    kept: list = field(default_factory=list)  # number, canonical text and reply of the latest four calls
 
 
 class Unit:
-    """A workunit; its limits and its credit are named as the columns of an import."""
+    """A workunit. Its limits and its credit have the names of an import's columns."""
 
     def __init__(self, place, row):
         self.place, self.name, self.app = place, row[0], row[1]
         for column, said in zip(list(KINDS["workunits"][0])[2:], row[2:]):
             setattr(self, column, int(said))
         self.marked = row[12] == "1"
-        self.version_class = None  # that of the version with which the first instance was granted, where it is marked
-        self.status = "open"  # open, done, errors, success or total: the last three are failures
+        self.version_class = None  # if marked: the class of the first granted instance's version
+        self.status = "open"  # open, done, errors, success or total; the last three are failures
         self.instances = []
-        self.judged = []  # the instances whose reports were judged, by the places of these
+        self.judged = []  # the instances with a judged report, in the order of their places
         self.add(self.target_nresults)
 
     def failed(self):
-        """Whether the workunit failed."""
+        """Returns whether the workunit failed."""
         return self.status not in ("open", "done")
 
     def add(self, count):
-        """New instances, numbered on."""
+        """Adds new instances with the next numbers."""
         for _ in range(count):
             self.instances.append(Instance(self, len(self.instances)))
 
     def unsent(self):
-        """The first instance that nobody owns."""
+        """Returns the first instance without an owner."""
         return next((instance for instance in self.instances if instance.host is None), None)
 
 
@@ -88,20 +88,20 @@ class Instance:
     sent: int = None
     deadline: int = None
     lapse: str = None  # late or dropped
-    exit_status: int = None  # of the report
+    exit_status: int = None  # the report's
     output: str = None
     verdict: bool = None  # valid or invalid
 
     def name(self):
-        """The name of the result."""
+        """Returns the name of the result."""
         return f"{self.unit.name}_{self.number}"
 
     def place(self):
-        """Where the instance stands among all."""
+        """Returns its place: the workunit's place and the number of the instance."""
         return self.unit.place, self.number
 
     def held(self):
-        """Whether it has an owner and neither report nor lapse."""
+        """Returns whether it has an owner, and neither a report nor a lapse."""
         return self.host is not None and self.exit_status is None and self.lapse is None
 
 
@@ -109,7 +109,7 @@ class Instance:
 
 
 def agree(agreement, one, other):
-    """Whether two outputs agree."""
+    """Returns whether two outputs agree."""
     if one == other:
         return True
     if agreement == "exact" or not (NUMBER.fullmatch(one) and NUMBER.fullmatch(other)):
@@ -118,7 +118,7 @@ def agree(agreement, one, other):
 
 
 def canonical(agreement, unit, good):
-    """The first report of the least front of good ones in which enough agree with it."""
+    """Returns the canonical result: the first report with enough votes in the shortest front that has one."""
     enough = unit.min_quorum // 2 + 1
     for size in range(unit.min_quorum, len(good) + 1):
         for one in good[:size]:
@@ -128,7 +128,7 @@ def canonical(agreement, unit, good):
 
 
 def status(unit, good, need, best):
-    """What becomes of a workunit with these good reports, this need and this canonical result."""
+    """Returns the status of a workunit with these good reports, this need and this canonical result."""
     if best is not None:
         return "done"
     if len(unit.judged) - len(good) > unit.max_error_results:
@@ -141,7 +141,7 @@ def status(unit, good, need, best):
 
 
 def settle(agreement, unit):
-    """Counts a workunit anew and gives it the instances that it needs; the instances with a new verdict."""
+    """Counts a workunit anew and adds the instances that it needs. Returns those with a new verdict."""
     good = [instance for instance in unit.judged if instance.exit_status == 0]
     live = sum(instance.host is None or instance.held() for instance in unit.instances)
     want = max(unit.target_nresults, len(good) + 1 if len(good) >= unit.min_quorum else 0)
@@ -157,7 +157,7 @@ def settle(agreement, unit):
 
 
 def estimate(unit, host):
-    """The seconds that a job takes on a host, rounded up."""
+    """Returns the seconds that a job takes on a host, rounded up, at least 1."""
     return max(1, -(-unit.rsc_fpops_est // host.facts["p_fpops"]))
 
 
@@ -165,18 +165,18 @@ def estimate(unit, host):
 
 
 class Machine:
-    """The world: rows, and how a call, a tick and an import change them."""
+    """The world: its rows, and how a call, a tick and an import change them."""
 
     def __init__(self, settings):
         self.settings = settings
         self.hosts = {}  # by key
-        self.rows = {kind: {} for kind in KINDS}  # what stands of each kind, by name
-        self.newest = {}  # the greatest number of a version by app and platform, with its class
-        self.places = []  # the workunits by place
-        self.queued = []  # the places of open workunits with an instance that nobody owns, in order
+        self.rows = {kind: {} for kind in KINDS}  # for each kind, what exists, by name
+        self.newest = {}  # by app and platform: the greatest version number, with its class
+        self.places = []  # the workunits in the order of their places
+        self.queued = []  # the places of open workunits with an unsent instance, in order
 
     def add_row(self, kind, name, row):
-        """One more account, application, version or workunit."""
+        """Adds an account, an application, a version or a workunit."""
         if kind == "accounts":
             self.rows[kind][name] = Account(row[1])
         elif kind == "apps":
@@ -190,7 +190,7 @@ class Machine:
             self.requeue(unit)
 
     def requeue(self, unit):
-        """Puts a workunit into the queue or takes it out, as it now is."""
+        """Puts a workunit into the queue or takes it out, according to its present state."""
         at = bisect_left(self.queued, unit.place)
         stands = at < len(self.queued) and self.queued[at] == unit.place
         waits = unit.status == "open" and unit.unsent() is not None
@@ -200,7 +200,7 @@ class Machine:
             del self.queued[at]
 
     def instance(self, host, name):
-        """The instance of that name, where the host owns it."""
+        """Returns the instance of that name if the host owns it, otherwise None."""
         unit_name, _, number = name.rpartition("_")
         unit = self.rows["workunits"].get(unit_name)
         if unit is None or not re.fullmatch("0|[1-9][0-9]?", number) or int(number) >= len(unit.instances):
@@ -209,7 +209,7 @@ class Machine:
         return instance if instance.host is host else None
 
     def version(self, host, app):
-        """The newest version at the first of the host's platforms that has any: its number, that platform and its class."""
+        """Returns number, platform and class of the newest version for the first platform that has one."""
         for platform in host.platforms:
             if (app, platform) in self.newest:
                 number, version_class = self.newest[app, platform]
@@ -217,7 +217,7 @@ class Machine:
         return None
 
     def fits(self, host, unit):
-        """Whether the host can run the workunit in time, by a version of the class that it keeps to."""
+        """Returns whether the host can run the workunit in time, with a version of its class, if any."""
         version = self.version(host, unit.app)
         return (
             unit.rsc_memory_bound <= host.facts["m_nbytes"]
@@ -228,7 +228,7 @@ class Machine:
         )
 
     def settle_all(self, touched, charges):
-        """Settles the workunits that were touched, then moves credits and quotas; charges are those before verdicts."""
+        """Settles touched workunits, then changes credits and quotas. `charges` are those before verdicts."""
         merits = Counter()
         for unit in dict.fromkeys(touched):
             for instance in settle(self.rows["apps"][unit.app], unit):
@@ -240,7 +240,7 @@ class Machine:
             host.quota = min(self.settings["daily_result_quota"], quota)
 
     def take_reports(self, host, results, charges):
-        """Records what the host reports of its own; the workunits that this touches."""
+        """Records the host's reports of its own instances. Returns the workunits that this touches."""
         touched = []
         for report in results:
             instance = self.instance(host, report["name"])
@@ -256,7 +256,8 @@ class Machine:
         return touched
 
     def take_lost(self, host, listed, now):
-        """Sends again or drops what the host holds and does not list; the jobs, and the workunits that this touches."""
+        """Sends again or drops what the host holds and does not list. Returns the jobs sent again, and the
+        workunits of the dropped ones."""
         resent, touched = [], []
         for instance in [instance for instance in host.held if instance.name() not in listed]:
             unit = instance.unit
@@ -271,7 +272,7 @@ class Machine:
         return sorted(resent, key=Instance.place), touched
 
     def aborts(self, host, names):
-        """The names that the host may forget, each once."""
+        """Returns the names of results that the host should drop, each once."""
         told = []
         for name in dict.fromkeys(names):
             instance = self.instance(host, name)
@@ -280,7 +281,7 @@ class Machine:
         return told
 
     def choose(self, host, seconds, asked, now):
-        """The jobs for the host, by place, and the word that tells why there are no more."""
+        """Returns the jobs for the host, ordered by place, and the end word: why there are no more."""
         jobs = []
         queue = iter(self.queued)
         while True:
@@ -300,7 +301,7 @@ class Machine:
             seconds += estimate(unit, host)
 
     def send(self, host, instance, now):
-        """The host becomes the owner of the instance, and a marked workunit takes the class of the version if it has none."""
+        """Makes the host the owner. A marked workunit without a class takes that of the host's version."""
         instance.host, instance.sent, instance.deadline = host, now, now + instance.unit.delay_bound
         host.held.append(instance)
         host.sent[now // 86400] += 1
@@ -310,7 +311,7 @@ class Machine:
         self.requeue(instance.unit)
 
     def job(self, host, instance, resent):
-        """What a reply says of a job."""
+        """Returns what a reply says about a job."""
         number, platform, _ = self.version(host, instance.unit.app)
         return {
             "app_name": instance.unit.app,
@@ -324,7 +325,7 @@ class Machine:
         }
 
     def call(self, host, record, now):
-        """A fresh call of a host: its reply."""
+        """Handles a fresh call of a host and returns its reply."""
         host.facts = record["host_info"]
         host.platforms = [record["platform_name"], *record["alt_platforms"]]
         listed, charges, resent, dropped = record.get("other_results"), Counter(), [], []
@@ -352,7 +353,7 @@ class Machine:
         }
 
     def tick(self, now):
-        """Every held instance that is past its deadline lapses; how many."""
+        """Lapses every held instance that is past its deadline. Returns how many did."""
         charges, touched = Counter(), []
         for host in self.hosts.values():
             for instance in [instance for instance in host.held if instance.deadline < now]:
@@ -368,14 +369,14 @@ class Machine:
 
 
 class Service:
-    """What answers the lines of a replay."""
+    """Answers the lines of a replay."""
 
     def __init__(self, settings=SETTINGS):
         self.machine = Machine(settings)
         self.batches = {}
 
     def new_rows(self, kind, said):
-        """The rows of an import by their names, which are new."""
+        """Returns the rows of an import by their names, after checking that the names are new."""
         _, names, app, most = KINDS[kind]
         stand, rows, new = self.machine.rows[kind], rows_of(kind, said), {}
         for number, row in enumerate(rows, 1):
@@ -391,7 +392,7 @@ class Service:
         return new
 
     def imported(self, kind, batch, said):
-        """The answer to an import."""
+        """Returns the answer to an import."""
         if kind not in KINDS:
             raise Refused(404, 2, "no_route")
         if len(said.encode()) > 1048576:
@@ -409,7 +410,7 @@ class Service:
         return answer
 
     def scheduler(self, body, now):
-        """The answer to a call."""
+        """Returns the answer to a call."""
         record = record_of(body)
         hosts, account = self.machine.hosts, self.machine.rows["accounts"].get(record["authenticator"])
         if account is None:
@@ -436,7 +437,7 @@ class Service:
         return reply
 
     def answer(self, line):
-        """The status and the body for a line; a ValueError where it is none."""
+        """Returns status and body of the answer to a line. Raises ValueError if it is no line of a replay."""
         instant, _, rest = line.partition(b" ")
         word, space, body = rest.partition(b" ")
         now = moment(instant.decode())
@@ -460,7 +461,7 @@ class Service:
 
 
 def settings_of(words):
-    """The settings, with those that the command line names."""
+    """Returns the settings, changed by those that the command line names."""
     told = dict(word.split("=") for word in words)
     if not told.keys() <= SETTINGS.keys():
         sys.exit(__doc__)

@@ -1,6 +1,6 @@
-"""The formats that plain.py reads and writes: JSON, the request, imports and instants, as docs/PROFILE.md states them.
+"""The formats of plain.py: JSON, requests, imports and instants, as docs/PROFILE.md states them.
 
-Of instants it knows those that Python reads.
+It reads the instants that Python's datetime reads.
 """
 import csv
 import io
@@ -19,7 +19,7 @@ class Refused(Exception):
 
 # ---- Texts
 
-# JSON without blanks, members in byte order
+# writes JSON without blanks, members in byte order
 text = json.JSONEncoder(ensure_ascii=False, sort_keys=True, separators=(",", ":")).encode
 
 WORD = re.compile(r"[A-Za-z0-9_.-]{1,64}")
@@ -30,27 +30,27 @@ ESCAPE = re.compile(r"\\(?:u[dD][89abAB]..\\u[dD][c-fC-F]..|(u[dD][89a-fA-F])|.)
 
 
 def is_word(value):
-    """Whether a JSON value is a word."""
+    """Returns whether a JSON value is a word."""
     return isinstance(value, str) and WORD.fullmatch(value) is not None
 
 
 def is_text(low, high):
-    """The test for a text of so many bytes."""
+    """Returns the test for a text whose number of bytes is within a range."""
     return lambda value: isinstance(value, str) and low <= len(value.encode()) <= high
 
 
 def is_whole(low, high):
-    """The test for a whole number within a range."""
+    """Returns the test for a whole number within a range."""
     return lambda value: type(value) is int and low <= value <= high
 
 
 def is_list(most, test):
-    """The test for an array of at most so many values that pass a test."""
+    """Returns the test for an array of at most `most` values that all pass `test`."""
     return lambda value: isinstance(value, list) and len(value) <= most and all(map(test, value))
 
 
 def decimal(said):
-    """A JSON number with a point or an exponent, within the numbers of a float."""
+    """Returns the float of a JSON number with point or exponent. Raises ValueError if it is too large."""
     value = float(said)
     if value in (float("inf"), float("-inf")):
         raise ValueError(said)
@@ -58,12 +58,12 @@ def decimal(said):
 
 
 def whole(said):
-    """A JSON number without them; a zero with a sign is not a whole number."""
+    """Returns the value of a JSON number with no point or exponent. -0 is not whole, so it gives a float."""
     return decimal(said) if said == "-0" or len(said) > 300 else int(said)
 
 
 def no_constant(said):
-    """NaN and Infinity are no JSON."""
+    """Raises ValueError: NaN and Infinity are not JSON."""
     raise ValueError(said)
 
 
@@ -71,7 +71,7 @@ DECODER = json.JSONDecoder(parse_float=decimal, parse_int=whole, parse_constant=
 
 
 def depth(said):
-    """How deep arrays and objects are nested in a JSON text."""
+    """Returns how deep arrays and objects are nested in a JSON text."""
     deepest = level = 0
     unquoted = QUOTED.sub("", said) if "\\" in said else "".join(said.split('"')[::2])
     for bracket in re.findall(r"[\[\]{}]", unquoted):
@@ -81,7 +81,8 @@ def depth(said):
 
 
 def read_json(said):
-    """The value of a JSON text; a ValueError where it is none, has half a surrogate pair or is nested too deep."""
+    """Returns the value of a JSON text. Raises ValueError if it is not JSON, has half a surrogate pair, or is
+    nested too deep."""
     try:
         value = DECODER.decode(said)
     except RecursionError:
@@ -100,13 +101,13 @@ is_listed, is_output, is_exit_status = is_text(1, 254), is_text(0, 1024), is_who
 
 
 def is_report(value):
-    """Whether a value is an element of `results`."""
+    """Returns whether a value is an element of `results`."""
     if not isinstance(value, dict):
         return False
     return is_listed(value.get("name")) and is_exit_status(value.get("exit_status")) and is_output(value.get("output", ""))
 
 
-# of each member, in the order of the checks, its test and what stands where it is absent
+# for each member, in the order of the checks: its test, and its value if it is absent
 MEMBERS = {
     "authenticator": (is_word, NEEDED),
     "hostid": (is_whole(0, 2**31 - 1), 0),
@@ -125,7 +126,7 @@ MEMBERS = {
 
 
 def record_of(body):
-    """What a request says, with the defaults put in."""
+    """Returns the record that a request says, with defaults filled in. Raises Refused at the first fault."""
     if len(body) > 262144:
         raise Refused(413, 5, "too_large")
     try:
@@ -151,36 +152,36 @@ def record_of(body):
 
 
 def is_count(low, high):
-    """The test of a column for a count text within a range."""
+    """Returns the test of a column that holds a count within a range."""
     return lambda row, said: COUNT.fullmatch(said) is not None and low <= int(said) <= high
 
 
 def is_count_from(column, high):
-    """The same from what an earlier column says."""
+    """Returns such a test, whose lower limit is the value of an earlier column."""
     return lambda row, said: is_count(int(row[column]), high)(row, said)
 
 
 def is_name(row, said):
-    """The test of a column for a word."""
+    """The test of a column that holds a word."""
     return is_word(said)
 
 
 def is_user_name(row, said):
-    """The test of a column for the name of a user."""
+    """The test of a column that holds the name of a user."""
     return is_text(1, 64)(said)
 
 
 def is_mark(row, said):
-    """The test of a column for a mark."""
+    """The test of a column that holds a mark."""
     return said in ("0", "1")
 
 
 def is_agreement(row, said):
-    """The test of a column for the way in which outputs agree."""
+    """The test of a column that holds an agreement: how outputs are compared."""
     return said == "exact" or (said.startswith("within:") and is_count(0, 10**9)(row, said[7:]))
 
 
-# of each kind its columns with their tests; how many columns are the name; the column of the app; the most rows
+# for each kind: its columns with their tests, how many columns form the name, the app's column, the most rows
 KINDS = {
     "accounts": ({"authenticator": is_name, "name": is_user_name}, 1, None, 10000),
     "apps": ({"name": is_name, "agreement": is_agreement}, 1, None, 100),
@@ -200,7 +201,7 @@ KINDS = {
         1, 1, 200000,
     ),
 }
-# of some kinds the column that a longer header has behind these, with its test; and what it says under the shorter one
+# for some kinds: the last column of a longer header, its test, and its value under the shorter header
 FURTHER = {
     "versions": ("version_class", is_name, lambda row: row[1]),
     "workunits": ("marked", is_mark, lambda row: "0"),
@@ -209,7 +210,8 @@ csv.field_size_limit(2**21)
 
 
 def rows_of(kind, said):
-    """The data rows of an import, each a list of texts, with what the longer header's column says."""
+    """Returns an import's data rows as lists of texts. If the longer header's column is absent, it is
+    added."""
     columns = KINDS[kind][0]
     further, test, otherwise = FURTHER.get(kind, (None, None, None))
     lines = io.StringIO(said.removeprefix("\ufeff"), newline="")
@@ -237,7 +239,7 @@ def rows_of(kind, said):
 
 
 def moment(instant):
-    """The seconds of an instant since 1970; a ValueError where it is none."""
+    """Returns the seconds of an instant since 1970. Raises ValueError if it is none, or out of range."""
     since, second = datetime.fromisoformat(instant), timedelta(seconds=1)
     if since.tzinfo is None or since.microsecond:
         raise ValueError(instant)

@@ -1,8 +1,9 @@
 #!/usr/bin/env python3
-"""Serves the plain twin by Python's http.server, for `bench/serve speed`.
+"""Serves the plain twin with Python's http.server, for `bench/serve speed`.
 
 usage: plain_server.py PROJECT PORT
-PROJECT is a folder with the CSV files of the imports. It prints the port once it listens. Of HTTP it knows what a call needs.
+PROJECT is a folder with the CSV files of the imports. It prints the port once it listens. It knows only as much of HTTP as a
+call needs.
 """
 import os
 import sys
@@ -16,7 +17,7 @@ from served import needs
 
 
 class Handler(BaseHTTPRequestHandler):
-    """One POST to /scheduler."""
+    """Answers a POST to /scheduler."""
 
     def do_POST(self):
         body = self.rfile.read(int(self.headers["content-length"]))
@@ -33,7 +34,7 @@ class Handler(BaseHTTPRequestHandler):
         self.wfile.write(told)
 
     def log_message(self, *_words):
-        """Nothing: no line for each message."""
+        """Prints nothing: there is no line for each message."""
 
 
 def main():

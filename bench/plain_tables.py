@@ -1,18 +1,20 @@
 #!/usr/bin/env python3
-"""The scheduler in plain Python over a SQLite file: the twin that `bench/serve life` measures the program against.
+"""The plain Python scheduler over a SQLite file: the twin with which `bench/serve life` compares bsched.
 
 usage: plain_tables.py [--once] TABLES PORT
        plain_tables.py --upgrade TABLES
-Serves the tables of a file, which stand, on 127.0.0.1, one connection after the other, over a blocking socket. It prints the
-port once it listens. docs/PROFILE.md states the formats and the rules, docs/STORED.md the stored tables; the rules of one
-workunit are those of plain.py. A message with a field `x-moment` is acted on as of that second. With --upgrade it carries
-tables of the first schema over to the newest.
+Serves the existing tables of a file on 127.0.0.1, one connection after the other, over a blocking socket. It prints the port
+once it listens. docs/PROFILE.md states the formats and the rules, docs/STORED.md the stored tables. The rules of one workunit
+are those of plain.py. If a message has a field `x-moment`, the twin acts on it as of that second. With --upgrade it upgrades
+tables of the first schema to the newest.
 
-It keeps settings and applications beside the tables and looks all else up by the statements of the proved program, as
-often as the program does: rows of accounts and workunits, and versions, are kept until they are put, those of instances and
-hosts as they are put, and the slot for the next call of a host and the first places of what waits until anything is put.
-With --once nothing is kept from one message to the next, and no statement at all is run twice for one message. Each message
-that changes anything is one transaction, on the disk when it is answered (journal_mode WAL, synchronous FULL).
+Settings and applications are cached. All else is looked up by the statements of the proved program, as often
+as the program does. Rows of accounts and workunits, and versions, stay cached until such a row is put. Rows
+of instances and hosts stay cached, as they are put. So do the credit of users and how many jobs a host was
+sent on a day. The slot for a host's next call and the first places of what waits stay cached until anything
+is put. With --once no look-up is cached from one message to the next, and no statement runs twice for one
+message. Each message that changes anything is one transaction, which is on the disk before the answer
+(journal_mode WAL, synchronous FULL).
 """
 import socket
 import sqlite3
@@ -51,17 +53,17 @@ CREATE INDEX instance_owner ON instance (host_id, unit_id, num);
 CREATE INDEX instance_sent ON instance (host_id, sent);
 CREATE INDEX instance_deadline ON instance (deadline);
 """
-# what the second schema has beside that
+# what the second schema adds
 SECOND_SCHEMA = """
 CREATE TABLE kept4 (host_id INTEGER NOT NULL REFERENCES host, slot INTEGER NOT NULL, seqno INTEGER NOT NULL,
   text TEXT NOT NULL, reply TEXT NOT NULL, PRIMARY KEY (host_id, slot)) STRICT;
 """
-# what the third schema has beside these
+# what the third schema adds
 THIRD_SCHEMA = """
 CREATE TABLE version_class (version_id INTEGER PRIMARY KEY REFERENCES version, class TEXT NOT NULL) STRICT;
 CREATE TABLE unit_mark (unit_id INTEGER PRIMARY KEY REFERENCES unit, marked INTEGER NOT NULL, class TEXT) STRICT;
 """
-# of each table its columns, and how many of them, from the first on, are the key of a row
+# for each table: its columns, and how many of them, from the first on, are the key of a row
 COLUMNS = {
     "setting": ("name, value", 1),
     "account": ("id, auth, name", 1),
@@ -78,10 +80,10 @@ COLUMNS = {
     "version_class": ("version_id, class", 1),
     "unit_mark": ("unit_id, marked, class", 1),
 }
-NEW_TABLES = ("kept4", "version_class", "unit_mark")  # which the first schema has not
+NEW_TABLES = ("kept4", "version_class", "unit_mark")  # tables that the first schema does not have
 PLACES = "SELECT unit_id, num FROM instance WHERE unit_id > 0 AND num >= 0 AND "
-FIRST_PAGE, FURTHER_PAGE = 8, 64  # so many places of what waits are asked at a time
-# what is looked up, by its kind
+FIRST_PAGE, FURTHER_PAGE = 8, 64  # how many waiting places a statement reads: the first one, and each further one
+# the look-ups by their kinds
 LOOK_UPS = {
     "account by authenticator": "SELECT id, auth, name FROM account WHERE id > 0 AND auth = ?1 ORDER BY id",
     "host by account and client": "SELECT id FROM host WHERE id > 0 AND account_id = ?1 AND cpid = ?2 ORDER BY id",
@@ -113,24 +115,24 @@ LOOK_UPS = {
         for table in ("account", "app", "version", "unit", "host")
     },
 }
-SLOTS = 4  # so many calls of a host are kept
-# the look-ups whose rows are kept, and how many of each, and how many versions
+SLOTS = 4  # how many calls of a host are kept
+# the look-ups whose rows are cached, how many rows of each kind, and how many versions
 KEPT = ("account by authenticator", "host by number", "workunit", "mark of a workunit", "instances of a workunit")
 MOST_KEPT, MOST_VERSIONS = 1000, 100
 DAY = 86400
 LAST_DEADLINE = 250_100_000_000
 LEAST_DEADLINE = "SELECT min(deadline) FROM instance WHERE lapse = 0 AND outcome IS NULL"
-MOST_LOOKS = 8  # so many workunits are looked at by key whether the user had one, before all that the user had are listed
-MOST_NOTED = 16  # of so many workunits that are offered on one way through what waits the rows are kept
+MOST_LOOKS = 8  # how many workunits are looked up by key before all that the user had are listed
+MOST_NOTED = 16  # how many offered workunits are cached in one pass through what waits
 
 
 def put_texts(table):
-    """The statements that put a row of a table at its key, over the one that stands there, and that change one that stands."""
+    """Returns two statements for a table's row: one puts it at its key, the other updates an existing row."""
     columns, keys = COLUMNS[table]
     names = columns.split(", ")
     given = [f"{name} = ?{number}" for number, name in enumerate(names, 1)]
     values = ", ".join(f"?{number}" for number in range(1, len(names) + 1))
-    # where the key is one number, or one name, it stays; of a key of two columns both are written once more
+    # a key of one number stays as it is; any other key is written again
     kept = 1 if keys == 1 and table != "setting" else 0
     moved = ", ".join(f"{name} = excluded.{name}" for name in names[kept:])
     return (
@@ -140,11 +142,11 @@ def put_texts(table):
 
 
 PUTS = {table: put_texts(table)[0] for table in COLUMNS}
-# tables whose rows mostly stand before they are put, so that an UPDATE is tried first
+# tables whose rows mostly exist before they are put, so an UPDATE is tried first
 CHANGES = {table: put_texts(table)[1] for table in ("unit", "host", "instance")}
 STATUSES = ["open", "done", "errors", "success", "total"]
 LAPSES = [None, "late", "dropped"]
-OUTCOMES = {None: None, 1: 0, 3: 1}  # of a stored outcome, an exit status that means the same
+OUTCOMES = {None: None, 1: 0, 3: 1}  # for each stored outcome, an exit status that means the same
 UNIT_COLUMNS = COLUMNS["unit"][0].split(", ")
 UnitRow = namedtuple("UnitRow", [*UNIT_COLUMNS, "marked", "version_class"])
 PHRASES = {
@@ -157,7 +159,7 @@ PHRASES = {
 
 
 class Unit(plain.Unit):
-    """A workunit with its instances, as a message finds it. Its hosts are known by their numbers."""
+    """A workunit with its instances, as a message finds it. Its hosts are given by their numbers."""
 
     def __init__(self, row, agreement, rows):
         for column, value in zip(UnitRow._fields, row):
@@ -177,19 +179,19 @@ class Unit(plain.Unit):
                 instance.verdict = plain.agree(agreement, best.output, instance.output)
 
     def at(self, number):
-        """The instance of a number, where it stands."""
+        """Returns the instance of a number, or None if there is none."""
         return self.instances[number] if number < len(self.instances) else None
 
     def row(self):
-        """Its row by now."""
+        """Returns its present row."""
         return *(getattr(self, column) for column in UNIT_COLUMNS[:-1]), STATUSES.index(self.status)
 
     def mark_row(self):
-        """The row of its mark by now."""
+        """Returns the present row of its mark."""
         return self.id, self.marked, self.version_class
 
     def instance_rows(self):
-        """The rows of its instances by now."""
+        """Returns the present rows of its instances."""
         places = {instance: place for place, instance in enumerate(self.judged, 1)}
         is_open = self.status == "open"
         return [
@@ -202,7 +204,7 @@ class Unit(plain.Unit):
         ]
 
     def add_shares(self, shares, sign):
-        """Adds what it gives its hosts to their shares, or takes it away: how many jobs they hold, and their credit."""
+        """Adds to its hosts' shares, or subtracts, what they have by this workunit: held jobs, and credit."""
         for one in self.instances:
             if one.host is not None:
                 share = shares.setdefault(one.host, [0, 0])
@@ -219,23 +221,23 @@ class Host:
         self.facts = {"p_fpops": fpops, "m_nbytes": memory, "d_free": disk}
 
     def hears(self, record):
-        """The host tells its facts and platforms."""
+        """Takes the facts and platforms that a call says."""
         self.facts = record["host_info"]
         self.platforms = [record["platform_name"], *record["alt_platforms"]]
 
     def row(self, held, credit):
-        """Its row, with what is counted."""
+        """Returns its row with these counts."""
         facts = self.facts["p_fpops"], self.facts["m_nbytes"], self.facts["d_free"]
         return self.number, self.account, self.cpid, ",".join(self.platforms), *facts, self.quota, held, credit
 
 
 def least(numbers):
-    """The slot for a call, by the number that stands in each slot: the first that is free, or the first of the least number."""
+    """Returns the slot for a call, given each slot's number: the first free one, else that of the least."""
     return min(range(SLOTS), key=lambda slot: -1 if numbers[slot] is None else numbers[slot])
 
 
 def split_name(name):
-    """The workunit's name and the number that the name of a result tells, where it tells both."""
+    """Returns the workunit's name and the number in a result's name, or None if it does not have both."""
     unit, underscore, number = name.rpartition("_")
     if underscore and len(number) < 3 and number.isascii() and number.isdigit() and (number == "0" or number[0] != "0"):
         return unit, int(number)
@@ -246,7 +248,7 @@ def split_name(name):
 
 
 def create(path, settings):
-    """New tables in a file, as `bsched create` makes them."""
+    """Creates new tables in a file, as `bsched create` does."""
     connection = sqlite3.connect(path)
     connection.executescript(f"PRAGMA journal_mode = WAL; BEGIN; {FIRST_SCHEMA} {SECOND_SCHEMA} {THIRD_SCHEMA} COMMIT;")
     connection.executemany(PUTS["setting"], [("schema", 3), *settings.items()])
@@ -255,7 +257,7 @@ def create(path, settings):
 
 
 def make_former(path, newest):
-    """Makes tables of the first schema in a file, with the rows of newer ones: of the calls of a host the last."""
+    """Creates tables of the first schema with the rows of newer ones. Of a host's calls it keeps the last."""
     connection = sqlite3.connect(path)
     connection.executescript(f"PRAGMA journal_mode = WAL; BEGIN; {FIRST_SCHEMA} COMMIT;")
     connection.execute("ATTACH ? AS newest", (newest,))
@@ -268,7 +270,7 @@ def make_former(path, newest):
     connection.close()
 
 
-# what carries tables over to a schema from the one before it
+# for each schema, the statements that upgrade tables to it from the one before
 STEPS = {
     2: f"{SECOND_SCHEMA} INSERT INTO kept4 SELECT host_id, 0, seqno, text, reply FROM kept ORDER BY host_id; ",
     3: f"{THIRD_SCHEMA} INSERT INTO version_class SELECT id, platform FROM version ORDER BY id; "
@@ -277,8 +279,8 @@ STEPS = {
 
 
 def upgrade(path, schema=3):
-    """Carries tables of the first schema in a file over to that one, as `bsched upgrade` does to the newest: each step a
-    transaction, and one statement for all rows of a table."""
+    """Upgrades tables of the first schema in a file to this schema, as `bsched upgrade` does to the newest.
+    Each step is a transaction, with one statement for all rows of a table."""
     connection = sqlite3.connect(path, isolation_level=None)
     connection.executescript("PRAGMA synchronous = FULL; PRAGMA foreign_keys = ON;")
     for reached in range(2, schema + 1):
@@ -289,21 +291,21 @@ def upgrade(path, schema=3):
 
 
 class Kept(dict):
-    """What was looked up, by what it was asked for: at one more than so many, those before it are forgotten."""
+    """A cache of look-ups by their values. If it has `most` of them, the next one clears it first."""
 
     def __init__(self, most):
         super().__init__()
         self.most = most
 
     def keep(self, key, value):
-        """Keeps one more."""
+        """Caches one more."""
         if len(self) >= self.most:
             self.clear()
         self[key] = value
 
 
 class Tables:
-    """A file of tables, what is looked up in it, and what is put."""
+    """The tables of a file: looks rows up, caches them, and puts rows."""
 
     def __init__(self, path, once=False, synchronous="FULL"):
         self.connection = sqlite3.connect(path, isolation_level=None)
@@ -311,36 +313,36 @@ class Tables:
         for pragma in pragmas:
             self.connection.execute(f"PRAGMA {pragma}").fetchall()
         self.once, self.slot, self.noted = once, None, []
-        # the first places of what waits that were read last: from which on, and those
+        # the page of waiting places that was read last: the place that it begins with, and its places
         self.page = None, []
         self.seen = {kind: Kept(MOST_KEPT) for kind in (LOOK_UPS if once else KEPT)}
         self.versions = Kept(MOST_VERSIONS)
-        # the credit of users by account; and by host a day, and how many jobs the host was sent on it
+        # the credit of users by account; and by host: a day, and how many jobs the host was sent on it
         self.credits, self.sent = Kept(MOST_KEPT), Kept(MOST_KEPT)
-        # no instance that is held has its deadline before the mark; and what moment was asked about last
+        # no held instance has a deadline before the mark; `asked` is the moment that was asked about last
         (least_deadline,) = self.connection.execute(LEAST_DEADLINE).fetchone()
         self.mark, self.asked = LAST_DEADLINE if least_deadline is None else least_deadline, 0
         self.settings = dict(self.connection.execute("SELECT name, value FROM setting ORDER BY rowid"))
         self.read_apps()
 
     def read_apps(self):
-        """Reads the applications, which are kept beside the tables."""
+        """Reads the applications, which stay cached."""
         rows = self.connection.execute("SELECT id, name, agreement FROM app ORDER BY id").fetchall()
         self.apps = {number: (name, "exact" if near is None else f"within:{near}") for number, name, near in rows}
 
     def begin(self):
-        """A message begins: with --once, nothing was looked up yet."""
+        """Begins a message. With --once it clears the cache."""
         if self.once:
             self.forget()
 
     def forget(self):
-        """What was looked up is looked up anew."""
+        """Clears the cache of look-ups."""
         for seen in (*self.seen.values(), self.versions, self.credits, self.sent):
             seen.clear()
         self.page = None, []
 
     def note(self, table, row):
-        """What was looked up of a row that is put is kept as it is put, or looked up anew."""
+        """Brings the cache up to date after a row was put: the cached row is replaced or removed."""
         key = row[:1]
         if table in ("unit", "unit_mark"):
             self.seen["workunit"].pop(key, None)
@@ -362,7 +364,7 @@ class Tables:
             self.seen["mark of a workunit"].clear()
 
     def move_credit(self, known, row):
-        """The known credit of a host's user moves by the difference that the row makes, if the host was known."""
+        """If the host was cached, changes the cached credit of its user by what the row adds."""
         account = row[1]
         if not known or known[0][1] != account:
             self.credits.clear()
@@ -370,7 +372,8 @@ class Tables:
             self.credits[account] += row[9] - known[0][9]
 
     def move_sent(self, known, row):
-        """The known number of jobs that a host was sent on a day moves with an instance, if those of its workunit were known."""
+        """If the workunit's instances were cached, changes the cached count of jobs sent to a host on a
+        day."""
         if known is None:
             self.sent.clear()
             return
@@ -386,13 +389,13 @@ class Tables:
             self.sent.clear()
 
     def credit_of_user(self, account):
-        """The credit of a user."""
+        """Returns the credit of a user."""
         if account not in self.credits:
             self.credits.keep(account, sum(row[0] for row in self.shown("credit of a user", account)))
         return self.credits[account]
 
     def sent_on_day(self, host, day):
-        """How many jobs a host was sent on a day, whatever became of them."""
+        """Returns how many jobs a host was sent on a day, regardless of what became of them."""
         known_day, count = self.sent.get(host, (None, 0))
         if known_day != day:
             count = len(self.shown("sent on a day", host, day * DAY, day * DAY + DAY))
@@ -400,7 +403,7 @@ class Tables:
         return count
 
     def shown(self, kind, *values):
-        """The rows of a look-up."""
+        """Returns the rows of a look-up."""
         seen = self.seen.get(kind, {})
         if values in seen:
             return seen[values]
@@ -410,19 +413,19 @@ class Tables:
         return rows
 
     def first(self, kind, *values):
-        """The first row of a look-up, where there is one."""
+        """Returns the first row of a look-up, or None if there is none."""
         rows = self.shown(kind, *values)
         return rows[0] if rows else None
 
     def put(self, rows):
-        """Puts rows, each a table and its values, in one transaction."""
+        """Puts rows in one transaction. Each is a table and its values."""
         self.slot, self.page = None, (None, [])
         for table, row in rows:
             if table == "instance" and row[2] is not None and row[5] == 0 and row[6] is None:
                 self.mark = min(self.mark, row[4])
         if rows:
             self.connection.execute("BEGIN IMMEDIATE")
-            expected = True  # rows to stand already: no longer, once one was and did not
+            expected = True  # whether an UPDATE is tried first; no longer once one finds no row
             for table, row in rows:
                 tried = expected and table in CHANGES
                 stood = tried and self.connection.execute(CHANGES[table], row).rowcount > 0
@@ -436,44 +439,44 @@ class Tables:
             self.forget()
 
     def number_of(self, kind, *values):
-        """The number that the first row of a look-up begins with, where there is one."""
+        """Returns the number that the first row of a look-up begins with, or None if there is no row."""
         row = self.first(kind, *values)
         return None if row is None else row[0]
 
     def kept_calls(self, host):
-        """The number, the text and the reply of each kept call of a host. The slot for its next one is kept."""
+        """Returns number, text and reply of each kept call of a host. It caches the slot for the next one."""
         calls = {slot: call for _, slot, *call in self.shown("kept calls of a host", host)}
         self.slot = host, least([calls[slot][0] if slot in calls else None for slot in range(SLOTS)])
         return list(calls.values())
 
     def slot_for(self, host):
-        """The slot into which the next call of a host is put."""
+        """Returns the slot into which the next call of a host is put."""
         if self.slot is None or self.slot[0] != host:
             self.kept_calls(host)
         return self.slot[1]
 
     def counts(self):
-        """How many rows each table has."""
+        """Returns how many rows each table has."""
         return {table: self.number_of(f"count of {table}s") or 0 for table in ("account", "app", "version", "unit", "host")}
 
     def unit_row(self, number):
-        """The row of a workunit, with its mark."""
+        """Returns the row of a workunit, with its mark."""
         row, (_, marked, version_class) = self.first("workunit", number), self.first("mark of a workunit", number)
         return UnitRow(*row, marked, version_class)
 
     def unit(self, number):
-        """A workunit, how its outputs are compared, and its instances."""
+        """Returns a workunit with its agreement and its instances."""
         row = self.unit_row(number)
         _, agreement = self.apps[row.app_id]
         return Unit(row, agreement, self.shown("instances of a workunit", number))
 
     def host(self, number):
-        """A host, where it stands."""
+        """Returns a host, or None if there is no row of it."""
         row = self.first("host by number", number)
         return None if row is None else Host(*row)
 
     def held_count(self, host):
-        """How many jobs a host holds. Of one that has no row it is looked up that nothing was given to it."""
+        """Returns how many jobs a host holds. If it has no row, it checks that the host was given nothing."""
         row = self.first("host by number", host)
         if row is None:
             assert not self.shown("what a host was given", host)
@@ -481,26 +484,28 @@ class Tables:
         return row[8]
 
     def held_by(self, host):
-        """The places of the jobs that a host holds, looked for from the newest on."""
+        """Returns the places of a host's held jobs, in order. The look-up goes from the newest job on."""
         held = self.held_count(host)
         return sorted(self.shown("what a host holds", host, held)) if held else []
 
     def due_from_mark(self, now):
-        """The places of the jobs that are held past their deadline, looked for from the mark on, which rises where there is none."""
+        """Returns the places of the jobs held past their deadline. The look-up starts at the mark, which
+        rises if it finds none."""
         due = sorted(self.shown("what is late", self.mark, now))
         if not due:
             self.mark = max(self.mark, now)
         return due
 
     def due_before(self, now):
-        """The same, behind a look whether what was due at the moment before is held still."""
+        """Returns what due_from_mark does. If the mark is before the last moment asked, it first looks up
+        whether jobs due then are still held."""
         if self.mark < self.asked:
             self.due_from_mark(self.asked)
         self.asked = now
         return self.due_from_mark(now)
 
     def credit_of_host(self, host):
-        """The credit of a host. Of one that has no row it is looked up that nothing was given to it."""
+        """Returns the credit of a host. If it has no row, it checks that the host was given nothing."""
         row = self.first("host by number", host)
         if row is None:
             assert not self.shown("what a host was given", host)
@@ -508,7 +513,7 @@ class Tables:
         return row[9]
 
     def version(self, host, app):
-        """The newest version at the first of the host's platforms that has any: its number, that platform and its class."""
+        """Returns number, platform and class of the newest version for the first platform that has one."""
         asked = tuple(host.platforms), app
         if asked in self.versions:
             return self.versions[asked]
@@ -521,7 +526,7 @@ class Tables:
         return None
 
     def offered(self, unit):
-        """The row of a workunit that is offered: it may be one that is kept, and the first ones are kept when the offers end."""
+        """Returns the row of an offered workunit. The first ones are cached when the offers end."""
         if self.once:
             return self.unit_row(unit)
         row, mark = (
@@ -533,14 +538,15 @@ class Tables:
         return UnitRow(*row[0], *mark[0][1:])
 
     def offers_end(self):
-        """Keeps what was noted of the offers so far."""
+        """Caches the rows that were noted of the offers so far."""
         for unit, row, mark in self.noted:
             self.seen["workunit"].keep((unit,), row)
             self.seen["mark of a workunit"].keep((unit,), mark)
         self.noted.clear()
 
     def first_page(self, *place):
-        """The first places of what waits, from a place on or from one before it that were read last and have the place."""
+        """Returns the first waiting places from a place on. If the cached page begins with the place or has
+        it, returns that page, which may begin earlier."""
         begin, places = self.page
         if place != begin and place not in places:
             places = self.shown(f"what waits, {FIRST_PAGE} places", *place)
@@ -548,7 +554,7 @@ class Tables:
         return places
 
     def waiting(self, *place):
-        """The places of what waits to be given out, from a place on."""
+        """Yields the places of waiting instances, from a place on."""
         page, size = self.first_page(*place), FIRST_PAGE
         places = page[page.index(place) :] if place in page else page
         while True:
@@ -560,33 +566,33 @@ class Tables:
 
 
 class Page:
-    """What a message read, each row once, as it is by now, and which of it the message put."""
+    """What a message read, each row once and in its present state, and which of it the message put."""
 
     def __init__(self, tables):
         self.tables, self.units, self.hosts, self.put_units, self.put_hosts = tables, {}, {}, set(), {}
 
     def unit(self, number):
-        """A workunit."""
+        """Returns a workunit."""
         if number not in self.units:
             self.units[number] = self.tables.unit(number)
         return self.units[number]
 
     def host(self, number):
-        """A host that stands."""
+        """Returns an existing host."""
         if number not in self.hosts:
             self.hosts[number] = self.tables.host(number)
         return self.hosts[number]
 
     def put_unit(self, number):
-        """Instances of a workunit are put."""
+        """Notes that instances of a workunit are put."""
         self.put_units.add(number)
 
     def put_host(self, host):
-        """A host is put."""
+        """Notes that a host is put."""
         self.hosts[host.number] = self.put_hosts[host.number] = host
 
     def rows(self):
-        """The rows that are others than before. What was put is read once more: hosts move by the difference."""
+        """Returns the changed rows. What was put is looked up again, since counts change by differences."""
         tables, units, marks, instances, shares = self.tables, [], [], [], {}
         for number in self.put_hosts:
             if tables.host(number) is None:
@@ -605,7 +611,7 @@ class Page:
         return [*units, *marks, *filter(None, hosts), *instances]
 
     def host_row(self, number, held, credit):
-        """The row of a host that was put, or whose share is another than before."""
+        """Returns the row of a host if it was put or its share has changed, otherwise None."""
         if number not in self.put_hosts and (held, credit) == (0, 0):
             return None
         held += self.tables.held_count(number)
@@ -624,14 +630,15 @@ class Machine:
         self.tables, self.settings = tables, tables.settings
 
     def instance(self, page, host, name):
-        """The instance of that name, where the host owns it."""
+        """Returns the instance of that name if the host owns it, otherwise None."""
         parts = split_name(name)
         unit = None if parts is None else self.tables.number_of("workunit by name", parts[0])
         instance = None if unit is None else page.unit(unit).at(parts[1])
         return instance if instance is not None and instance.host == host.number else None
 
     def fits(self, host, unit, version):
-        """Whether the host, which runs this version, can run the workunit in time, by a version of the class that it keeps to."""
+        """Returns whether the host can run the workunit in time with this version, whose class must be the
+        workunit's if it has one."""
         return (
             unit.rsc_memory_bound <= host.facts["m_nbytes"]
             and unit.rsc_disk_bound <= host.facts["d_free"]
@@ -641,7 +648,7 @@ class Machine:
         )
 
     def take_reports(self, page, host, results, charges):
-        """Records what the host reports of its own; the workunits that this touches."""
+        """Records the host's reports of its own instances. Returns the workunits that this touches."""
         touched, firsts = [], {}
         for report in results:
             firsts.setdefault(report["name"], report)
@@ -659,7 +666,8 @@ class Machine:
         return touched
 
     def take_lost(self, page, host, held, listed, now):
-        """Sends again or drops what the host held and does not list; the jobs, and the workunits that this touches."""
+        """Sends again or drops what the host held and does not list. Returns the jobs sent again, and the
+        workunits of the dropped ones."""
         resent, touched, lost = [], [], []
         for unit, number in held:
             instance = page.unit(unit).at(number)
@@ -678,7 +686,8 @@ class Machine:
         return resent, touched
 
     def settle_all(self, page, touched, charges):
-        """Settles workunits and moves quotas; the new credit of each host. Charges are those before verdicts."""
+        """Settles workunits and changes quotas. Returns each host's new credit. `charges` are those before
+        verdicts."""
         merits, gains = Counter(), Counter()
         for unit in dict.fromkeys(touched):
             for instance in plain.settle(unit.agreement, unit):
@@ -693,7 +702,7 @@ class Machine:
         return gains
 
     def aborts(self, page, host, names):
-        """The names that the host may forget, each once."""
+        """Returns the names of results that the host should drop, each once."""
         told = []
         for name in dict.fromkeys(names):
             instance = self.instance(page, host, name)
@@ -702,23 +711,23 @@ class Machine:
         return told
 
     def user_had(self, account, unit):
-        """Whether an instance of a workunit was given to a host of the user, looked up by keys."""
+        """Returns whether a host of the user ever had an instance of a workunit, by look-ups of keys."""
         tables = self.tables
         owners = (row[2] for row in tables.shown("instances of a workunit", unit))
         return any(tables.host(owner).account == account for owner in owners if owner is not None)
 
     def units_of_user(self, account):
-        """The workunits of which an instance was given to a host of the user."""
+        """Returns the workunits of which a host of the user ever had an instance."""
         tables, had = self.tables, set()
         for (number,) in tables.shown("hosts of a user", account):
             had.update(unit for unit, _ in tables.shown("what a host was given", number))
         return had
 
     def choose(self, host, held, seconds, asked, now):
-        """The places of jobs for the host, each with its version, and the word that tells why there are no more."""
+        """Returns the places of jobs for the host, each with its version, and the end word."""
         tables, settings, jobs, known = self.tables, self.settings, {}, {}
         sent = tables.sent_on_day(host.number, now // DAY)
-        looks, past = {}, None  # of which workunits the user had one: of those that were looked at, and of all
+        looks, past = {}, None  # whether the user had a workunit: `looks` for some by key, `past` for all
 
         def had(unit):
             return looks.get(unit) if past is None else unit in past
@@ -738,7 +747,7 @@ class Machine:
             if unit is None:
                 tables.offers_end()
                 return jobs, "no_eligible_work"
-            if unit in jobs or had(unit):  # whatever workunit it is: its row is not read
+            if unit in jobs or had(unit):  # its row need not be read
                 continue
             row = tables.offered(unit)
             if row.app_id in known and not self.fits(host, row, known[row.app_id]):
@@ -748,7 +757,7 @@ class Machine:
                 seconds += plain.estimate(row, host)
                 word = end_word()
                 continue
-            tables.offers_end()  # the offers go on from here once the application's version and the user's past are known
+            tables.offers_end()  # the offers resume here once version and past are known
             if row.app_id not in known:
                 known[row.app_id] = tables.version(host, row.app_id)
             if known[row.app_id] and had(unit) is None:
@@ -761,7 +770,7 @@ class Machine:
         return jobs, word
 
     def job(self, host, instance, version, resent):
-        """What a reply says of a job."""
+        """Returns what a reply says about a job."""
         number, platform, _ = version
         return {
             "app_name": self.tables.apps[instance.unit.app_id][0],
@@ -775,14 +784,15 @@ class Machine:
         }
 
     def new_host(self, account, record):
-        """A host behind the others."""
+        """Returns a new host with the next number."""
         number = self.tables.counts()["host"] + 1
         if number > self.settings["max_hosts"]:
             raise Refused(409, 12, "hosts_full")
         return Host(number, account, record["host_info"]["host_cpid"], "", 1, 0, 0, self.settings["daily_result_quota"])
 
     def call(self, account, number, record, now):
-        """A fresh call of a host, which is a new one where it has no number: the rows that it puts, and its reply."""
+        """Handles a fresh call. A host without a number is new. Returns its number, rows to put, and
+        reply."""
         tables, page, charges, resent, dropped = self.tables, Page(self.tables), Counter(), [], []
         host = self.new_host(account, record) if number is None else page.host(number)
         host.hears(record)
@@ -824,7 +834,7 @@ class Machine:
         return host.number, page.rows(), reply
 
     def tick(self, now):
-        """Every held instance that is past its deadline lapses; how many."""
+        """Lapses every held instance that is past its deadline. Returns how many did."""
         self.tables.begin()
         page, charges, touched = Page(self.tables), Counter(), []
         for unit, number in self.tables.due_before(now):
@@ -834,7 +844,7 @@ class Machine:
             touched.append(instance.unit)
         self.settle_all(page, touched, charges)
         if not touched:
-            self.tables.counts()  # as the program does, where nothing changes
+            self.tables.counts()  # as the program does if nothing changes
         self.tables.put(page.rows())
         return len(touched)
 
@@ -843,17 +853,17 @@ class Machine:
 
 
 class Service(plain.Service):
-    """What answers messages and the lines of a replay."""
+    """Answers messages and the lines of a replay."""
 
     def __init__(self, tables):
         self.tables, self.machine = tables, Machine(tables)
 
     def app_place(self, name):
-        """The number of the application of this name, where it stands."""
+        """Returns the number of the application of this name, or None if there is none."""
         return next((number for number, (other, _) in self.tables.apps.items() if other == name), None)
 
     def stands(self, kind, row):
-        """Whether a row's name stands."""
+        """Returns whether the tables have a row with the name of this one."""
         if kind == "accounts":
             return self.tables.first("account by authenticator", row[0]) is not None
         if kind == "workunits":
@@ -864,7 +874,7 @@ class Service(plain.Service):
         return self.tables.first("version of a number", place, row[1], int(row[2])) is not None
 
     def checked_rows(self, kind, said):
-        """The rows of an import, whose names are new."""
+        """Returns the rows of an import, after checking that their names are new."""
         _, names, app, most = KINDS[kind]
         rows, new = rows_of(kind, said), set()
         for number, row in enumerate(rows, 1):
@@ -880,7 +890,7 @@ class Service(plain.Service):
         return rows
 
     def added(self, kind, row, number):
-        """The rows that one row of an import puts, by the number that it gets."""
+        """Returns the rows that one row of an import puts, given the number that it gets."""
         if kind == "accounts":
             return [("account", (number, *row))]
         if kind == "apps":
@@ -894,7 +904,7 @@ class Service(plain.Service):
         return [("unit", unit.row()), ("unit_mark", unit.mark_row()), *(("instance", instance) for instance in unit.instance_rows())]
 
     def imported(self, kind, batch, said):
-        """The answer to an import."""
+        """Returns the answer to an import."""
         self.tables.begin()
         if kind not in KINDS:
             raise Refused(404, 2, "no_route")
@@ -915,7 +925,7 @@ class Service(plain.Service):
         return answer
 
     def scheduler(self, body, now):
-        """The answer to a call."""
+        """Returns the answer to a call."""
         self.tables.begin()
         record = record_of(body)
         tables, account = self.tables, self.tables.first("account by authenticator", record["authenticator"])
@@ -941,7 +951,7 @@ class Service(plain.Service):
     # ---- HTTP
 
     def routed(self, method, path, fields, body, now):
-        """The status and the body for a message."""
+        """Returns the body of the answer to a message. Raises Refused if it has another status than 200."""
         parts = path.split("?")[0].split("/")[1:]
         is_import = len(parts) == 3 and parts[0] == "import" and parts[1] in KINDS and is_word(parts[2])
         if not (parts in (["scheduler"], ["tick"]) or is_import):
@@ -959,7 +969,7 @@ class Service(plain.Service):
         return text({"lapsed": self.machine.tick(now)})
 
     def respond(self, message):
-        """The bytes of the response to a message: its first line, its fields and its body."""
+        """Returns the bytes of the response to a message, given as first line, fields and body."""
         first, fields, body = message
         method, path, _ = first.split(" ")
         now = int(fields["x-moment"]) if "x-moment" in fields else int(time.time())
@@ -974,7 +984,7 @@ class Service(plain.Service):
 
 
 def heard(connection):
-    """The first line of a message, its fields by their names, and its body; nothing where the client goes away."""
+    """Returns a message's first line, its fields by name, and its body, or None if the client goes away."""
     data = b""
     while (end := data.find(b"\r\n\r\n")) < 0:
         some = connection.recv(65536)

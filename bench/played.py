@@ -20,9 +20,9 @@ from typing import Any, NoReturn
 import serve_life
 from served import free_port, processor_seconds, started, wants
 
-OPENING = 900  # an opening may take so many seconds
-ANSWER = 120  # and an answer so many
-MOST_COUNT = 1_000_000  # a server takes so many connections
+OPENING = 900  # how many seconds an opening may take
+ANSWER = 120  # how many seconds an answer may take
+MOST_COUNT = 1_000_000  # how many connections a server takes
 DEADLINE = re.compile(rb'"report_deadline":(\d+)')
 Told = tuple[bytes, float, float]  # an answer, and the seconds before and after the call
 
@@ -36,7 +36,7 @@ class Options:
     calls: int
 
     def programs(self) -> list[str]:
-        """The program, and the reference if there is one."""
+        """Returns the program, and the reference if there is one."""
         return [self.program] if self.reference is None else [self.program, self.reference]
 
 
@@ -51,14 +51,15 @@ def limit_time(case: str, seconds: int) -> None:
 
 
 def stat_seconds(process: Any) -> float:
-    """The processor time of a process with all its threads, in hundredths of a second."""
+    """Returns the processor time of a process with all its threads, in seconds. The kernel counts it in
+    hundredths of a second."""
     with open(f"/proc/{process.pid}/stat") as file:
         fields = file.read().rpartition(")")[2].split()
     return (int(fields[11]) + int(fields[12])) / os.sysconf("SC_CLK_TCK")
 
 
 def wait_until_idle(process: Any) -> None:
-    """Waits until a process sleeps, so that the kernel has counted its processor time to the end."""
+    """Waits until a process sleeps: then the kernel has counted all its processor time."""
     for _ in range(10_000):
         with open(f"/proc/{process.pid}/stat") as file:
             if file.read().rpartition(")")[2].split()[0] == "S":
@@ -67,8 +68,8 @@ def wait_until_idle(process: Any) -> None:
 
 
 def begun(program: str, tables: str) -> serve_life.Run:
-    """A server of a program over tables, once it takes connections. All servers run on one processor, so that
-    what else the machine does there slows all of them."""
+    """Starts a program's server over tables and returns it once it takes connections. All servers run on one
+    processor, so other work of the machine there slows all of them."""
     begin, port = time.perf_counter(), free_port()
     run = serve_life.Run(started(program, tables, port, MOST_COUNT, seconds=OPENING), port, begin)
     os.sched_setaffinity(run.server.pid, {max(os.sched_getaffinity(0))})
@@ -77,8 +78,8 @@ def begun(program: str, tables: str) -> serve_life.Run:
 
 
 def ended(run: serve_life.Run) -> None:
-    """Ends a server. The processor time is read in nanoseconds from schedstat, which counts one thread only.
-    In the end /proc/PID/stat, which counts all threads in hundredths of a second, must agree."""
+    """Ends a server. Its processor time is read in nanoseconds from schedstat, which counts one thread only.
+    At the end /proc/PID/stat, which counts all threads in hundredths of a second, must agree."""
     wait_until_idle(run.server)
     fine, coarse = processor_seconds(run.server), stat_seconds(run.server)
     wants(abs(fine - coarse) <= 0.05 + coarse / 100, True, f"that {fine} and {coarse} seconds agree")
@@ -86,12 +87,12 @@ def ended(run: serve_life.Run) -> None:
 
 
 def message_of(body: bytes) -> bytes:
-    """The message of a call."""
+    """Returns the message of a call."""
     return serve_life.HEAD % (0, len(body), body)
 
 
 def exchange(port: int, message: bytes) -> Told:
-    """Sends a message over a connection of its own."""
+    """Sends a message over a connection of its own. Returns the answer with its times."""
     start = time.time()
     with socket.create_connection(("127.0.0.1", port), timeout=ANSWER) as connection:
         connection.sendall(message)
@@ -102,8 +103,7 @@ def exchange(port: int, message: bytes) -> Told:
 
 
 def exchange_timed(run: serve_life.Run, message: bytes) -> tuple[Told, float]:
-    """Sends a message, and waits until the server sleeps again. Returns the processor seconds of the server,
-    too."""
+    """Sends a message, and waits until the server sleeps. Also returns the server's processor seconds."""
     before = processor_seconds(run.server)
     told = exchange(run.port, message)
     wait_until_idle(run.server)
@@ -117,7 +117,7 @@ class Clock:
         self.deadlines: dict[str, int] = {}
 
     def without(self, told: Told) -> bytes:
-        """An answer with zeros for its deadlines. If the name of a job is new, this call got it."""
+        """Returns an answer with zeros for its deadlines. If the name of a job is new, this call got it."""
         answer, start, end = told
         for job in json.loads(answer.partition(b"\r\n\r\n")[2]).get("results", []):
             name, deadline = job["name"], job["report_deadline"]
@@ -130,13 +130,13 @@ class Clock:
 
 
 def same_answers(body: bytes, each: list[bytes]) -> None:
-    """Ends the run if the programs gave other answers to a call."""
+    """Ends the run if the programs gave different answers to a call."""
     if any(one != each[0] for one in each):
         raise SystemExit(f"an answer differs\nthe call: {body!r}\n" + "\n".join(map(repr, each)))
 
 
 class Played(serve_life.Life):
-    """Calls of clients, each of which goes to every server as soon as it is made. The servers take turns at
+    """Calls of clients. Each goes to every server as soon as it is made. The servers take turns at
     being first. They must answer the same, so it does not matter whose answer the client hears."""
 
     def __init__(self, runs: list[serve_life.Run], timed: bool) -> None:
@@ -146,7 +146,7 @@ class Played(serve_life.Life):
         self.seconds: list[float] = []  # what each server took for the last call, if that is timed
 
     def exchange_all(self, message: bytes) -> list[Told]:
-        """Sends a message to every server; the answers."""
+        """Sends a message to every server and returns the answers."""
         order = list(range(len(self.runs)))
         if self.count % 2:
             order.reverse()
@@ -159,7 +159,7 @@ class Played(serve_life.Life):
         return [found[number][0] for number in range(len(self.runs))]
 
     def send(self, body: bytes) -> dict[str, Any] | None:
-        """One more call: its reply, or nothing if it is refused."""
+        """Makes one more call. Returns its reply, or None if it is refused."""
         told = self.exchange_all(message_of(body))
         same_answers(body, [clock.without(one) for clock, one in zip(self.clocks, told)])
         head, _, said = told[0][0].partition(b"\r\n\r\n")

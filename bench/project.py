@@ -1,6 +1,6 @@
 """Makes the lines of a project's life for `bench/run`: hosts ask for work, report it, and lose replies.
 
-The lines are answered by plain.py as they are made, so that reports name jobs that were really granted.
+plain.py answers the lines as they are made, so reports name jobs that were really granted.
 """
 import json
 import random
@@ -48,24 +48,24 @@ class Project:
         self.now, self.calls, self.lines, self.seen = START, calls, [], Counter()
         self.service = plain.Service({**plain.SETTINGS, **SETTINGS})
         hosts = max(20, min(SETTINGS["max_hosts"], calls // 200))
-        self.pace = 2 * 6000 // hosts  # a host calls every 6,000 seconds or so
+        self.pace = 2 * 6000 // hosts  # each host calls about every 6,000 seconds
         self.bring_rows(hosts // 2, max(150, calls // 10))
         self.clients = [Client(number, self.pick) for number in range(hosts)]
 
     def send(self, said):
-        """One more line, and its answer."""
+        """Adds a line and returns its answer."""
         instant = time.strftime("%Y-%m-%dT%H:%M:%SZ", time.gmtime(self.now))
         line = f"{instant} {said}".encode()
         self.lines.append(line + b"\n")
         return self.service.answer(line)
 
     def bring(self, kind, header, rows):
-        """An import of rows."""
+        """Imports rows."""
         said = json.dumps("\n".join([header, *rows, ""]))
         assert self.send(f"import/{kind}/b1 {said}")[0] == 200
 
     def bring_rows(self, users, units):
-        """All rows of the project, in four imports."""
+        """Imports all rows of the project, in four imports."""
         self.bring("accounts", "authenticator,name", [f"user{number},User {number}" for number in range(users)])
         self.bring("apps", "name,agreement", ["dock,exact", "fold,within:2", "wave,exact"])
         self.bring("versions", ",".join(plain.KINDS["versions"][0]), VERSIONS)
@@ -80,7 +80,8 @@ class Project:
         self.bring("workunits", ",".join(plain.KINDS["workunits"][0]), rows)
 
     def output(self, name):
-        """What a job gives: mostly what the others of its workunit give, and of some workunits never."""
+        """Returns a job's output. Mostly it agrees with others of its workunit; for some workunits it never
+        does."""
         number = int(name.split("_")[0].removeprefix("unit-"))
         right = number * 37 % 1000
         if number % 15 == 0:
@@ -90,17 +91,17 @@ class Project:
         return str(right + (self.pick.randrange(3) if self.is_fold(name) else 0))
 
     def is_fold(self, name):
-        """Whether outputs of the job's application agree by nearness."""
+        """Returns whether the job's application compares outputs by nearness."""
         return self.service.machine.rows["workunits"][name.split("_")[0]].app == "fold"
 
     def report(self, client, name):
-        """What the client tells of a finished job."""
+        """Returns what the client reports of a finished job."""
         if self.pick.random() < client.faulty:
             return {"name": name, "exit_status": self.pick.choice([1, -9, 195])}
         return {"name": name, "exit_status": 0, "output": self.output(name)}
 
     def request(self, client):
-        """The client's next request: what it finished, what it has, and what it wants."""
+        """Returns the client's next request: what it finished, what it has, and what it wants."""
         client.seqno += 1
         finished = [name for name, until in client.jobs.items() if until <= self.now]
         said = {
@@ -118,7 +119,7 @@ class Project:
         return json.dumps(said, separators=(",", ":"))
 
     def take(self, client, reply):
-        """What the client does with a reply: it forgets jobs and begins new ones."""
+        """Takes a reply as the client does: it forgets jobs and begins new ones."""
         client.hostid, client.unheard = reply["hostid"], None
         for name in reply["result_ack"] + reply["result_abort"]:
             client.jobs.pop(name, None)
@@ -130,7 +131,7 @@ class Project:
             client.jobs[job["name"]] = until
 
     def call(self, client):
-        """A call: a new one, or the same again where its reply was lost."""
+        """Makes a call of the client: a new one, or, if a reply was lost, perhaps the same again."""
         again = client.unheard is not None and self.pick.random() < 0.5
         said = client.unheard if again else self.request(client)
         status, body = self.send(f"scheduler {said}")
@@ -150,7 +151,7 @@ class Project:
             self.take(client, reply)
 
     def refused_call(self, client):
-        """A call with a number older than those that are kept, or with the last number and another text."""
+        """Makes a call with a number older than the kept ones, or with the last number and another text."""
         older = client.seqno > 4 and self.pick.random() < 0.5
         said = {**json.loads(self.request(client)), "rpc_seqno": client.seqno - 5 if older else client.seqno - 1}
         client.seqno -= 1
@@ -158,12 +159,12 @@ class Project:
         self.seen[f"refused as {json.loads(body)['error']}"] += 1
 
     def live(self):
-        """All the calls, and now and then a tick."""
+        """Makes all the calls, and now and then a tick."""
         for _ in range(self.calls):
             self.now += self.pick.randrange(1, self.pace)
             client = self.pick.choice(self.clients)
             if self.pick.random() < 0.003:
-                client.jobs, client.idle_from = {}, self.now  # the machine lost what it had
+                client.jobs, client.idle_from = {}, self.now  # its computer lost what it had
                 self.seen["hosts that forgot their jobs"] += 1
             if client.seqno > 1 and self.pick.random() < 0.01:
                 self.refused_call(client)
@@ -174,7 +175,7 @@ class Project:
                 self.seen["lapsed at ticks"] += json.loads(self.send("tick")[1])["lapsed"]
 
     def mix(self):
-        """How many of each kind of thing came about."""
+        """Returns how often each kind of thing happened."""
         machine, mix = self.service.machine, Counter(self.seen)
         for unit in machine.places:
             mix["workunits " + (f"failed by {unit.status}" if unit.failed() else unit.status)] += 1
@@ -194,7 +195,7 @@ class Project:
 
 
 def lines(calls):
-    """The lines of a project with so many calls, and their mix."""
+    """Returns the lines of a project with so many calls, and their mix."""
     project = Project(calls)
     project.live()
     return b"".join(project.lines), project.mix()

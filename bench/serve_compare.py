@@ -10,14 +10,14 @@ from serve_life import LEAST, MOST, SIZES, Life, copied, made
 from served import peak, processor_seconds, wants
 
 ROUNDS = 10
-TURN = 50  # after so many calls by one program, the other makes them
-LEAST_UNITS = 10_000  # the project of `row` has at least so many workunits
-MOST_LOG = 16 * 2**20  # the log of `row` stays below so many bytes
-MOST_GROWTH = 16 * 1024  # and the peak memory of its calls grows by less, in kilobytes, after the first tenth
+TURN = 50  # how many calls one program answers before the other answers them
+LEAST_UNITS = 10_000  # the least number of workunits in the project of `row`
+MOST_LOG = 16 * 2**20  # the log of `row` stays below this, in bytes
+MOST_GROWTH = 16 * 1024  # the peak memory of its calls grows by less after the first tenth, in kilobytes
 
 
 def ratio_told(one: float, other: float) -> str:
-    """How many times as much one is as another."""
+    """Returns the text that says how many times as much one is as the other."""
     return f"{one / other:.2f} times" if other else "no ratio"
 
 
@@ -25,12 +25,12 @@ def ratio_told(one: float, other: float) -> str:
 
 
 class Pair:
-    """The program, and the reference if there is one, each over tables of the same project that it created
-    itself, and with the same calls."""
+    """The program, and the reference if there is one, with the same calls. Each runs over tables of the same
+    project that it created itself."""
 
     def __init__(self, programs: list[str], units: int, folder: str, bodies: list[bytes]) -> None:
         self.programs, self.units, self.folder, self.bodies = programs, units, folder, bodies
-        self.seconds: list[list[float]] = []  # of each round the processor seconds of each program
+        self.seconds: list[list[float]] = []  # for each turn, the processor seconds of each program
         self.calls = self.rounds = 0
 
     def begin(self) -> "Pair":
@@ -44,14 +44,14 @@ class Pair:
         return self
 
     def go(self, count: int) -> "Pair":
-        """So many calls more by each program, in turns."""
+        """Makes so many more calls to each program, in turns."""
         while count > 0:
             self.take_turn(min(TURN, count))
             count -= TURN
         return self
 
     def take_turn(self, count: int) -> None:
-        """So many calls more by each program, one after the other. They take turns at being first."""
+        """Makes so many more calls to one program after the other. They take turns at being first."""
         bodies, order = self.bodies[self.at:self.at + count], list(range(len(self.runs)))
         if self.rounds % 2:
             order.reverse()
@@ -89,13 +89,13 @@ class Pair:
 
 
 def opening_of(run: serve_life.Run) -> tuple[float, float]:
-    """What the opening of a server took that has heard no call: processor seconds, and peak memory in
-    kilobytes."""
+    """Returns the processor seconds and the peak memory, in kilobytes, of the opening of a server that has
+    heard no call."""
     return processor_seconds(run.server), float(run.open_peak)
 
 
 def openings_in_reverse(programs: list[str], units: int, folder: str) -> list[tuple[float, float]]:
-    """What an opening by each program took. The last program opens its copy first."""
+    """Returns what an opening by each program took. The last program opens its copy first."""
     found = []
     for program in reversed(programs):
         run = begun(program, copied(made(program, units), folder))
@@ -117,8 +117,8 @@ def tell_opening(units: int, openings: list[tuple[float, float]]) -> None:
 
 
 def compare(options: Options, folder: str) -> None:
-    """The calls of the case `life` by the program and the reference. A round uses up the smallest project, so
-    each round starts it anew."""
+    """Compares the program and the reference over the calls of the case `life`. A round uses up the smallest
+    project, so each round starts it anew."""
     limit_time("compare", 1800)
     pairs = {}
     for units, count in SIZES.items():
@@ -129,7 +129,7 @@ def compare(options: Options, folder: str) -> None:
     before = openings_in_reverse(options.programs(), MOST, folder)
     for units in large:
         pairs[units].begin()
-    # each program opened the tables twice: the shorter time counts, and the larger memory
+    # each program opened the tables twice: the shorter time and the larger memory count
     both = zip(before, pairs[MOST].openings)
     tell_opening(MOST, [(min(one[0], other[0]), max(one[1], other[1])) for one, other in both])
     for _ in range(ROUNDS):
@@ -146,23 +146,23 @@ def compare(options: Options, folder: str) -> None:
 
 
 def reset_peak(run: serve_life.Run) -> None:
-    """Lets the peak memory of a server begin anew."""
+    """Resets the peak memory of a server."""
     with open(f"/proc/{run.server.pid}/clear_refs", "w") as file:
         file.write("5")
 
 
 class Row(Played):
-    """Calls in a row. The size of the log is looked at after each hundred."""
+    """Calls in a row. After each hundred the size of the log is read."""
 
     def __init__(self, run: serve_life.Run, path: str, calls: int) -> None:
         super().__init__([run], timed=False)
         self.path, self.window, self.made, self.log = path, calls // 10, 0, 0
         self.clock = processor_seconds(run.server)
-        # after each tenth its processor seconds, the peak memory and the largest log so far
+        # after each tenth: its processor seconds, the peak memory and the largest log so far
         self.windows: list[tuple[float, int, int]] = []
 
     def send(self, body: bytes) -> dict | None:
-        """One more call, and a look at the server after each tenth of all."""
+        """Makes one more call. After each tenth of all it measures the server."""
         reply = super().send(body)
         self.made += 1
         if self.made % 100 == 0:
@@ -177,7 +177,7 @@ class Row(Played):
 
 
 def row(options: Options, folder: str) -> None:
-    """Many calls in a row over one file."""
+    """Makes many calls in a row over one file."""
     limit_time("row", 3600)
     calls = options.calls
     wants(calls >= 1000, True, "that there are at least 1000 calls")

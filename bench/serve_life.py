@@ -1,10 +1,11 @@
-"""The cases of `bench/serve` over the tables of a growing project: life, opening, upgrade, ticks, past, statements, twins and
-profile.
+"""The cases of `bench/serve` over the tables of a growing project.
 
-Each sets the program beside plain_tables.py, a scheduler in Python that does the same statements by the module `sqlite3`
-over the same tables, in one run and with the same messages. The messages are made first, by plain_tables.py in this
-process, so the client only sends bytes and keeps the answers. The program acts on the second of its own clock; the twin is
-told that second with each message, and then each answer has to be equal byte for byte, and all rows in the end too.
+They are life, opening, upgrade, ticks, past, statements, twins and profile. Each compares the program with
+plain_tables.py, a scheduler in Python that runs the same statements with the module `sqlite3` over the same
+tables, in one run and with the same messages. The messages are made first, by plain_tables.py in this
+process, so the client only sends bytes and keeps the answers. The program acts on the second of its own
+clock. The twin gets that second with each message. Then each answer must be equal byte for byte, and at the
+end all rows must be equal too.
 """
 import atexit
 import contextlib
@@ -35,11 +36,11 @@ SETTINGS = {
     "daily_result_quota": 1000, "max_hosts": 100_000, "max_wus_in_progress": 8, "max_wus_to_send": 4, "operator_key": KEY,
     "request_delay": 60, "resend_lost_results": True,
 }
-SIZES = {100: 180, 10_000: 200, 200_000: 200}  # of so many workunits, how many calls a round has
+SIZES = {100: 180, 10_000: 200, 200_000: 200}  # for each number of workunits, how many calls a round has
 LEAST, MOST, ROUNDS = min(SIZES), max(SIZES), 10
-PAST = 20_000  # how many results a host has behind it
-LINES = 4000  # how many calls the project has over which the twins are compared
-UPGRADED = 10_000, 100_000  # how many hosts the tables have that are upgraded
+PAST = 20_000  # how many earlier results a host has
+LINES = 4000  # how many calls the project has with which the twins are compared
+UPGRADED = 10_000, 100_000  # how many hosts the upgraded tables have
 FPOPS, HOUR, DELAY, CREDIT = 10**9, 3600, 604_800, 5000
 HEAD = b"POST /scheduler HTTP/1.1\r\nhost: 127.0.0.1\r\nx-moment: %010d\r\ncontent-length: %d\r\n\r\n%b"
 TICK = f"POST /tick HTTP/1.1\r\nx-operator-key: {KEY}\r\n\r\n".encode()
@@ -50,17 +51,17 @@ MADE = tempfile.TemporaryDirectory()  # the large tables, which several cases us
 
 
 def hosts_of(units):
-    """How many hosts stand beside so many workunits: half as many, but for one of a hundred that is yet to come."""
+    """Returns how many hosts there are for so many workunits: half as many, less 1 in 100 still to come."""
     return units // 2 - units // 200
 
 
 def user_of(host):
-    """The user of a host: ten hosts are of one."""
+    """Returns the user of a host. Each user has ten hosts."""
     return (host - 1) // 10 + 1
 
 
 def request(user, cpid, seqno, **more):
-    """The body of a call."""
+    """Returns the body of a call."""
     said = {
         "authenticator": f"user{user}",
         "rpc_seqno": seqno,
@@ -84,7 +85,7 @@ def import_users(service, hosts):
 
 
 def host_rows(host):
-    """The rows that the first call of a host leaves, which asked for nothing."""
+    """Returns the rows that the first call of a host leaves. It asked for nothing."""
     user, cpid = user_of(host), f"host{host}"
     said = text(record_of(request(user, cpid, 1)))
     reply = {
@@ -97,7 +98,7 @@ def host_rows(host):
 
 
 def settings_file():
-    """A file of settings."""
+    """Writes a file of settings and returns its path."""
     path = os.path.join(MADE.name, "settings.toml")
     with open(path, "w") as file:
         file.writelines(f"{name} = {json.dumps(value)}\n" for name, value in SETTINGS.items())
@@ -105,12 +106,13 @@ def settings_file():
 
 
 def create(program, path):
-    """New tables in a file, by the program."""
+    """Creates new tables in a file with the program."""
     wants(ordered(program, "create", "--settings", settings_file(), "--tables", path), "created\n", "new tables")
 
 
 def made(program, units):
-    """Tables in a file with so many workunits, none of which was given out, and with hosts that called once."""
+    """Makes tables with so many workunits, none of which was given out, and with hosts that called once.
+    Returns their path."""
     path = os.path.join(MADE.name, f"{zlib.crc32(os.path.realpath(program).encode())}.{units}.db")
     if os.path.exists(path):
         return path
@@ -129,9 +131,10 @@ def made(program, units):
 
 
 def made_past(program):
-    """The largest tables with a past: host 1 has PAST results behind it, of workunits that are done by it and by others;
-    as many more are done by others; and of PAST more, which are open, host 11 had one instance and the other one waits.
-    All were reported, and their deadlines are long past."""
+    """Makes the largest tables with a past, and returns their path. Host 1 has PAST earlier results, of
+    workunits that it and others have done. Others have done PAST more. PAST further workunits are open: host
+    11 had one instance of each, and the other one waits. All given jobs were reported, and their deadlines
+    are long past."""
     path = os.path.join(MADE.name, "past.db")
     if os.path.exists(path):
         return path
@@ -159,7 +162,7 @@ def made_past(program):
 
 
 def made_former(hosts, folder):
-    """Tables of the first schema in a file, with so many hosts that called once."""
+    """Makes tables of the first schema with so many hosts that called once, and returns their path."""
     newest, path = (os.path.join(folder, f"{name}{hosts}.db") for name in ("newest", "former"))
     plain_tables.create(newest, SETTINGS)
     tables = plain_tables.Tables(newest, synchronous="OFF")
@@ -171,7 +174,7 @@ def made_former(hosts, folder):
 
 
 def copied(path, folder, name="copy.db"):
-    """A fresh copy of tables, which is on the disk."""
+    """Makes a fresh copy of tables, which is on the disk, and returns its path."""
     copy = os.path.join(folder, name)
     for name in (copy, f"{copy}-wal"):
         if os.path.exists(name):
@@ -195,12 +198,12 @@ class Client:
 
 
 def standing(host):
-    """The client of a host that called once."""
+    """Returns the client of a host that called once."""
     return Client(user_of(host), f"host{host}", 1)
 
 
 class Life:
-    """Calls of clients, and what came about by them. They are answered as they are made, over a copy of the tables."""
+    """Calls of clients, answered as they are made, over a copy of the tables; and counts of what happened."""
 
     def __init__(self, path, folder):
         self.pick = random.Random(1)
@@ -209,7 +212,7 @@ class Life:
         self.bodies, self.seen = [], Counter()
 
     def send(self, body):
-        """One call more: its reply, or nothing where it is refused."""
+        """Makes one more call. Returns its reply, or None if it is refused."""
         self.bodies.append(body)
         try:
             return json.loads(self.service.scheduler(body, self.now))
@@ -217,14 +220,15 @@ class Life:
             return None
 
     def report(self, name):
-        """What a client tells of a job that it finished: mostly what others tell of its workunit."""
+        """Returns what a client reports of a finished job: mostly what others report of its workunit."""
         chance, unit = self.pick.random(), int(name.split("_")[0].removeprefix("unit-"))
         if chance < 0.03:
             return {"name": name, "exit_status": 195}
         return {"name": name, "exit_status": 0, "output": str(unit * 37 % 1000 + (50 if chance < 0.06 else 0))}
 
     def call(self, client, asked, kept=0.0, lost=0.0, silent=0.0):
-        """A fresh call, that asks for so many seconds. Chances: to keep a job, to lose the reply, to list no results."""
+        """Makes a fresh call that asks for so many seconds. The chances are to keep a job, to lose the reply,
+        to list no results."""
         client.seqno += 1
         done = [name for name in client.jobs if self.pick.random() >= kept]
         more = {} if self.pick.random() < silent else {"other_results": [name for name in client.jobs if name not in done]}
@@ -238,7 +242,7 @@ class Life:
         self.take(client, body, reply, lost)
 
     def take(self, client, body, reply, lost):
-        """The client forgets what it is told to, and has new jobs; or it never hears."""
+        """Takes a reply as the client does: it forgets jobs and has new ones, or it never hears the reply."""
         client.unheard = body if self.pick.random() < lost else None
         self.seen["replies lost"] += client.unheard is not None
         if client.unheard is None:
@@ -247,7 +251,7 @@ class Life:
             client.jobs = had + [job["name"] for job in reply["results"] if job["name"] not in had]
 
     def mixed(self, units, count):
-        """So many calls of a project's life. Those who call are all hosts of some users, 36 calls for each user."""
+        """Makes so many calls of a project's life. All hosts of some users call, about 36 times per user."""
         users, active = user_of(hosts_of(units)), max(5, count // 36)
         clients = [standing(10 * (number * users // active) + one) for number in range(active) for one in range(1, 11)]
         for number in range(count):
@@ -268,7 +272,7 @@ class Life:
         return self
 
     def ended(self):
-        """Closes the copy; counts the workunits that are done."""
+        """Counts the workunits that are done, and closes the copy."""
         self.seen["workunits done"] = self.tables.connection.execute("SELECT count(*) FROM unit WHERE status = 1").fetchone()[0]
         self.tables.connection.close()
         return self
@@ -278,13 +282,13 @@ class Life:
 
 
 class Run:
-    """What one server did with messages: its answers with the seconds before and after each, and what that took."""
+    """What one server did: its answers, each with the times before and after it, and what they took."""
 
     def __init__(self, server, port, begin):
         self.server, self.port, self.open_seconds = server, port, time.perf_counter() - begin
         self.open_stays, self.open_peak, self.end_peak = memory_told(server, "VmRSS"), peak(server), None
         self.told, self.seconds, self.server_seconds, self.client_seconds = [], 0, 0, 0
-        atexit.register(self.end)  # also where the run ends early
+        atexit.register(self.end)  # also if the run ends early
 
     def send(self, messages):
         """Sends messages, each over a connection of its own, one after the other."""
@@ -312,33 +316,34 @@ class Run:
         return self
 
     def end_by_itself(self):
-        """Lets a server that has one connection left to serve have it, and waits for its end."""
+        """Makes the last connection that a server serves, and waits for its end."""
         with socket.socket() as connection:
             connection.connect(("127.0.0.1", self.port))
         self.server.wait()
 
 
 def run_ours(program, tables, count=1_000_000, before=()):
-    """The program over tables, which takes so many connections; it runs under the command `before`, where one is told."""
+    """Starts the program over tables, for so many connections, under the command `before` if it is given."""
     begin, port = time.perf_counter(), free_port()
     return Run(started(program, tables, port, count, before, seconds=3600), port, begin)
 
 
 def run_twin(tables, *options):
-    """plain_tables.py over tables."""
+    """Starts plain_tables.py over tables."""
     begin = time.perf_counter()
     server = subprocess.Popen([sys.executable, TWIN, *options, tables, "0"], stdout=subprocess.PIPE, text=True)
     return Run(server, int(server.stdout.readline()), begin)
 
 
 def messages_of(bodies, moments):
-    """The messages of calls, each with the second at which the twin acts on it."""
+    """Returns the messages of calls, each with the second at which the twin acts on it."""
     return [HEAD % (moment, len(body), body) for body, moment in zip(bodies, moments)]
 
 
 def moments_in(bodies, told, seen):
-    """The second at which the program acted on each call: that of a new job's sending, else the one when it was made. What
-    was seen before is a repeat, which gets an earlier reply."""
+    """Returns the second at which the program acted on each call: the one in which a new job was sent, else
+    the one in which the call was made. A call that was seen before is a repeat, which gets an earlier
+    reply."""
     moments = []
     for body, (answer, start, end) in zip(bodies, told):
         jobs = json.loads(answer.partition(b"\r\n\r\n")[2]).get("results", [])
@@ -353,7 +358,7 @@ def moments_in(bodies, told, seen):
 
 
 def same_rows(ours, theirs):
-    """Ends the run where two files of tables have other rows."""
+    """Ends the run if two files of tables have different rows."""
     files = [sqlite3.connect(path) for path in (ours, theirs)]
     for table, (columns, keys) in plain_tables.COLUMNS.items():
         order = ", ".join(columns.split(", ")[:keys])
@@ -365,7 +370,7 @@ def same_rows(ours, theirs):
 
 
 class Recorder:
-    """The connection of tables, and the statements that are run over it, with their values."""
+    """The connection of tables, which records the statements that are run over it, with their values."""
 
     def __init__(self, path, folder):
         self.tables = plain_tables.Tables(copied(path, folder), synchronous="OFF")
@@ -377,7 +382,7 @@ class Recorder:
         return self.connection.execute(statement, values)
 
     def ran_by(self, bodies):
-        """The statements of each of these calls."""
+        """Returns the statements of each of these calls."""
         service, now, each = plain_tables.Service(self.tables), int(time.time()), []
         for body in bodies:
             self.ran = []
@@ -391,8 +396,9 @@ class Recorder:
 
 
 class Race:
-    """The program, the twin with each of some options, and the statements alone by the module `sqlite3`: all with the same
-    calls, over fresh copies of the same tables. The servers have to answer the same, and to leave the same rows."""
+    """The program, the twin once with each set of options, and the statements alone by the module `sqlite3`.
+    All have the same calls, over fresh copies of the same tables. The servers must answer the same, and leave
+    the same rows."""
 
     def __init__(self, program, path, folder, bodies, twins=((),)):
         self.program, self.path, self.folder, self.bodies, self.twins = program, path, folder, bodies, twins
@@ -408,7 +414,7 @@ class Race:
         return self
 
     def go(self, count):
-        """So many calls more, one server after the other."""
+        """Makes so many more calls, to one server after the other."""
         bodies, ran, (ours, *others) = self.bodies[self.at :][:count], self.ran[self.at :][:count], self.runs
         ours.send(messages_of(bodies, [0] * count))
         messages = messages_of(bodies, moments_in(bodies, ours.told[self.at :], self.seen))
@@ -426,7 +432,7 @@ class Race:
         return self
 
     def end(self):
-        """Stops the servers: what they did."""
+        """Stops the servers, compares their rows, and returns what the servers did."""
         self.connection.close()
         for run in self.runs:
             run.end()
@@ -439,13 +445,13 @@ class Race:
 
 
 def rates_of(runs):
-    """Calls per second of some runs: by the clock, and of the server's processor time."""
+    """Returns the calls per second of some runs: by the clock, and by the server's processor time."""
     count = sum(len(run.told) for run in runs)
     return count / sum(run.seconds for run in runs), count / sum(run.server_seconds for run in runs)
 
 
 def ratio_told(ours, theirs):
-    """How many calls per second the first rates have beside the others."""
+    """Returns the text that says how the first rates of calls compare with the others."""
     return (
         f"{ours[0] / theirs[0]:.2f} times as many calls a second ({ours[0]:.0f} and {theirs[0]:.0f}), "
         f"{ours[1] / theirs[1]:.2f} times as many per second of the server's processor time ({ours[1]:.0f} and {theirs[1]:.0f})"
@@ -453,7 +459,7 @@ def ratio_told(ours, theirs):
 
 
 def memory_told_of(run):
-    """The memory of a run, as it is told."""
+    """Returns the text that says a run's memory."""
     return (
         f"peak memory {run.open_peak / 1024:.0f} MB then, of which {run.open_stays / 1024:.0f} MB stay, and "
         f"{run.end_peak / 1024:.0f} MB after the calls"
@@ -461,7 +467,7 @@ def memory_told_of(run):
 
 
 def rows_read(path):
-    """The seconds in which the module `sqlite3` reads all rows of a file."""
+    """Returns the seconds in which the module `sqlite3` reads all rows of a file."""
     connection, begin = sqlite3.connect(path), time.perf_counter()
     for table, (columns, _) in plain_tables.COLUMNS.items():
         connection.execute(f"SELECT {columns} FROM {table}").fetchall()
@@ -492,8 +498,9 @@ def told_life(units, lived, race, runs, rates):
 
 
 def life(program, folder):
-    """Calls that ask, report and now and then lose a reply, over small and large tables. The sizes and the servers take
-    turns, round by round. The least project is used up after a round, and begins anew with each."""
+    """Measures calls that ask, report and now and then lose a reply, over small and large tables. The sizes
+    and the servers take turns, round by round. A round uses up the smallest project, so it begins anew with
+    each."""
     lives, races, runs, rates = {}, {}, {}, {}
     for units, count in SIZES.items():
         path = made(program, units)
@@ -513,7 +520,7 @@ def life(program, folder):
 
 
 # Runs a command, and prints its status, its seconds and its peak memory in kilobytes. It is a process of its own, since a
-# process that is forked off a large one counts as large.
+# process that is forked from a large one counts as large.
 PEAK = """
 import resource, subprocess, sys, time
 begin = time.perf_counter()
@@ -523,20 +530,20 @@ print(done.returncode, time.perf_counter() - begin, resource.getrusage(resource.
 
 
 def taken_by(status, *words):
-    """Seconds, and peak memory in kilobytes, of a command, which has to end with this status."""
+    """Returns the seconds, and the peak memory in kilobytes, of a command. It must end with this status."""
     ended, seconds, kilobytes = ordered(sys.executable, "-c", PEAK, *words).split()
     wants(int(ended), status, f"the status of {words}")
     return float(seconds), int(kilobytes)
 
 
 def bare_opening(program, path):
-    """What the library's own opening of a file takes: an order to create, which is refused since tables stand there, opens it
-    and reads no row."""
+    """Returns what the library's own opening of a file takes. It runs `create`, which is refused since the
+    file has tables: that opens the file and reads no row."""
     return taken_by(1, program, "create", "--settings", settings_file(), "--tables", path)
 
 
 def opening(program, folder):
-    """How long an opening of tables takes, and its peak memory, beside the library's own opening of the file."""
+    """Measures an opening's time and peak memory, compared with the library's own opening of the file."""
     for units in SIZES:
         path = copied(made(program, units), folder)
         bare, ours = bare_opening(program, path), run_ours(program, path, count=1)
@@ -549,28 +556,28 @@ def opening(program, folder):
 
 
 def schema_in(path):
-    """The tables and indexes of a file, in the order in which they came, with their statements on one line each."""
+    """Returns a file's tables and indexes in the order of their creation, each statement on one line."""
     with contextlib.closing(sqlite3.connect(path)) as base:
         rows = base.execute("SELECT type, name, tbl_name, coalesce(sql, '') FROM sqlite_schema ORDER BY rowid").fetchall()
     return [(*row[:3], " ".join(row[3].split())) for row in rows]
 
 
 def kept_before(path):
-    """The rows of the table in which the first schema keeps calls."""
+    """Returns the rows of the table in which the first schema keeps calls."""
     with contextlib.closing(sqlite3.connect(path)) as base:
         return base.execute("SELECT * FROM kept ORDER BY host_id").fetchall()
 
 
 def is_whole(path):
-    """Ends the run where SQLite finds a fault in a file."""
+    """Ends the run if SQLite finds a fault in a file."""
     with contextlib.closing(sqlite3.connect(path)) as base:
         wants(base.execute("PRAGMA integrity_check").fetchall(), [("ok",)], "the check of the file by SQLite")
         wants(base.execute("PRAGMA foreign_key_check").fetchall(), [], "the rows that refer to none")
 
 
 def upgrade(program, folder):
-    """What an upgrade of tables of the first schema takes, beside the same by the module `sqlite3`, and beside the library's
-    own opening of the file; and what stands then."""
+    """Measures an upgrade of tables of the first schema, compared with the same by the module `sqlite3` and
+    with the library's own opening of the file. It also checks what the upgraded tables hold."""
     new = os.path.join(folder, "new.db")
     create(program, new)
     for hosts in UPGRADED:
@@ -595,7 +602,7 @@ def upgrade(program, folder):
 
 
 def tick_seconds(program, path, folder):
-    """The seconds of a tick where nothing is late, of the program and of the twin: the middle ones of some."""
+    """Returns the median seconds of a tick at which nothing is late, by the program and by the twin."""
     runs = run_ours(program, copied(path, folder, "ours.db")), run_twin(copied(path, folder, "twin.db"))
     for _ in range(25):
         for run in runs:
@@ -607,7 +614,7 @@ def tick_seconds(program, path, folder):
 
 
 def ticks(program, folder):
-    """Ticks where nothing is late."""
+    """Measures ticks at which nothing is late."""
     few, many, past = (
         tick_seconds(program, path, folder) for path in (made(program, LEAST), made(program, MOST), made_past(program))
     )
@@ -623,7 +630,7 @@ def ticks(program, folder):
 
 
 def past(program, folder):
-    """Calls of hosts and users with much behind them."""
+    """Measures calls of hosts and users with a long past."""
     path, rounds = made_past(program), 7
     whose = {
         "a host with nothing behind it": standing(hosts_of(MOST)),
@@ -639,7 +646,7 @@ def past(program, folder):
     ours, theirs = Race(program, path, folder, lived.bodies).begin().go(len(lived.bodies)).end()
     fresh = None
     for number, what in enumerate(whose):
-        # the first round gives each its first job; from then on each call reports a job and gets one
+        # the first round gives each client its first job; after it each call reports a job and gets one
         one, other = (
             statistics.median(end - start for _, start, end in run.told[len(whose) + number :: len(whose)])
             for run in (ours, theirs)
@@ -654,7 +661,7 @@ def past(program, folder):
 
 
 def kind_of(said):
-    """The kind of a statement that was run."""
+    """Returns the kind of a statement that was run."""
     kinds = {
         **plain_tables.LOOK_UPS,
         **{f"put: {table}": put for table, put in plain_tables.PUTS.items()},
@@ -667,7 +674,7 @@ def kind_of(said):
 
 
 def statements(program, folder):
-    """The statements of one call, by their kinds."""
+    """Prints how many statements of each kind one call runs."""
     def call(service, host, seqno, asked, **more):
         client = standing(host)
         service.scheduler(request(client.user, client.cpid, seqno, work_req_seconds=asked, **more), 1_000_000_000)
@@ -692,7 +699,8 @@ def statements(program, folder):
 
 
 def twins(_program, folder):
-    """The answers of plain_tables.py beside those of plain.py: over the lines of a project, and over the stored run."""
+    """Compares the answers of plain_tables.py and plain.py, for the lines of a project and for the stored
+    run."""
     with open(os.path.join(os.path.dirname(TWIN), "..", "crates", "bsched", "stdin"), "rb") as file:
         stored = file.read().splitlines()
     for what, settings, lines in (
@@ -709,14 +717,15 @@ def twins(_program, folder):
 
 
 def under(words, program, path, folder, bodies):
-    """Runs the program over a copy of tables and with these calls, under a command, until it ends by itself."""
-    # the probe that finds its listener counts as one connection, and so does the last one
+    """Runs the program under a command, over a copy of tables with these calls, until it ends by itself."""
+    # the probe that finds the listener counts as one connection, and so does the last one
     run = run_ours(program, copied(path, folder), len(bodies) + 2, words)
     run.send(messages_of(bodies, [0] * len(bodies))).end_by_itself()
 
 
 def counted(found):
-    """What callgrind wrote: the instructions of each function, those with what it calls, and how often it was called."""
+    """Reads what callgrind wrote. Returns for each function its own instructions, those including what it
+    calls, and how often it was called."""
     names, own, whole, calls, function, called = {}, Counter(), Counter(), Counter(), None, None
     with open(found) as file:
         for line in file:
@@ -736,7 +745,7 @@ def counted(found):
 
 
 def profile(program, folder):
-    """What a short life takes of the system and of the processor, and how many look-ups it runs."""
+    """Prints the system calls and instructions of a short life, and how many look-ups it runs."""
     path, found = made(program, LEAST), os.path.join(folder, "found")
     bodies = Life(path, folder).mixed(LEAST, SIZES[LEAST]).ended().bodies
     if shutil.which("strace") is None:

@@ -1,8 +1,8 @@
 """The case `slow` of `bench/serve`: slow calls, and the first tick after an opening, over 200,000 workunits.
 
 There are three files of tables. Each is a copy of the largest project, in which SQL changes the past. One
-file is not enough: of the two instances of a workunit at the front one is a user's, and the other waits, so
-only one user leads the front. In each file a fresh host calls too, and the other calls are compared with its
+file is not enough. A workunit at the front has two instances: one was a user's, and the other waits. So only
+one user can lead the front. In each file a fresh host calls too, and the other calls are compared with its
 calls.
 """
 import json
@@ -21,15 +21,15 @@ from serve_life import CREDIT, DELAY, MOST, Client, copied, hosts_of, made, stan
 from served import wants
 
 HOSTS = 5000  # how many hosts a busy user has
-EIGHT = 8  # so many workunits are looked at by key before a user's past is listed
+EIGHT = 8  # how many workunits are looked up by key before a user's past is listed
 FRONT = 20_000  # how many of the first waiting workunits a user had
 TODAY, HELD = 900, 8  # how many jobs a host got today, and how many of them it still has
-DONE = 50_000  # so many of the last workunits are done, with two results each
+DONE = 50_000  # how many of the last workunits are done, with two results each
 CALLS = TICKS = 41  # how many calls each client makes after its first, and how many ticks there are
 BUSY, LEADING, GIVEN = 1, HOSTS + 1, 2 * HOSTS + 1  # the callers of the first file
-# what the hosts of a result's user return for a workunit: the output on which all clients agree
+# what hosts return for a workunit: the output on which all clients agree
 OUTPUT = "CAST(unit_id * 37 % 1000 AS TEXT)"
-# the past of an instance that a host returned long ago, in time
+# the columns of an instance that a host returned long ago, in time
 RETURNED = (
     f"sent = 1600000000 + unit_id, deadline = 1600000000 + unit_id + {DELAY}, "
     f"outcome = 1, output = {OUTPUT}, queued = 0"
@@ -40,7 +40,7 @@ RETURNED = (
 
 
 def changed(program: str, name: str, change: Callable[[sqlite3.Connection], None]) -> str:
-    """The path of a copy of the largest tables, which a function changed in one transaction."""
+    """Returns the path of a copy of the largest tables, which `change` changed in one transaction."""
     path = os.path.join(serve_life.MADE.name, f"{name}.db")
     shutil.copyfile(made(program, MOST), path)
     connection = sqlite3.connect(path, isolation_level=None)
@@ -52,7 +52,7 @@ def changed(program: str, name: str, change: Callable[[sqlite3.Connection], None
 
 
 def gather(connection: sqlite3.Connection, first: int, count: int) -> None:
-    """Makes so many hosts, from a first one on, hosts of its user, and of nobody else's."""
+    """Makes so many hosts, from a first one on, the only hosts of the first one's user."""
     hosts = first, first + count - 1
     connection.execute("UPDATE host SET account_id = ? WHERE id BETWEEN ? AND ?", (user_of(first), *hosts))
     others = "UPDATE host SET account_id = account_id + 1 WHERE account_id = ? AND id NOT BETWEEN ? AND ?"
@@ -60,14 +60,13 @@ def gather(connection: sqlite3.Connection, first: int, count: int) -> None:
 
 
 def lead(connection: sqlite3.Connection, first: int, count: int, units: int) -> None:
-    """Gives one instance of each of the first workunits to so many hosts, from a first one on. They returned
-    all."""
+    """Gives one instance of each of the first workunits to hosts, from a first one on. They returned all."""
     given = f"host_id = ? + unit_id % ?, place = 1, {RETURNED}"
     connection.execute(f"UPDATE instance SET {given} WHERE unit_id <= ? AND num = 0", (first, count, units))
 
 
 def finish(connection: sqlite3.Connection) -> None:
-    """Lets the last workunits be done, each by a host of one busy user and a host of the other. So each of
+    """Makes the last workunits done, each by a host of one busy user and a host of the other. So each of
     their hosts has returned ten results, and has credit."""
     given = f"host_id = ? - num * ? + unit_id % ?, place = num + 1, {RETURNED}"
     owners = LEADING, LEADING - BUSY, HOSTS, MOST - DONE
@@ -79,7 +78,7 @@ def finish(connection: sqlite3.Connection) -> None:
 
 
 def give_today(connection: sqlite3.Connection, host: int) -> None:
-    """Gives jobs to a host on this day; it returned all but the last few."""
+    """Gives jobs to a host on this day. It returned all but the last few."""
     now, first = int(time.time()), MOST // 2
     day = now // 86400 * 86400
     given = (
@@ -95,8 +94,8 @@ def give_today(connection: sqlite3.Connection, host: int) -> None:
 
 
 def make_hosts(connection: sqlite3.Connection) -> None:
-    """Two users with many hosts, one of whom had the first eight waiting workunits. A host with many jobs
-    today. And results whose deadlines are past."""
+    """Makes two users with many hosts, one of whom had the first eight waiting workunits, a host with many
+    jobs today, and results whose deadlines are past."""
     gather(connection, BUSY, HOSTS)
     gather(connection, LEADING, HOSTS)
     lead(connection, LEADING, HOSTS, EIGHT)
@@ -105,13 +104,13 @@ def make_hosts(connection: sqlite3.Connection) -> None:
 
 
 def make_one(connection: sqlite3.Connection) -> None:
-    """A user with one host, which had the first waiting workunits."""
+    """Makes a user with one host, which had the first waiting workunits."""
     gather(connection, 1, 1)
     lead(connection, 1, 1, FRONT)
 
 
 def make_many(connection: sqlite3.Connection) -> None:
-    """A user with many hosts, which had the first waiting workunits."""
+    """Makes a user with many hosts, which had the first waiting workunits."""
     gather(connection, 1, HOSTS)
     lead(connection, 1, HOSTS, FRONT)
 
@@ -121,9 +120,9 @@ def make_many(connection: sqlite3.Connection) -> None:
 
 @dataclass
 class Took:
-    """The milliseconds of the processor that each program took for the first call, and the median ones for a
-    later call. A ratio is how many times as long the program took as the reference; of the later calls it is
-    the median."""
+    """The processor milliseconds that each program took for the first call, and their median for a later
+    call. A ratio is how many times as long the program took as the reference. For the later calls it is the
+    median."""
 
     first: list[float]
     later: list[float]
@@ -132,7 +131,7 @@ class Took:
 
 
 def took_of(each: list[list[float]]) -> Took:
-    """What calls took, by the milliseconds of each program for each call."""
+    """Returns what calls took, given the milliseconds of each program for each call."""
     first, *later = [one[0] / one[-1] for one in each]
     medians = [statistics.median(every) for every in zip(*each[1:])]
     return Took(each[0], medians, first, statistics.median(later))
@@ -146,7 +145,7 @@ class Slow(Played):
         super().__init__([begun(program, copy) for program, copy in zip(programs, copies)], timed=True)
 
     def report(self, name: str) -> dict[str, Any]:
-        """What a client says of a job that it finished."""
+        """Returns what a client reports of a job that it finished."""
         unit = int(name.split("_")[0].removeprefix("unit-"))
         return {"name": name, "exit_status": 0, "output": str(unit * 37 % 1000)}
 
@@ -162,7 +161,7 @@ class Slow(Played):
         return [took_of(every) for every in each]
 
     def ticks(self) -> Took:
-        """Sends ticks. Nothing is late at them."""
+        """Sends ticks, at which nothing is late."""
         each = []
         for _ in range(TICKS + 1):
             for answer, _, _ in self.exchange_all(serve_life.TICK):
@@ -177,8 +176,8 @@ class Slow(Played):
 
 
 def tell(what: str, took: list[float], fresh: Took, ratio: float, others: list[str]) -> None:
-    """Prints what something took, compared with a call of a fresh host and with the reference. Of each
-    program another figure is printed, too."""
+    """Prints what something took, compared with a call of a fresh host and with the reference. Another
+    figure is printed for each program, too."""
     told = []
     for number, milliseconds in enumerate(took):
         one = f"{milliseconds:.2f} milliseconds"
@@ -206,10 +205,10 @@ def tell_ticks(took: Took, fresh: Took) -> None:
 
 
 def slow_hosts(programs: list[str], folder: str) -> None:
-    """The cases of the first file. The ticks come first. Then the user who had the first eight waiting
-    workunits calls in turn with a fresh host: each of its calls adds a workunit to the eight, and each fresh
-    call takes one of them. The others call in turn, too. If one called alone, it would soon have had the
-    first waiting workunits itself."""
+    """Measures the cases of the first file. The ticks come first. Then the user who had the first eight
+    waiting workunits calls in turn with a fresh host: each of its calls adds a workunit to the eight, and
+    each fresh call takes one of them. The others call in turn, too. If one called alone, it would soon have
+    had the first waiting workunits itself."""
     played = Slow(programs, changed(programs[0], "hosts", make_hosts), folder)
     client = standing(hosts_of(MOST))
     ticks = played.ticks()
@@ -226,7 +225,7 @@ def slow_hosts(programs: list[str], folder: str) -> None:
 
 
 def slow_front(programs: list[str], folder: str, name: str, what: str, make: Callable) -> None:
-    """A user who had the first waiting workunits."""
+    """Measures a user who had the first waiting workunits."""
     played = Slow(programs, changed(programs[0], name, make), folder)
     fresh, leading = played.calls_of(standing(hosts_of(MOST)), standing(1))
     played.end()
@@ -236,7 +235,7 @@ def slow_front(programs: list[str], folder: str, name: str, what: str, make: Cal
 
 
 def slow(options: Options, folder: str) -> None:
-    """The slow cases."""
+    """Measures the slow cases."""
     limit_time("slow", 1800)
     day = int(time.time()) // 86400
     slow_hosts(options.programs(), folder)

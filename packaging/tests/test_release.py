@@ -1,4 +1,4 @@
-"""What has to agree in a release: versions, man pages and the command line."""
+"""Tests that a release agrees with itself: versions, man pages and the command line."""
 import re
 import subprocess
 from pathlib import Path
@@ -11,7 +11,7 @@ COMMANDS = ["create", "serve", "import", "tick", "statement", "upgrade", "replay
 
 
 def words_of(line: str) -> str:
-    """What bash offers at the end of a command line."""
+    """Returns what bash offers at the end of a command line."""
     script = (
         f". {TOP}/packaging/completion/bsched; COMP_WORDS=({line}); COMP_CWORD=$((${{#COMP_WORDS[@]}} - 1)); "
         "_${COMP_WORDS[0]//-/_}; echo ${COMPREPLY[@]}"

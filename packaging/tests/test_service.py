@@ -1,4 +1,4 @@
-"""The scripts that the units run, and bsched-project as far as it goes without root."""
+"""Tests the scripts that the units run, and what bsched-project does without root."""
 import os
 import socket
 import subprocess
@@ -17,7 +17,7 @@ KEY = "a-key_of.8"
 def done(
     *words: str | Path, folder: Path | None = None, **environment: str
 ) -> "subprocess.CompletedProcess[str]":
-    """How a script ended."""
+    """Runs a script and returns how it ended."""
     return subprocess.run(
         [str(word) for word in words], cwd=folder, env={**os.environ, **environment}, capture_output=True,
         text=True, timeout=30,
@@ -25,13 +25,13 @@ def done(
 
 
 def is_one_line(text: str) -> bool:
-    """Whether a text is one line."""
+    """Returns whether a text is one line."""
     return text.count("\n") == 1 and text.endswith("\n")
 
 
 @pytest.fixture
 def listener() -> Iterator[socket.socket]:
-    """A socket that listens on a port of its own."""
+    """Yields a socket that listens on a port of its own."""
     with socket.create_server(("127.0.0.1", 0)) as made:
         yield made
 
@@ -79,7 +79,7 @@ class Answering(BaseHTTPRequestHandler):
     """Answers a tick as bsched does."""
 
     def do_POST(self) -> None:
-        """A tick with the key, or number 13."""
+        """Answers a tick with the key; anything else gets number 13."""
         is_good = (self.path, self.headers["x-operator-key"]) == ("/tick", KEY)
         body = b'{"lapsed":2}' if is_good else b'{"error":"not_operator","number":13}'
         self.send_response(200 if is_good else 403)
@@ -88,12 +88,12 @@ class Answering(BaseHTTPRequestHandler):
         self.wfile.write(body)
 
     def log_message(self, *_words: object) -> None:
-        """Nothing."""
+        """Prints nothing."""
 
 
 @pytest.fixture
 def scheduler_port() -> Iterator[str]:
-    """The port of something that answers ticks."""
+    """Yields the port of a server that answers ticks."""
     server = HTTPServer(("127.0.0.1", 0), Answering)
     thread = threading.Thread(target=server.serve_forever)
     thread.start()

@@ -1,1 +1,1 @@
-"""What `packaging/try` works with: a clean Debian, booted or not, and the units in it."""
+"""What `packaging/try` uses: a clean Debian, booted or not, and the units in it."""

@@ -21,7 +21,7 @@ class TrialFault(Exception):
 
 
 def run(words: list[str], seconds: int = 60, environment: dict[str, str] | None = None) -> str:
-    """What a command prints on both outputs. A command that fails ends the trial."""
+    """Returns what a command prints on both outputs. A command that fails ends the trial."""
     done = finished(words, seconds, environment)
     if done.returncode:
         raise TrialFault(f"{' '.join(words)}: status {done.returncode}\n{done.stdout[-3000:]}")
@@ -29,7 +29,7 @@ def run(words: list[str], seconds: int = 60, environment: dict[str, str] | None 
 
 
 def finished(words: list[str], seconds: int = 60, environment: dict[str, str] | None = None) -> Done:
-    """How a command ended, within so many seconds."""
+    """Runs a command for at most so many seconds and returns how it ended."""
     try:
         return subprocess.run(
             words, stdin=subprocess.DEVNULL, stdout=subprocess.PIPE, stderr=subprocess.STDOUT, text=True,
@@ -49,16 +49,16 @@ class Root:
         shutil.copy("/etc/resolv.conf", self.path / "etc" / "resolv.conf")
 
     def run(self, command: str, seconds: int = 60) -> str:
-        """What a shell command in the folder prints; nothing is booted for it."""
+        """Returns what a shell command in the folder prints. Nothing is booted for it."""
         return run(["chroot", str(self.path), "sh", "-ec", command], seconds, CLEAN)
 
     def packages(self) -> set[str]:
-        """The names of the installed packages."""
+        """Returns the names of the installed packages."""
         return set(self.run("dpkg-query --show --showformat='${Package}\\n'").split())
 
 
 class Machine:
-    """A machine over a root, with a network of its own: booted by systemd-nspawn, or with nothing started."""
+    """A machine in a root, with a network of its own: booted by systemd-nspawn, or with nothing started."""
 
     def __init__(self, root: Root, log: Path, boots: bool):
         self.boots = boots
@@ -79,7 +79,7 @@ class Machine:
             raise
 
     def wait_until_up(self) -> None:
-        """Waits until commands can be run in it; a booted machine says that it runs."""
+        """Waits until commands can be run in it. A booted machine says that it runs."""
         until = time.monotonic() + BOOT_SECONDS
         while time.monotonic() < until and self.process.poll() is None:
             time.sleep(0.5)
@@ -91,26 +91,26 @@ class Machine:
         raise TrialFault("the machine does not start")
 
     def is_up(self) -> bool:
-        """Whether it is up; without a boot its loopback is set up here."""
+        """Returns whether it is up. Without a boot its loopback is set up here."""
         if self.boots:
             return self.finished("systemctl is-system-running").stdout.strip() in ("running", "degraded")
         loopback = ["nsenter", "--target", self.leader, "--net", "ip", "link", "set", "lo", "up"]
         return finished(loopback).returncode == 0 and self.finished("test -d /proc/1").returncode == 0
 
     def finished(self, command: str, seconds: int = 60) -> Done:
-        """How a shell command in it ended."""
+        """Runs a shell command in it and returns how the command ended."""
         enter = ["nsenter", "--target", self.leader, "--all", "--root", "--wd", "--"]
         return finished([*enter, "bash", "-c", command], seconds, CLEAN)
 
     def run(self, command: str, seconds: int = 60) -> str:
-        """What a shell command in it prints; it must end with status 0."""
+        """Returns what a shell command in it prints. The command must end with status 0."""
         done = self.finished(command, seconds)
         if done.returncode:
             raise TrialFault(f"{command}: status {done.returncode}\n{done.stdout[-3000:]}")
         return done.stdout
 
     def refused(self, command: str, status: int, words: str) -> str:
-        """The one line of a command that must be refused with this status and these words."""
+        """Returns the one line of a command that must be refused with this status and these words."""
         done = self.finished(command)
         line = done.stdout.strip()
         if done.returncode != status or words not in line or "\n" in line:
@@ -119,7 +119,7 @@ class Machine:
         return line
 
     def stop(self) -> None:
-        """Stops it with all that runs in it."""
+        """Stops it, with all that runs in it."""
         if self.leader and os.path.exists(f"/proc/{self.leader}"):
             os.kill(int(self.leader), signal.SIGKILL)
         self.process.terminate()

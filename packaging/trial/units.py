@@ -1,4 +1,4 @@
-"""The units of a machine: by systemd if it is booted, else each command of a unit as the unit's user."""
+"""The units of a machine: systemd runs them if it is booted, else their commands run as the unit's user."""
 import re
 import shlex
 import time
@@ -7,7 +7,7 @@ from .debian import Machine, TrialFault
 
 
 class Units:
-    """What is done with units."""
+    """Starts, stops and checks the units of a machine."""
 
     def __init__(self, machine: Machine):
         self.machine = machine
@@ -22,9 +22,9 @@ class Units:
                 raise TrialFault(f"{unit} does not start: {said}")
 
     def refused(self, unit: str, words: str) -> str:
-        """The line of a unit that must not start, with these words."""
+        """Returns the line of a unit that must not start. The line must have these words."""
         if self.machine.boots:
-            # systemd goes on trying, so the order is not waited for
+            # systemd keeps trying, so the command does not wait
             self.machine.run(f"systemctl start --no-block {unit}")
             said = self.line_in_journal(unit, words)
             self.machine.run(f"systemctl stop {unit}")
@@ -38,7 +38,7 @@ class Units:
         return lines[0]
 
     def line_in_journal(self, unit: str, words: str) -> str:
-        """What the journal has of a unit, once it has these words."""
+        """Returns what the journal has of a unit, once it has these words."""
         said = ""
         for _ in range(40):
             said = self.machine.run(f"journalctl --no-pager --output=cat --unit={unit}")
@@ -56,13 +56,13 @@ class Units:
             self.machine.run(f"kill {pid}; while kill -0 {pid} 2> /dev/null; do sleep 0.1; done")
 
     def is_active(self, unit: str) -> bool:
-        """Whether a unit runs."""
+        """Returns whether a unit runs."""
         if self.machine.boots:
             return self.machine.finished(f"systemctl is-active {unit}").stdout.strip() == "active"
         return self.machine.finished(f"kill -0 $(cat /run/{unit}.pid)").returncode == 0
 
     def main_pid(self, unit: str) -> str:
-        """The number of the unit's main process."""
+        """Returns the number of the unit's main process."""
         if self.machine.boots:
             return self.machine.run(f"systemctl show --property=MainPID --value {unit}").strip()
         return self.machine.run(f"cat /run/{unit}.pid").strip()
@@ -70,7 +70,8 @@ class Units:
     # ---- Without a boot
 
     def begin_by_hand(self, unit: str) -> tuple[bool, str]:
-        """Runs a unit's commands as its user, in systemd's order. Whether it came up, and what it said."""
+        """Runs a unit's commands as its user, in systemd's order. Returns whether it came up, and what it
+        said."""
         name, _, instance = unit.removesuffix(".service").partition("@")
         keys = self.keys_of(f"{name}@.service", instance)
         log, pid = f"/tmp/{unit}.log", f"/run/{unit}.pid"
@@ -94,7 +95,7 @@ class Units:
         return True, self.machine.run(f"cat {log}")
 
     def keys_of(self, file: str, instance: str) -> dict[str, list[str]]:
-        """The keys of a unit file, with the name of the instance in them."""
+        """Returns the keys of a unit file, with the name of the instance filled in."""
         text = self.machine.run(f"cat /lib/systemd/system/{file}").replace("%i", instance)
         keys: dict[str, list[str]] = {"UMask": ["0022"]}
         for key, value in re.findall(r"^([A-Z]\w+)=(.+)$", text, re.MULTILINE):
@@ -103,10 +104,11 @@ class Units:
 
 
 def waits_for_notice(keys: dict[str, list[str]]) -> list[str]:
-    """What waits for a unit of which systemd would await the notice: its port answers."""
+    """Returns the command that waits until a unit's port answers, if systemd would await the unit's
+    notice."""
     return ["/usr/libexec/bsched/wait-for-port ${BRIDGE_PORT}"] if "notify" in keys.get("Type", []) else []
 
 
 def expanded(command: str) -> str:
-    """A command of a unit file for a shell, which puts in the variables as systemd does."""
+    """Returns a command of a unit file for a shell, which expands the variables as systemd does."""
     return " ".join(f'"{word}"' if "${" in word else shlex.quote(word) for word in shlex.split(command))
