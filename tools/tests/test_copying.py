@@ -383,7 +383,7 @@ def test_the_program_opens_the_copy(
         copied = copying.copy_tables(project, copies, program=program)
         assert list(copies.iterdir()) == [copied.path]
     else:
-        with pytest.raises(Fault, match="does not take it"):
+        with pytest.raises(Fault, match="does not accept it"):
             copying.copy_tables(project, copies, program=program)
 
 
@@ -440,7 +440,7 @@ def test_tables_of_another_program(tmp_path: Path, copies: Path) -> None:
     for path, told in (
         (other, "it has no tables of bsched"),
         (tmp_path / "none.db", "no such file"),
-        (tmp_path, "it is no file"),
+        (tmp_path, "it is not a file"),
     ):
         with pytest.raises(Fault, match=told):
             copying.copy_tables(path, copies)
@@ -449,7 +449,7 @@ def test_tables_of_another_program(tmp_path: Path, copies: Path) -> None:
 
 def test_a_journal_that_sqlite_left(project: Path, copies: Path) -> None:
     project.with_name("project.db-journal").write_bytes(b"\xd9")
-    with pytest.raises(Fault, match="project.db-journal is left of SQLite"):
+    with pytest.raises(Fault, match="project.db-journal was left by SQLite"):
         copying.copy_tables(project, copies)
 
 
