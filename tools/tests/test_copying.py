@@ -192,7 +192,7 @@ def test_no_process_stands_still_beyond_the_limit(twin: Twin, monkeypatch: pytes
 
 
 def test_a_process_that_ran_meanwhile_voids_the_copy(twin: Twin) -> None:
-    with pytest.raises(stopping.Retry, match="went on"), stopping.process_of(twin.process.pid) as process:
+    with pytest.raises(stopping.Retry, match="ran while"), stopping.process_of(twin.process.pid) as process:
         with stopping.stopped(process):
             os.kill(twin.process.pid, signal.SIGCONT)
             time.sleep(0.05)
