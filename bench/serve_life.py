@@ -483,7 +483,7 @@ def told_life(units, lived, race, runs, rates):
     print(f"life: {units} workunits, {hosts_of(units)} hosts, {ROUNDS} rounds, {calls} calls in all; ", end="")
     print(", ".join(f"{many} {what}" for what, many in lived.seen.items()) + (" in each" if units == LEAST else ""))
     print(f"life: all answers and rows are the twin's; the program answers {ratio_told(rates[units], rates_of(theirs))}")
-    print(f"life: beside the twin that runs no statement twice in a call {ratio_told(rates[units], rates_of(once))}")
+    print(f"life: compared with the twin that runs no statement twice in a call {ratio_told(rates[units], rates_of(once))}")
     print(
         f"life: a call takes {1 / rates[units][1] / bare:.2f} times the processor time that its statements alone take by the "
         f"module sqlite3 ({1e6 / rates[units][1]:.0f} and {bare * 1e6:.0f} microseconds); the client takes {client * 1e6:.0f}"
@@ -619,7 +619,7 @@ def ticks(program, folder):
         tick_seconds(program, path, folder) for path in (made(program, LEAST), made(program, MOST), made_past(program))
     )
     print(
-        f"ticks: where nothing was ever given out, a tick at {MOST} workunits takes {many[0] / few[0]:.1f} times as long as at "
+        f"ticks: if nothing was ever given out, a tick at {MOST} workunits takes {many[0] / few[0]:.1f} times as long as at "
         f"{LEAST} ({many[0] * 1e3:.2f} and {few[0] * 1e3:.2f} milliseconds; of the twin {many[1] * 1e3:.2f})"
     )
     print(
@@ -633,8 +633,8 @@ def past(program, folder):
     """Measures calls of hosts and users with a long past."""
     path, rounds = made_past(program), 7
     whose = {
-        "a host with nothing behind it": standing(hosts_of(MOST)),
-        f"a host with {PAST} results behind it": standing(1),
+        "a host with no past": standing(hosts_of(MOST)),
+        f"a host with {PAST} earlier results": standing(1),
         "another host of that user": standing(2),
         f"a host whose user had one instance of each of the first {PAST} workunits that wait": standing(11),
     }
@@ -765,7 +765,7 @@ def profile(program, folder):
     own, whole, calls = (after - before for before, after in zip(*told))
     twin = sum(statement.startswith("SELECT") for ran in Recorder(path, folder).ran_by(bodies) for statement, _ in ran)
     print(f"profile: the program runs {calls['sqlite::connection::Connection::query_near']} look-ups in these calls, the twin {twin}")
-    print(f"profile: {own.total() // len(bodies)} instructions a call, of which percent in")
+    print(f"profile: {own.total() // len(bodies)} instructions per call; their percentages:")
     crates = Counter()
     for function, many in own.items():
         crates[function.split("::")[0] if "::" in function else "libc"] += many

@@ -54,7 +54,7 @@ def started(program, tables, port, count=1_000_000, before=(), seconds=10):
 def wants(told, wanted, what):
     """Ends the run if something is not what it must be."""
     if told != wanted:
-        raise SystemExit(f"{what}: {told!r} in place of {wanted!r}")
+        raise SystemExit(f"{what}: {told!r} instead of {wanted!r}")
 
 
 def processor_seconds(process):

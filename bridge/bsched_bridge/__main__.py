@@ -34,7 +34,7 @@ def words() -> argparse.ArgumentParser:
         prog="bsched-bridge", description="A bridge between BOINC's client and bsched."
     )
     parser.add_argument("--config", type=Path, metavar="FILE", help="the settings (TOML); serves them")
-    parser.add_argument("--check", action="store_true", help="looks at the settings and the catalogue alone")
+    parser.add_argument("--check", action="store_true", help="only checks the settings and the catalogue")
     orders = parser.add_subparsers(dest="order", metavar="ORDER")
     keygen = orders.add_parser("keygen", help="makes a pair of keys for code signing")
     keygen.add_argument("--private", type=Path, default=Path("code_sign_private"), metavar="FILE")

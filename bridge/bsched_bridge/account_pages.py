@@ -16,7 +16,7 @@ from .statements import HostStatus, Statements
 from .texts import credits_text, moment_text
 from .words import in_small_letters
 
-BACK = ((".", "The project"), ("status", "How the project stands"))
+BACK = ((".", "The project"), ("status", "Status of the project"))
 MOST_PASSWORD = 1000  # characters
 
 
@@ -183,7 +183,7 @@ class AccountPages:
             element("p", "Your account key is ", element("code", member.authenticator), "."),
             element(
                 "p",
-                "Who has the key has the account, so show it to nobody. BOINC keeps it for you. To add "
+                "Whoever has the key has the account, so show it to nobody. BOINC keeps it for you. To add "
                 "another computer, give BOINC there the same e-mail address and password.",
                 class_="note",
             ),
@@ -226,7 +226,7 @@ class AccountPages:
         return page(
             f"{self.settings.name}: your password",
             element("p", "Your password is changed.", class_="done", role="status"),
-            element("p", "Computers that have the project go on with it as before."),
+            element("p", "Computers that have the project continue as before."),
             links=(("account", "Your account"), *BACK),
             is_kept=False,
         )

@@ -45,7 +45,7 @@ def read_archives(paths: Iterable[Path]) -> Archives:
             with closing(sqlite3.connect(name, uri=True, timeout=1)) as file:
                 rows = file.execute(CREDIT).fetchall()
         except sqlite3.Error as error:
-            raise OperatorFault(path, None, f"is no archive that can be read: {error}") from None
+            raise OperatorFault(path, None, f"can't be read as an archive: {error}") from None
         for authenticator, host_cpid, credit in rows:
             archives.hosts[Key(authenticator, host_cpid)] += credit
             archives.users[authenticator] += credit

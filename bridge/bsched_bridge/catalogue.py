@@ -146,7 +146,7 @@ def file_name(entry: Entry, member: str, with_workunit: bool = False) -> str:
     plain = name.replace(WORKUNIT, "w") if with_workunit else name
     if not FILE_NAME.fullmatch(plain):
         entry.fault(
-            f"{member} is no name of a file: letters, digits, '_', '.', '+' and '-', at most 128", member
+            f"{member} is not a file name: letters, digits, '_', '.', '+' and '-', at most 128", member
         )
     return name
 
@@ -253,7 +253,7 @@ def read_catalogue(path: Path) -> Catalogue:
     def once(entry: Entry, what: str, name: object) -> None:
         """Refuses a name that was used before."""
         if (what, name) in lines:
-            entry.fault(f"this {what} stands on line {lines[what, name]} already")
+            entry.fault(f"this {what} is already on line {lines[what, name]}")
         lines[what, name] = entry.line()
 
     for entry in file.tables("app"):

@@ -187,9 +187,9 @@ def element_of(body: bytes) -> Element:
     except ParseError as error:
         raise RequestFault(f"incomplete or faulty XML: {error}") from None
     except DefusedXmlException:
-        raise RequestFault("XML with a document type or entities is not taken") from None
+        raise RequestFault("XML with a document type or entities is not accepted") from None
     if root.tag != "scheduler_request":
-        raise RequestFault("the XML is no scheduler_request")
+        raise RequestFault("the XML is not a scheduler_request")
     return root
 
 

@@ -45,7 +45,7 @@ def hex_bytes(text: str) -> bytes:
     """Returns the bytes of such a text. The dot may be missing."""
     digits = text.strip().removesuffix(".")
     if not HEXADECIMAL.fullmatch(digits):
-        raise KeyFault("has something else than hexadecimal digits and a point behind them")
+        raise KeyFault("has something other than hexadecimal digits and a dot after them")
     try:
         return bytes.fromhex(digits)
     except ValueError:

@@ -42,7 +42,7 @@ REFUSALS = {
         "Invalid or missing account key. To fix this, remove and add this project.", DAY, "notice"
     ),
     "hosts_full": PutOff("This project takes no more computers.", DAY, "notice"),
-    "bad_member": PutOff("The project can't read what this computer tells of itself.", DAY, "notice"),
+    "bad_member": PutOff("The project can't read what this computer says about itself.", DAY, "notice"),
     "bad_json": PutOff("The project can't read this request.", HOUR),
     "too_large": PutOff("This request is too large for the project.", HOUR),
 }
@@ -161,7 +161,7 @@ class Exchange:
             if refusal.error not in ("stale", "reused"):
                 break
             last = refusal.members["last"]
-            log.warning("the count of %s goes on from %d, to which bsched had come", key.host_cpid, last)
+            log.warning("the count of %s continues from %d, which bsched had reached", key.host_cpid, last)
         return put_off_by(refusal)
 
     def _opened(self, key: Key, hostid: int, text: Callable[[int], bytes], last: int) -> bytes:

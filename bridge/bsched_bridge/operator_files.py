@@ -89,7 +89,7 @@ class Entry:
         """Returns a path that must exist. It is relative to the folder of this file."""
         path = self.path.parent / self.text(member, default)
         if not path.exists():
-            self.fault(f"{member}: {path} does not stand", member if member in self.members else None)
+            self.fault(f"{member}: {path} does not exist", member if member in self.members else None)
         return path
 
     def short_text(self, member: str) -> str | None:
@@ -157,7 +157,7 @@ class OperatorFile(Entry):
         self.untaken.discard(name)
         found = self.members.get(name, [])
         if not isinstance(found, list) or not all(isinstance(item, dict) for item in found):
-            self.fault(f"{name} is not a row of tables [[{name}]]", name)
+            self.fault(f"{name} is not an array of tables [[{name}]]", name)
         begins = [line for told, line in self._tables if told == name]
         if len(begins) != len(found):  # written in another way, such as one array of tables
             begins = [self.line(name)] * len(found)

@@ -20,7 +20,7 @@ def master_page(settings: Settings) -> Answer:
     head = Markup(
         f'<link rel="boinc_scheduler" href="{scheduler}">\n<!--\n<scheduler>{scheduler}</scheduler>\n-->\n'
     )
-    links = [("status", "How the project stands")]
+    links = [("status", "Status of the project")]
     if settings.accounts is None:
         joining = joining_by_key(settings)
     else:
@@ -80,7 +80,7 @@ def no_passwords_page(settings: Settings) -> Answer:
         element(
             "p",
             "A computer that has the project keeps the key in a file account_*.xml in BOINC's data folder, "
-            "as “authenticator”. Else ask the project's operator.",
+            "as “authenticator”. Otherwise ask the project's operator.",
         ),
         links=((".", "The project"),),
     )
@@ -100,7 +100,7 @@ def status_page(settings: Settings, status: Status, environ: Environ) -> Answer:
         parts += units_markup(status.units)
     parts += users_markup(status, environ)
     parts += hosts_markup(status)
-    return page(f"{settings.name}: how it stands", *parts, links=((".", "The project"),))
+    return page(f"{settings.name}: status", *parts, links=((".", "The project"),))
 
 
 def units_markup(units: UnitCounts) -> list[Markup]:
@@ -149,7 +149,7 @@ def hosts_markup(status: Status) -> list[Markup]:
         ]
         for one in recent.hosts
     ]
-    notes = ["A user's credit is as the last reply to one of the user's computers told it."]
+    notes = ["A user's credit is the one in the latest reply to one of the user's computers."]
     if recent.with_results:
         header += ["out", "waiting", "done", "late", "failed"]
         counts = [[one.out, one.waiting, one.done, one.late, one.failed] for one in recent.hosts]

@@ -96,7 +96,7 @@ def master_url(file: Entry) -> str:
         file.fault("url does not end with a slash, as clients will write it", "url")
     is_odd = not url.isascii() or any(one <= " " or one in "\"<>&'%" for one in url)
     if parts.netloc != parts.netloc.lower() or is_odd:
-        file.fault("url has capital letters in its host, or a character that has to be escaped", "url")
+        file.fault("url has capital letters in its host, or a character that must be escaped", "url")
     return url
 
 
@@ -124,7 +124,7 @@ def read_accounts(file: OperatorFile, url: str, has_key: bool) -> AccountSetting
         entry.fault("[accounts] needs a url with https, since passwords are sent to it")
     field = entry.text("address_field", "")
     if field and not FIELD_NAME.fullmatch(field):
-        entry.fault("address_field is no name of a field, such as X-Real-IP", "address_field")
+        entry.fault("address_field is not the name of a field, such as X-Real-IP", "address_field")
     if field.lower() in LISTED_FIELDS:
         entry.fault(f"address_field: a client can write into {field}; use X-Real-IP", "address_field")
     names = entry.text("names", "made")
@@ -154,7 +154,7 @@ def archive_paths(file: Entry) -> tuple[Path, ...]:
             file.fault("archives is not an array of texts in quotes", "archives")
         paths.append(file.path.parent / name)
         if not paths[-1].is_file():
-            file.fault(f"archives: {paths[-1]} is no file", "archives")
+            file.fault(f"archives: {paths[-1]} is not a file", "archives")
     return tuple(paths)
 
 

@@ -163,7 +163,8 @@ def test_aborted_names_are_told(bridge):
 
 
 @pytest.mark.parametrize(
-    "body, why", [(b"", "incomplete or faulty XML"), (b"<a", "incomplete"), (b"<a/>", "no scheduler_request")]
+    "body, why",
+    [(b"", "incomplete or faulty XML"), (b"<a", "incomplete"), (b"<a/>", "not a scheduler_request")],
 )
 def test_a_faulty_request_gets_a_reply(bridge, body, why):
     reply = bridge.call(body)

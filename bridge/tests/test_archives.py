@@ -39,7 +39,7 @@ def test_a_file_that_is_no_archive(tmp_path):
     path = tmp_path / "1.db"
     for told in (b"", b"text" * 1000):
         path.write_bytes(told)
-        with pytest.raises(OperatorFault, match="1.db: is no archive that can be read"):
+        with pytest.raises(OperatorFault, match="1.db: can't be read as an archive"):
             read_archives([path])
 
 
@@ -51,7 +51,7 @@ def test_settings(project):
     path.write_text(f'{text}archives = ["2026.db"]\n')
     assert read_settings(path).archives == (project / "2026.db",)
     for archives, told in (
-        ('["none.db"]', "none.db is no file"), ("[1]", "is not an array of texts in quotes"),
+        ('["none.db"]', "none.db is not a file"), ("[1]", "is not an array of texts in quotes"),
         ('"2026.db"', "is not an array of texts in quotes"),
     ):
         path.write_text(f"{text}archives = {archives}\n")

@@ -241,7 +241,7 @@ REFUSALS = {
     "length_required": REFUSED,
     "too_large": ("too large", "3600.000000", "low"),
     "bad_json": ("can't read this request", "3600.000000", "low"),
-    "bad_member": ("can't read what this computer tells", "86400.000000", "notice"),
+    "bad_member": ("can't read what this computer says", "86400.000000", "notice"),
     "bad_account": ("Invalid or missing account key", "86400.000000", "notice"),
     "bad_host": REFUSED,
     "stale": REFUSED,  # three times in a row; the bridge handles a single one itself

@@ -32,7 +32,7 @@ class CommandLine(argparse.ArgumentParser):
 def count(text: str) -> int:
     """Reads a whole number that is at least 1."""
     if not (text.isascii() and text.isdigit()) or int(text) < 1:
-        raise argparse.ArgumentTypeError(f"{text} is not a whole number from 1")
+        raise argparse.ArgumentTypeError(f"{text} is not a whole number of at least 1")
     return int(text)
 
 
@@ -43,7 +43,7 @@ def words() -> argparse.ArgumentParser:
     copy = commands.add_parser("copy", help="copies the tables while a program serves them")
     copy.add_argument("--tables", type=Path, required=True, metavar="F", help="the tables of the project")
     copy.add_argument("--to", type=Path, required=True, metavar="G", help="a folder of copies, or a new file")
-    copy.add_argument("--keep", type=count, metavar="N", help="keeps so many copies, and removes older ones")
+    copy.add_argument("--keep", type=count, metavar="N", help="keeps N copies, and removes older ones")
     copy.add_argument("--check", type=Path, metavar="PROGRAM", help="has this bsched open the copy, too")
     results = commands.add_parser("results", help="the results of workunits that are done or have failed")
     add_copies(results)
@@ -76,7 +76,7 @@ def add_copies(parser: argparse.ArgumentParser) -> None:
     """Adds the option that names the tables to read."""
     parser.add_argument(
         "--tables", type=Path, required=True, nargs="+", metavar="COPY",
-        help="copies of the tables; a folder stands for its newest copy",
+        help="copies of the tables; a folder means its newest copy",
     )
 
 

@@ -70,7 +70,7 @@ class Averages:
         except OSError as error:
             raise Fault(f"{self.path}: {error.strerror}") from None
         except (ValueError, KeyError, TypeError, AttributeError):
-            raise Fault(f"{self.path}: it has no averages: move it away, or put back a copy") from None
+            raise Fault(f"{self.path}: it has no averages: move it away, or restore a copy") from None
 
     def digest(self, *words: str) -> str:
         """Returns the name of a user or a host, 32 digits, the same in each run."""

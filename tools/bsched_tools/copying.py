@@ -56,7 +56,7 @@ def check_by_program(program: Path, path: Path) -> None:
         if told.returncode == 1 and json.loads(told.stdout).get("error") == "no_such_host":
             return
     said = (told.stderr or told.stdout).strip()
-    raise Fault(f"{program} does not take it: {said} (status {told.returncode})")
+    raise Fault(f"{program} does not accept it: {said} (status {told.returncode})")
 
 
 def check(taken: Taken, program: Path | None) -> None:
@@ -84,7 +84,7 @@ def folder_of(target: Path, keep: int | None) -> Path:
     if not folder.is_dir():
         raise Fault(f"{folder}: no such folder: make it first")
     if keep is not None and folder != target:
-        raise Fault(f"{target}: it is no folder, and --keep removes older copies from a folder: name one")
+        raise Fault(f"{target}: it is not a folder, and --keep removes older copies from a folder: name one")
     return folder
 
 

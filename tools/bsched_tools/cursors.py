@@ -74,7 +74,7 @@ class Cursor:
         except OSError as error:
             raise Fault(f"{self.path}: {error.strerror}") from None
         except (ValueError, KeyError, TypeError, AttributeError):
-            raise Fault(f"{self.path}: it is no cursor: name another file, or a new one") from None
+            raise Fault(f"{self.path}: it is not a cursor: name another file, or a new one") from None
 
     def given(self, tables: Tables) -> Given:
         """Returns what was given out from some tables."""

@@ -15,7 +15,7 @@ from .tables import (
 )
 
 MOST_ROWS = 50
-RESTORE = "put back a copy (docs/OPERATING.md, \"Backup and restore\")"
+RESTORE = "restore a copy (docs/OPERATING.md, \"Backup and restore\")"
 
 
 def file_faults(path: Path) -> Iterator[str]:
@@ -31,9 +31,9 @@ def file_faults(path: Path) -> Iterator[str]:
             yield f"{name}{error.strerror}"
             continue
         if not stat.S_ISREG(found.st_mode):
-            yield f"{name}it is no regular file"
+            yield f"{name}it is not a regular file"
         elif found.st_nlink != 1:
-            yield f"{name}it has {found.st_nlink} names (hard links), and bsched takes a file with one"
+            yield f"{name}it has {found.st_nlink} names (hard links), and bsched accepts a file with one"
         elif not os.access(one, os.R_OK | os.W_OK):
             yield f"{name}this user may not read and write it: run this as the user of bsched"
     if fault := journal_fault(path):

@@ -72,4 +72,4 @@ def agreed_in(path: Path) -> set[str]:
     except OSError as error:
         raise Fault(f"{path}: {error.strerror}") from None
     except UnicodeDecodeError:
-        raise Fault(f"{path}: it is no text: write an authenticator on each line") from None
+        raise Fault(f"{path}: it is not text: write an authenticator on each line") from None

@@ -231,7 +231,7 @@ def page(tables: Tables, counts: Counts, entries: list[Entry]) -> str:
     """Returns the page."""
     match = COPY_NAME.fullmatch(tables.path.name)
     name = match["stem"] if match else tables.path.stem
-    title = f"{escape(name)}: how it stands"
+    title = f"{escape(name)}: status"
     parts = [
         counts_part(counts, entries), history_parts(entries), turnaround_part(entries, tables.moment),
         deadlines_part(tables, counts.instances["late"]), credit_part(tables), errors_part(tables),

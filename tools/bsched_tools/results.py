@@ -139,7 +139,7 @@ def write_results(
     with ExitStack() as stack:
         kept = stack.enter_context(cursor_at(cursor)) if cursor is not None else None
         if target is not None and target.exists():
-            raise Fault(f"{target}: it exists: take in what it has, and remove it")
+            raise Fault(f"{target}: it exists: process what it has, and remove it")
         all_tables = [stack.enter_context(opened(path)) for path in paths]
         parts = texts(all_tables, as_lines, after, kept)
         if target is not None:

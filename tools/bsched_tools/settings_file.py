@@ -53,7 +53,7 @@ def settings_faults(path: Path) -> Iterator[str]:
         yield f"it is not TOML: {error}"
         return
     for name in sorted(told.keys() - KEYS):
-        yield f"{line_of(text, name)}{name} is no setting: remove it"
+        yield f"{line_of(text, name)}{name} is not a setting: remove it"
     for name in sorted(KEYS - told.keys()):
         yield f"{name} is missing"
     for name in sorted(KEYS & told.keys()):

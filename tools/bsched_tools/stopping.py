@@ -153,7 +153,7 @@ def stopped(process: Process) -> Iterator[Still]:
             if time.perf_counter() - began >= STILL_SECONDS:
                 raise Fault(f"it was not copied within {STILL_SECONDS:.0f} seconds: is the disk slow?")
             if threads_of(process) != states:
-                raise Retry(f"process {process.pid} went on while it was to stand still")
+                raise Retry(f"process {process.pid} ran while it should have been stopped")
         finally:
             with suppress(Retry):
                 process.send(signal.SIGCONT)

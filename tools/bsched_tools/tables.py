@@ -53,7 +53,8 @@ def faults_of(path: Path) -> Iterator[None]:
         elif "malformed" in told or "not a database" in told:
             told = f"it is spoiled or cut off ({told}){TAKE_ANOTHER}"
         elif "unable to open" in told or "readonly" in told:
-            told = f"it can't be opened for reading ({told}): look at the rights on it and on its folder"
+            next_step = "check the permissions of the file and its folder"
+            told = f"it can't be opened for reading ({told}): {next_step}"
         raise Fault(f"{path}: {told}") from None
 
 
@@ -96,9 +97,9 @@ def check_file(path: Path) -> None:
         raise Fault(f"{path}: {error.strerror}") from None
     has_log = log_size(path) > 0
     if size == 0 and not has_log:
-        raise Fault(f"{path}: it is empty, and no database")
+        raise Fault(f"{path}: it is empty, so it is not a database")
     if not head.startswith(HEAD):
-        raise Fault(f"{path}: it is no database of SQLite")
+        raise Fault(f"{path}: it is not a SQLite database")
     page = int.from_bytes(head[16:18], "big")
     pages, is_counted = int.from_bytes(head[28:32], "big"), head[24:28] == head[92:96]
     whole = pages * (65536 if page == 1 else page)
@@ -116,7 +117,7 @@ def journal_fault(path: Path) -> str | None:
     None."""
     journal = path.with_name(f"{path.name}-journal")
     if journal.exists() and journal.read_bytes()[:1] not in (b"", b"\0"):
-        return f"{journal} is left of SQLite: open the file once with `sqlite3`, which puts it in order"
+        return f"{journal} was left by SQLite: open the file once with `sqlite3`, which repairs it"
     return None
 
 
@@ -148,7 +149,7 @@ def schema_fault(connection: sqlite3.Connection) -> str | None:
         return f"its tables are of schema {number}, an older one: run `bsched upgrade`, then take a copy"
     if isinstance(number, int) and number > SCHEMA_NUMBER:
         return f"its tables are of schema {number}, a newer one: install newer tools"
-    return "its tables are none of bsched's, or were changed by another program"
+    return "its tables are not bsched's, or were changed by another program"
 
 
 @contextmanager

@@ -55,7 +55,7 @@ def source_of(path: Path) -> Source:
     if identity is None:
         raise Fault(f"{path}: no such file, or it may not be looked at")
     if not real.is_file():
-        raise Fault(f"{path}: it is no file")
+        raise Fault(f"{path}: it is not a file")
     return Source(real, identity)
 
 

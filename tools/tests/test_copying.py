@@ -192,7 +192,7 @@ def test_no_process_stands_still_beyond_the_limit(twin: Twin, monkeypatch: pytes
 
 
 def test_a_process_that_ran_meanwhile_voids_the_copy(twin: Twin) -> None:
-    with pytest.raises(stopping.Retry, match="went on"), stopping.process_of(twin.process.pid) as process:
+    with pytest.raises(stopping.Retry, match="ran while"), stopping.process_of(twin.process.pid) as process:
         with stopping.stopped(process):
             os.kill(twin.process.pid, signal.SIGCONT)
             time.sleep(0.05)
@@ -383,7 +383,7 @@ def test_the_program_opens_the_copy(
         copied = copying.copy_tables(project, copies, program=program)
         assert list(copies.iterdir()) == [copied.path]
     else:
-        with pytest.raises(Fault, match="does not take it"):
+        with pytest.raises(Fault, match="does not accept it"):
             copying.copy_tables(project, copies, program=program)
 
 
@@ -440,7 +440,7 @@ def test_tables_of_another_program(tmp_path: Path, copies: Path) -> None:
     for path, told in (
         (other, "it has no tables of bsched"),
         (tmp_path / "none.db", "no such file"),
-        (tmp_path, "it is no file"),
+        (tmp_path, "it is not a file"),
     ):
         with pytest.raises(Fault, match=told):
             copying.copy_tables(path, copies)
@@ -449,7 +449,7 @@ def test_tables_of_another_program(tmp_path: Path, copies: Path) -> None:
 
 def test_a_journal_that_sqlite_left(project: Path, copies: Path) -> None:
     project.with_name("project.db-journal").write_bytes(b"\xd9")
-    with pytest.raises(Fault, match="project.db-journal is left of SQLite"):
+    with pytest.raises(Fault, match="project.db-journal was left by SQLite"):
         copying.copy_tables(project, copies)
 
 

@@ -119,16 +119,16 @@ def test_files(tmp_path: Path) -> None:
     path = make_tables(tmp_path / "project.db")
     told, = told_of(tmp_path / "none.db")
     assert told == "no such file: make it with `bsched create`, or look at the name"
-    assert told_of(tmp_path) == ["it is no regular file"]
+    assert told_of(tmp_path) == ["it is not a regular file"]
     os.link(path, tmp_path / "second")
-    assert told_of(path) == ["it has 2 names (hard links), and bsched takes a file with one"]
+    assert told_of(path) == ["it has 2 names (hard links), and bsched accepts a file with one"]
     os.remove(tmp_path / "second")
     (tmp_path / "project.db-journal").write_bytes(b"\xd9")
     told, = told_of(path)
-    assert "is left of SQLite" in told
+    assert "was left by SQLite" in told
     os.remove(tmp_path / "project.db-journal")
     os.symlink("elsewhere", tmp_path / "project.db-wal")
-    assert told_of(path) == ["its log: it is no regular file"]
+    assert told_of(path) == ["its log: it is not a regular file"]
     os.remove(tmp_path / "project.db-wal")
     assert told_of(path) == []
     path.write_bytes(path.read_bytes()[:-4096])
@@ -150,7 +150,7 @@ resend_lost_results = true
 @pytest.mark.parametrize("change, wanted", [
     (lambda text: text, []),
     (lambda text: text.replace("max_hosts = 3\n", ""), ["max_hosts is missing"]),
-    (lambda text: text + "further = 1\n", ["line 8: further is no setting: remove it"]),
+    (lambda text: text + "further = 1\n", ["line 8: further is not a setting: remove it"]),
     (lambda text: text.replace("= 60", "= 2592001"),
      ["line 6: request_delay is 2592001: it must be a whole number from 0 to 2592000"]),
     (lambda text: text.replace("= 60", "= 60.0"),
@@ -161,7 +161,7 @@ resend_lost_results = true
     (lambda text: text.replace("change-this-key", "short"),
      ["line 5: operator_key is another text: "
       "it must be a text of 8 to 64 letters, digits, '_', '-' and '.'"]),
-    (lambda text: text + "[table]\n", ["table is no setting: remove it"]),
+    (lambda text: text + "[table]\n", ["table is not a setting: remove it"]),
     (lambda text: "=" + text, ["it is not TOML: Invalid statement (at line 1, column 1)"]),
 ])
 def test_settings(tmp_path: Path, change: Callable[[str], str], wanted: list[str]) -> None:

@@ -62,8 +62,8 @@ def changed(path: Path, good: Path) -> None:
 
 FILES = [
     (lambda path, _good: None, "No such file or directory"),
-    (lambda path, _good: path.write_bytes(b""), "it is empty, and no database"),
-    (lambda path, _good: path.write_text("name,app\n" * 100), "it is no database of SQLite"),
+    (lambda path, _good: path.write_bytes(b""), "it is empty, so it is not a database"),
+    (lambda path, _good: path.write_text("name,app\n" * 100), "it is not a SQLite database"),
     (lambda path, _good: path.mkdir(), "there is no copy in this folder"),
     (other_program, "it has no tables of bsched"),
     (cut_off, "it is cut off: it has"),
@@ -72,7 +72,7 @@ FILES = [
     (older, "its tables are of schema 1, an older one"),
     (second, "its tables are of schema 2, an older one"),
     (newer, "its tables are of schema 4, a newer one"),
-    (changed, "its tables are none of bsched's"),
+    (changed, "its tables are not bsched's"),
 ]
 
 

@@ -215,7 +215,7 @@ def test_a_new_file_is_whole_and_is_never_written_over(tmp_path: Path) -> None:
     lines = [json.loads(line) for line in target.read_text().splitlines()]
     assert lines == lines_of(path)
     before = cursor.read_text()
-    with pytest.raises(Fault, match="new: it exists: take in what it has, and remove it"):
+    with pytest.raises(Fault, match="new: it exists: process what it has, and remove it"):
         results.write_results([path], cursor=cursor, target=target)
     assert cursor.read_text() == before
     target.unlink()
@@ -246,7 +246,7 @@ def test_what_is_no_cursor(tmp_path: Path) -> None:
     cursor = tmp_path / "cursor"
     for text in ("", "[]", "{}", '{"format": 2, "given": {}}', '{"format": 1, "given": {"x": 1}}'):
         cursor.write_text(text)
-        with pytest.raises(Fault, match="it is no cursor"):
+        with pytest.raises(Fault, match="it is not a cursor"):
             rows_of(path, cursor=cursor)
         assert cursor.read_text() == text
 
