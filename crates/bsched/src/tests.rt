@@ -1,6 +1,7 @@
 //! The worked rows, and lines that are too long, broken, or not of the form of a line.
 
 mod classes;
+mod desk;
 mod jobs;
 mod judging;
 mod lapses;
