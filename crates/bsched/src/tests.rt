@@ -1,7 +1,6 @@
 //! The worked rows, and lines that are too long, broken, or not of the form of a line.
 
 mod classes;
-mod desk;
 mod jobs;
 mod judging;
 mod lapses;

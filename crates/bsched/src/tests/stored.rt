@@ -80,7 +80,7 @@ fn filled(alloc: Global) -> Result<Connection<MemStore>, Fail> {
 }
 
 /// How the tables of a database are refused after a statement; none if they are opened.
-pub fn refused_after<S: Alter + Drop>(
+fn refused_after<S: Alter + Drop>(
     alloc: Global,
     mut conn: Connection<S>,
     sql: &str,

@@ -1,9 +1,8 @@
 //! Tables of the earlier schemas, which are upgraded to the newest one.
 
-use super::rows::{NEXT, lines_of, name_of};
 use super::stops::{Deed, Fuses, Image, LASTING, Leaves, MOST_CALLS, TellRows, done_in, empty};
 use super::stored::{WORKUNITS, filled_with, run};
-use super::{CALL_START, PROJECT, jobs, judging, lapses, replayed_over};
+use super::{CALL_START, PROJECT, replayed_over};
 use sched_tables::{OpenFault, SCHEMA_1, Tables, upgrade};
 use sqlite::{Alter, Connection, MemStore};
 use std::alloc::Global;
@@ -224,59 +223,6 @@ fn an_upgrade_of_the_second_schema_keeps_all_calls(rt: HostRuntime) -> Result<()
     let replies = replies(alloc)?;
     assert_eq!(rt; told.as_str().lines().count(), 2);
     assert!(rt; told == replies);
-    Ok(())
-}
-
-/// The statements of all hosts.
-fn statements<S: Alter + Drop>(alloc: Global, conn: Connection<S>) -> Result<String, Fail> {
-    let mut lines = String::new(alloc);
-    for host in 1..=5u32 {
-        let line = format!(in alloc; "1970-01-01T00:00:00Z hosts/{host}\n")?;
-        lines.push_str(line.as_str())?;
-    }
-    told_over(alloc, conn, lines.as_str())
-}
-
-/// Whether tables of the first schema, with the rows of these tables of the newest one, give the same statements once
-/// they are upgraded.
-fn tells_as_before<S: Alter + Drop>(
-    alloc: Global,
-    mut newest: Connection<S>,
-) -> Result<bool, Fail> {
-    let mut conn = former_of(alloc, &mut newest, Former::First)?;
-    upgrade(alloc, &mut conn)?;
-    Ok(statements(alloc, conn)? == statements(alloc, newest)?)
-}
-
-/// The name of the first row after which tables of the first schema, once upgraded, give other statements.
-fn first_upgraded_otherwise(
-    alloc: Global,
-    text: &'static str,
-) -> Result<Option<&'static str>, Fail> {
-    for row in text.split(NEXT).skip(1) {
-        let lines = format!(in alloc; "{PROJECT}{}", lines_of(alloc, row)?)?;
-        if !tells_as_before(alloc, filled_with(alloc, lines.as_bytes())?)? {
-            return Ok(Some(name_of(row)));
-        }
-    }
-    Ok(None)
-}
-
-#[test]
-fn an_upgrade_keeps_grants_and_lost_jobs(rt: HostRuntime) -> Result<(), Fail> {
-    assert_eq!(rt; first_upgraded_otherwise(rt.alloc(), jobs::ROWS)?, None);
-    Ok(())
-}
-
-#[test]
-fn an_upgrade_keeps_reports_and_quorums(rt: HostRuntime) -> Result<(), Fail> {
-    assert_eq!(rt; first_upgraded_otherwise(rt.alloc(), judging::ROWS)?, None);
-    Ok(())
-}
-
-#[test]
-fn an_upgrade_keeps_lapses_and_failures(rt: HostRuntime) -> Result<(), Fail> {
-    assert_eq!(rt; first_upgraded_otherwise(rt.alloc(), lapses::ROWS)?, None);
     Ok(())
 }
 
