@@ -193,27 +193,32 @@ const CALL_START: &str =
 const REPLY: &str =
     "200 {\"end_word\":\"enough\",\"host_total_credit\":0,\"hostid\":1,\"request_delay\":60,\"result_abort\":[],\"result_ack\":[],\"results\":[],\"rpc_seqno\":1,\"user_name\":\"Ann\",\"user_total_credit\":0}\n";
 
+/// Whether a replay of these lines prints this, and ends like this.
+fn prints(alloc: Global, lines: &str, told: &str, end: Ended) -> Result<bool, Fail> {
+    let (printed, ended) = replayed(alloc, lines.as_bytes())?;
+    Ok(ended == end && printed.as_slice() == told.as_bytes())
+}
+
+/// Whether a replay of this line between two imports of accounts ends there.
+fn ends_at(alloc: Global, line: &str) -> Result<bool, Fail> {
+    let lines = format!(in alloc;
+        "1970-01-01T00:00:00Z account k1\n{line}\n1970-01-01T00:00:00Z account k3\n"
+    )?;
+    prints(alloc, lines.as_str(), K1_IMPORTED, Ended::Line(2))
+}
+
+/// The answer to the import of the account `k1`.
+const K1_IMPORTED: &str = "200 {\"batch\":\"k1\",\"kind\":\"accounts\",\"rows\":1}\n";
+
 #[test]
 fn lines_that_are_none_end_the_run(rt: HostRuntime) -> Result<(), Fail> {
     let alloc = rt.alloc();
-    let (printed, ended) = replayed(alloc, b"")?;
-    assert!(rt; printed.is_empty() && ended == Ended::Good);
-    let k1 = "200 {\"batch\":\"k1\",\"kind\":\"accounts\",\"rows\":1}\n";
-    // the last line may lack its line feed
-    let (printed, ended) = replayed(alloc, b"9892-03-08T12:26:40Z account k1")?;
-    assert!(rt; printed.as_slice() == k1.as_bytes() && ended == Ended::Good);
-    for second in [
-        "1970-01-01T00:00:00Z tick x",
-        "1970-01-01T00:00:00.5Z account k2",
-        "noon account k2",
-    ] {
-        let lines = format!(in alloc;
-            "1970-01-01T00:00:00Z account k1\n{second}\n1970-01-01T00:00:00Z account k3\n"
-        )?;
-        let (printed, ended) = replayed(alloc, lines.as_bytes())?;
-        assert_eq!(rt; ended, Ended::Line(2), "{second}");
-        assert!(rt; printed.as_slice() == k1.as_bytes(), "{second}");
-    }
+    assert!(rt; prints(alloc, "", "", Ended::Good)?);
+    // The last line may lack its line feed.
+    assert!(rt; prints(alloc, "9892-03-08T12:26:40Z account k1", K1_IMPORTED, Ended::Good)?);
+    assert!(rt; ends_at(alloc, "1970-01-01T00:00:00Z tick x")?);
+    assert!(rt; ends_at(alloc, "1970-01-01T00:00:00.5Z account k2")?);
+    assert!(rt; ends_at(alloc, "noon account k2")?);
     Ok(())
 }
 
