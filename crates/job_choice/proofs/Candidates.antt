@@ -1,7 +1,7 @@
 -- The candidates of a world are the instances without owner of its open workunits, in the order of their places.
 use Rattle.std.proofs.Common.{◌≡◌, ℕ, zero, suc, ◌+◌, ◌<◌, ◌⊎◌, inl, inr, Bool, true, false, cond, not, eqb, List, [], ◌∷◌, ◌++◌, Option, Some, None, sym, refl, ap, ◌∙◌, subst, arith}
 use Rattle.std.specs.Prelude.{◌&&◌, nat_lt, slice_get, is_none, option_map, option_and_then, unwrap_or, Contains}
-use Rattle.std.proofs.lemmas.Bool.{or_cases, or_left, or_right, and_parts, and_from, ltb-true, eqb-true, lt-ltb, eq-eqb}
+use Rattle.std.proofs.lemmas.Bool.{or_cases, or_left, or_right, and_parts, and_from, ltb-true, eqb-true, lt-ltb, eq-eqb, false_from_ne_true}
 use Rattle.std.proofs.lemmas.List.Elements.{Contains-append_left, Contains-append_right, Contains-append_cases}
 use Rattle.sched_book.specs.Count.{is_open}
 use Rattle.sched_book.specs.Offers.{unsent_in, unsent_among}
@@ -15,6 +15,7 @@ use Rattle.sched_book.specs.declared.world.World.{World}
 use Rattle.sched_book.proofs.Newest.{none_in_nothing, in_front, behind, front_of}
 use Rattle.sched_book.proofs.PlacesOf.{nth-suc}
 use Rattle.sched_book.proofs.PlacesWhere.{none_missed}
+use Rattle.job_choice.specs.Offered.{first_place}
 
 -- the order of places
 abbrev pub Before : Place → Place → Type 0
@@ -33,6 +34,13 @@ before_test p q h = elim h [
   | inr same ↦ or_right (nat_lt p.unit q.unit) (eqb p.unit q.unit && nat_lt p.number q.number)
       (and_from (eqb p.unit q.unit) (nat_lt p.number q.number) (eq-eqb p.unit q.unit same.0) (lt-ltb p.number q.number same.1))
 ]
+
+-- no instance is before the first place
+pub after_first : (r : Place) (i : ℕ) → r.unit ≡ 1 + i → is_before r first_place ≡ false
+after_first r i unit = false_from_ne_true (is_before r first_place) (λ t. elim (before_from r first_place t) [
+  | inl less ↦ (let low : r.unit < 1 = less in omega arith)
+  | inr same ↦ (let low : r.number < 0 = same.1 in omega arith)
+])
 
 -- each candidate is before all that follow it
 abbrev pub Rising : List Candidate → Type 0

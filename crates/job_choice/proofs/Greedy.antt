@@ -2,7 +2,7 @@
 use Rattle.std.proofs.Common.{◌≡◌, ◌⊎◌, inl, inr, ℕ, ◌+◌, ◌<◌, ◌≤◌, true, false, not, eqb, List, [], ◌∷◌, ◌++◌, length, take, get_or, sym, refl, ap, ◌∙◌, subst, arith}
 use Rattle.std.specs.Prelude.{◌&&◌, ◌||◌, is_none, filter, Contains, AllPairs, EachIndex}
 use Rattle.std.specs.List.{list_any, list_all}
-use Rattle.std.proofs.lemmas.Bool.{and_parts, or_right, both_ways, eqb-true, eq-eqb, false_from_ne_true, cases_lt}
+use Rattle.std.proofs.lemmas.Bool.{and_parts, or_right, both_ways, eqb-true, eq-eqb, cases_lt}
 use Rattle.std.proofs.lemmas.List.{length_push, take-append-le, take_all}
 use Rattle.std.proofs.lemmas.List.Elements.{Contains-append_left, Contains-push, Contains-push_cases, Contains-get_or, All-weaker, All-contains_itself}
 use Rattle.std.proofs.lemmas.List.Quantifiers.{all_pairs_push}
@@ -17,7 +17,7 @@ use Rattle.sched_book.specs.declared.instance.Place.{Place}
 use Rattle.sched_book.specs.declared.world.World.{World}
 use Rattle.sched_book.proofs.Newest.{none_in_nothing, in_front, behind, front_of, passes_filter, passed_filter}
 use Rattle.job_choice.specs.Offered.{first_place}
-use Rattle.job_choice.proofs.Candidates.{Before, before_from, before_test, Rising, rising_among, world_lists, stood}
+use Rattle.job_choice.proofs.Candidates.{Before, before_from, before_test, after_first, Rising, rising_among, world_lists, stood}
 use Rattle.job_choice.proofs.Passing.{any_from, any_found}
 
 pub has_from : (jobs : List Place) (s : Place) (unit : ℕ) → Contains jobs s → s.unit ≡ unit → has_unit unit jobs ≡ true
@@ -52,12 +52,6 @@ module _ (w : World) (q : Asking) where
     pub covered : (r : Place) → is_eligible w q.host r ≡ true → (has_unit r.unit jobs ≡ true) ⊎ ((c : Candidate) × Contains left c × (c.place ≡ r))
     pub ahead : (s : Place) (c : Candidate) → Contains jobs s → Contains left c → Before s c.place
     pub sorted : Rising left
-
-  after_first : (r : Place) (i : ℕ) → r.unit ≡ 1 + i → is_before r first_place ≡ false
-  after_first r i unit = false_from_ne_true (is_before r first_place) (λ t. elim (before_from r first_place t) [
-    | inl less ↦ (let low : r.unit < 1 = less in omega arith)
-    | inr same ↦ (let low : r.number < 0 = same.1 in omega arith)
-  ])
 
   -- nothing is taken yet
   pub none_taken : AreTaken [] (unsent w first_place)

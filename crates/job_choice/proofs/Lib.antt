@@ -6,5 +6,6 @@ pub mod Looked
 pub mod Only
 pub mod Passing
 pub mod Resuming
+pub mod Sought
 pub mod Taking
 pub mod Turns

@@ -10,7 +10,8 @@ use Rattle.sched_book.specs.Places.{option_any, user_had}
 use Rattle.sched_book.specs.declared.instance.UnitBook.{UnitBook}
 use Rattle.sched_book.specs.declared.world.World.{World}
 use Rattle.sched_book.proofs.PlacesOf.{nth-suc}
-use Rattle.job_choice.specs.Past.{look_of, known_had, may_look, with_look, user_had_at, IsPast}
+use Rattle.sched_book.specs.Skipping.{user_had_at}
+use Rattle.job_choice.specs.Past.{look_of, known_had, may_look, with_look, IsPast}
 use Rattle.job_choice.specs.declared.past.LookedAt.{LookedAt}
 use Rattle.job_choice.specs.declared.past.UserPast.{UserPast}
 use Rattle.job_choice.specs.declared.past.UserPast.TheVariants.{InPart, Whole}

@@ -9,6 +9,7 @@ use Rattle.std.proofs.lemmas.List.Sums.{sum_by_push}
 use Rattle.rpc_records.specs.declared.reply.EndWord.{EndWord}
 use Rattle.rpc_records.specs.declared.reply.EndWord.TheVariants.{Enough, ReplyLimit, InProgressLimit, DailyQuota, NoEligibleWork}
 use Rattle.sched_book.specs.Fits.{estimate, fits, version_for, unit_fits, is_for, is_eligible, estimate_at}
+use Rattle.sched_book.specs.Skipping.{user_had_at}
 use Rattle.sched_book.specs.Grant.{Asking, IsGrant, is_maximal, is_enough, fills_reply, fills_progress, fills_day, seconds_of, sent_today, has_unit, end_word}
 use Rattle.sched_book.specs.Offers.{unsent, OffersAll}
 use Rattle.sched_book.specs.Places.{option_any, places, unit_at, user_had}
@@ -16,18 +17,20 @@ use Rattle.sched_book.specs.declared.desk.Candidate.{Candidate}
 use Rattle.sched_book.specs.declared.desk.Flow.TheVariants.{GoOn, Stop}
 use Rattle.sched_book.specs.declared.instance.Place.{Place}
 use Rattle.sched_book.specs.declared.instance.UnitBook.{UnitBook}
+use Rattle.sched_book.specs.declared.rows.HostRow.{HostRow}
 use Rattle.sched_book.specs.declared.rows.Version.{Version}
 use Rattle.sched_book.specs.declared.world.World.{World}
 use Rattle.sched_book.proofs.Newest.{behind, front_of}
 use Rattle.job_choice.specs.Chosen.{places_of, IsJob, IsChoice}
 use Rattle.job_choice.specs.Choosing.{is_full, end_word_at, has_job_of, with_job, after_version}
 use Rattle.job_choice.specs.Offered.{limits_on, IsBegun, IsKnown, IsRight, IsReady, HasChosen, judged, Chooses, first_place}
-use Rattle.job_choice.specs.Past.{user_had_at}
+use Rattle.job_choice.specs.Past.{IsPast}
 use Rattle.job_choice.specs.declared.choosing.Choosing.{Choosing}
 use Rattle.job_choice.specs.declared.choosing.Known.{Known}
 use Rattle.job_choice.specs.declared.choosing.Limits.{Limits}
 use Rattle.job_choice.specs.declared.granted.Grant.{Grant}
 use Rattle.job_choice.specs.declared.granted.Granted.{Granted}
+use Rattle.job_choice.specs.declared.past.UserPast.{UserPast}
 use Rattle.job_choice.proofs.Candidates.{InWorld, in_world, found_nth, passes_at}
 use Rattle.job_choice.proofs.Greedy.{AreTaken, none_taken, passed_over, taken_on, all_seen, is_grant}
 use Rattle.job_choice.proofs.Looked.{nothing_is}
@@ -56,6 +59,19 @@ stops false h = absurd cc
 pub goes : (full : Bool) → GoOn ≡ cond full Stop GoOn → full ≡ false
 goes true h = absurd cc
 goes false h = refl
+
+-- before the first offer it is ready
+ready : (w : World) {h : HostRow} {limits : Limits} {wanted : ℕ} (t : Choosing) → IsBegun h limits wanted t → IsReady w t
+ready w t begun = record {
+  known = subst (IsRight w t.host.now) (sym begun.known) (record { past = nothing_is w t.host.now.account; apps = All-nil (IsKnown w t.host.now) });
+  unjudged = begun.unjudged;
+}
+
+-- if what is known of the user's past after the offers is then true, it is true, with another name for the world
+pub past_after : (w v : World) {h : HostRow} {limits : Limits} {wanted : ℕ} (t : Choosing) (past : UserPast) → v ≡ w → IsBegun h limits wanted t
+    → (IsReady v t → IsPast v t.host.now.account past) → IsPast w h.account past
+past_after w v {h} t past same begun right =
+    subst (λ u. IsPast u h.account past) same (subst (λ (r : HostRow). IsPast v r.account past) begun.host (right (ready v t begun)))
 
 module _ (w : World) (q : Asking) where
   -- what was read is that of the world, and the jobs were taken by place
@@ -136,8 +152,8 @@ module _ (w : World) (q : Asking) where
           ap (λ h. estimate c.unit.rsc_fpops_est h.p_fpops) on.host ∙ ap (λ u. estimate u.rsc_fpops_est q.host.p_fpops) here.row
 
       -- the candidate is left
-      left_out : (is_eligible w q.host c.place ≡ true → has_unit c.place.unit (places_of t.jobs) ≡ true) → IsOn t left
-      left_out over = record {
+      skipped : (is_eligible w q.host c.place ≡ true → has_unit c.place.unit (places_of t.jobs) ≡ true) → IsOn t left
+      skipped over = record {
         host = on.host;
         limits_are = on.limits_are;
         wanted_is = on.wanted_is;
@@ -146,12 +162,12 @@ module _ (w : World) (q : Asking) where
       }
 
       unfit : (o : Option Version) → version_for w t.host.now c.unit.app ≡ o → fits t.host.now c.unit o ≡ false → IsOn t left
-      unfit o is misfit = left_out (λ eligible.
+      unfit o is misfit = skipped (λ eligible.
           absurd (both_ways (unit_fits w q.host here.book) (sym (fits_here o is) ∙ misfit)
           (and_parts (unit_fits w q.host here.book) (not (user_had w q.host.account here.book)) (sym eligible_is ∙ eligible)).0))
 
       had_one : user_had_at w t.host.now.account c.place.unit ≡ true → IsOn t left
-      had_one had = left_out (λ eligible.
+      had_one had = skipped (λ eligible.
           absurd (both_ways (not (user_had w q.host.account here.book)) (ap not (sym had_here ∙ had))
           (and_parts (unit_fits w q.host here.book) (not (user_had w q.host.account here.book)) (sym eligible_is ∙ eligible)).1))
 
@@ -205,7 +221,7 @@ module _ (w : World) (q : Asking) where
 
           by : (has : Bool) (o : Option Version) → has_job_of t.jobs c.place.unit ≡ has → version_for w t.host.now c.unit.app ≡ o
               → IsOn (cond has t (after_version t c (Some (user_had_at w t.host.now.account c.place.unit)) o)) left
-          by true o has is = left_out (λ eligible. sym (has_job-is t.jobs c.place.unit) ∙ has)
+          by true o has is = skipped (λ eligible. sym (has_job-is t.jobs c.place.unit) ∙ has)
           by false None has is = unfit None is (and_false (nat_le c.unit.rsc_memory_bound t.host.now.m_nbytes && nat_le c.unit.rsc_disk_bound t.host.now.d_free
               && nat_le (estimate c.unit.rsc_fpops_est t.host.now.p_fpops) c.unit.delay_bound))
             where
@@ -256,12 +272,6 @@ module _ (w : World) (q : Asking) where
         taken = subst (λ (js : List Granted). AreTaken w q (places_of js) (unsent w first_place)) none (none_taken w q);
       }
 
-  ready : (t : Choosing) → IsBegun q.host (limits_on w q.number q.host q.held (q.now / 86400)) (q.asked - q.before) t → IsReady w t
-  ready t h = record {
-    known = subst (IsRight w t.host.now) (sym h.known) (record { past = nothing_is w t.host.now.account; apps = All-nil (IsKnown w t.host.now) });
-    unjudged = h.unjudged;
-  }
-
   choice : (t : Choosing) (g : Grant) → IsOver t → g.jobs ≡ t.jobs → g.end_word ≡ end_word_at t → IsChoice w q g
   choice t g over jobs word = record {
     grant = subst (λ js. IsGrant w q (places_of js)) (sym jobs) (is_grant w q (places_of t.jobs) over.left over.on.taken over.maximal);
@@ -274,7 +284,7 @@ module _ (w : World) (q : Asking) where
       → (IsReady w old → HasChosen w old new) → g.jobs ≡ new.jobs → g.end_word ≡ end_word_at new → IsChoice w q g
   chosen old new g fresh offered jobs word =
       let on = begun old fresh in
-      elim (offered (ready old fresh)) [
+      elim (offered (ready w old fresh)) [
         | inl none ↦ choice new g
             (subst IsOver (sym none.1) (record { left = unsent w first_place; on = on; maximal = full_maximal old (unsent w first_place) on none.0 })) jobs word
         | inr all ↦ choice new g (ends (unsent w first_place) old new on all.0 (λ c k. in_world w first_place 1 w.units c k) all.1) jobs word

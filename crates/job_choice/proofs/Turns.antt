@@ -1,9 +1,10 @@
 -- Offers in turns, each up to a candidate that could not be judged, make one choice among all candidates.
-use Rattle.std.proofs.Common.{◌≡◌, ◌⊎◌, inl, inr, Bool, true, false, cond, List, [], ◌∷◌, ◌++◌, Option, Some, None, sym, refl, ap, ◌∙◌, subst}
+use Rattle.std.proofs.Common.{◌≡◌, ◌⊎◌, inl, inr, ℕ, Bool, true, false, cond, List, [], ◌∷◌, ◌++◌, Option, Some, None, sym, refl, ap, ◌∙◌, subst}
 use Rattle.std.specs.Prelude.{◌||◌, is_some, unwrap_or}
 use Rattle.std.proofs.lemmas.Bool.{both_ways}
 use Rattle.sched_book.specs.Fits.{fits, version_for}
-use Rattle.sched_book.specs.Offers.{unsent, OffersAll}
+use Rattle.sched_book.specs.Skipping.{user_had_at, IsHadBy}
+use Rattle.sched_book.specs.Offers.{unsent, OffersAll, OrSkips}
 use Rattle.sched_book.specs.declared.desk.Candidate.{Candidate}
 use Rattle.sched_book.specs.declared.desk.Flow.{Flow}
 use Rattle.sched_book.specs.declared.desk.Flow.TheVariants.{GoOn, Stop}
@@ -12,7 +13,7 @@ use Rattle.sched_book.specs.declared.rows.Version.{Version}
 use Rattle.sched_book.specs.declared.world.World.{World}
 use Rattle.job_choice.specs.Choosing.{is_full, has_job_of, known_of, unjudged_of, unjudged_at, with_job, after_past, after_version, after_app, after, Takes}
 use Rattle.job_choice.specs.Offered.{first_place, IsRight, IsReady, judged, Chooses, HasChosen}
-use Rattle.job_choice.specs.Past.{known_had, user_had_at}
+use Rattle.job_choice.specs.Past.{known_had, IsPast}
 use Rattle.job_choice.specs.declared.choosing.Choosing.{Choosing}
 use Rattle.job_choice.specs.declared.choosing.Known.{Known}
 use Rattle.job_choice.specs.declared.choosing.KnownApp.{KnownApp}
@@ -22,24 +23,37 @@ use Rattle.job_choice.proofs.Looked.{had_is}
 use Rattle.job_choice.proofs.Resuming.{resumed}
 use Rattle.job_choice.proofs.Taking.{goes}
 
-module _ (w : World) where
+module _ (w : World) (account : ℕ) where
+  -- it is ready, and its host is of the account
+  abbrev IsReadyFor : Choosing → Type 0
+  IsReadyFor t = IsReady w t × (t.host.now.account ≡ account)
+
   -- A candidate, as a taker that is ready leaves it.
   module _ (t : Choosing) (c : Candidate) where
     abbrev had : Bool
     had = user_had_at w t.host.now.account c.place.unit
 
-    stays_ready : IsReady w t → IsReady w (judged w t c)
+    stays_ready : IsReadyFor t → IsReadyFor (judged w t c)
     stays_ready ready = by (has_job_of t.jobs c.place.unit) (version_for w t.host.now c.unit.app)
       where
-        fit : (fits has_had : Bool) (v : Version) → IsReady w (cond fits (cond has_had t (with_job t c v)) t)
+        fit : (fits has_had : Bool) (v : Version) → IsReadyFor (cond fits (cond has_had t (with_job t c v)) t)
         fit true true v = ready
-        fit true false v = record { known = ready.known; unjudged = ready.unjudged }
+        fit true false v = (record { known = ready.0.known; unjudged = ready.0.unjudged }, ready.1)
         fit false has_had v = ready
 
-        by : (has : Bool) (o : Option Version) → IsReady w (cond has t (after_version t c (Some had) o))
+        by : (has : Bool) (o : Option Version) → IsReadyFor (cond has t (after_version t c (Some had) o))
         by true o = ready
         by false None = ready
         by false (Some v) = fit (fits t.host.now c.unit (Some v)) had v
+
+    -- nothing is taken of a workunit that the user had an instance of
+    had_one : (o : Option Version) → true ≡ had → t ≡ after_version t c (Some had) o
+    had_one None one = refl
+    had_one (Some v) one = subst (λ h. t ≡ cond (fits t.host.now c.unit (Some v)) (cond h t (with_job t c v)) t) one (same (fits t.host.now c.unit (Some v)))
+      where
+        same : (fit : Bool) → t ≡ cond fit t t
+        same true = refl
+        same false = refl
 
     -- it is judged as the world says, or not at all
     judged_or_not : (new : Choosing) → IsReady w t → new ≡ after t c → (new ≡ judged w t c) ⊎ (new ≡ unjudged_at t c)
@@ -64,15 +78,6 @@ module _ (w : World) where
         by_app None found is = inr is
         by_app (Some k) found is = by_version (version_for w t.host.now c.unit.app)
             (is ∙ ap (after_version t c known_past) (known_is w t.host.now c.unit.app t.known.apps k ready.known.apps found))
-
-        -- nothing is taken of a workunit that the user had an instance of
-        had_one : (o : Option Version) → true ≡ had → t ≡ after_version t c (Some had) o
-        had_one None one = refl
-        had_one (Some v) one = subst (λ h. t ≡ cond (fits t.host.now c.unit (Some v)) (cond h t (with_job t c v)) t) one (same (fits t.host.now c.unit (Some v)))
-          where
-            same : (fit : Bool) → t ≡ cond fit t t
-            same true = refl
-            same false = refl
 
         by_known : (o : Option Bool) → known_past ≡ o → new ≡ cond (unwrap_or o false) t (after_app t c known_past (known_of t.known.apps c.unit.app))
             → (new ≡ after_version t c (Some had) (version_for w t.host.now c.unit.app)) ⊎ (new ≡ unjudged_at t c)
@@ -105,13 +110,26 @@ module _ (w : World) where
         by false None = refl
         by false (Some v) = fit (fits t.host.now c.unit (Some v)) had v
 
-    chooses : (flow : Flow) (new : Choosing) → IsReady w t → flow ≡ cond (is_some new.unjudged || is_full new) Stop GoOn → new ≡ judged w t c
+    chooses : (flow : Flow) (new : Choosing) → IsReadyFor t → flow ≡ cond (is_some new.unjudged || is_full new) Stop GoOn → new ≡ judged w t c
         → Chooses w t c flow new
     chooses flow new ready goes_on is =
-        let none : new.unjudged ≡ None = ap (λ (n : Choosing). n.unjudged) is ∙ (stays_ready ready).unjudged in (
+        let none : new.unjudged ≡ None = ap (λ (n : Choosing). n.unjudged) is ∙ (stays_ready ready).0.unjudged in (
           goes_on ∙ ap (λ (o : Option Unjudged). cond (is_some o || is_full new) Stop GoOn) none,
           subst (λ (n : Choosing). n ≡ record (judged w t c) { known = n.known }) (sym is) refl,
         )
+
+    -- if it is left out, as one of a workunit that the user had may be, that is what the world says
+    skipped : (new : Choosing) → IsReadyFor t → is_full t ≡ false → IsHadBy w account c → new ≡ t → Chooses w t c GoOn new
+    skipped new ready room one same =
+        subst (λ (n : Choosing). Chooses w t c GoOn n) (sym same)
+        (sym (ap (λ (full : Bool). cond full Stop GoOn) room), ap (λ (s : Choosing). record s { known = t.known }) (as_it_is (has_job_of t.jobs c.place.unit)))
+      where
+        its_one : true ≡ had
+        its_one = sym (ap (λ a. user_had_at w a c.place.unit) ready.1 ∙ one)
+
+        as_it_is : (has : Bool) → t ≡ cond has t (after_version t c (Some had) (version_for w t.host.now c.unit.app))
+        as_it_is true = refl
+        as_it_is false = had_one (version_for w t.host.now c.unit.app) its_one
 
   -- with more known it chooses as it would have
   knows_more : (t : Choosing) (known : Known) (c : Candidate) (left : List Candidate) (last : Choosing)
@@ -129,99 +147,111 @@ module _ (w : World) where
     parts : all ≡ front ++ c ∷ left
     before : Choosing
     is : new ≡ unjudged_at before c
-    ready : IsReady w before
+    ready : IsReadyFor before
     room : is_full before ≡ false
     leads : (last : Choosing) → OffersAll (Chooses w) before (c ∷ left) last → OffersAll (Chooses w) old all last
 
-  -- one turn of offers
-  one_turn : (cs : List Candidate) (old new : Choosing) → IsReady w old → is_full old ≡ false → new.refused ≡ false → OffersAll Takes old cs new
-      → (OffersAll (Chooses w) old cs new × (new.unjudged ≡ None)) ⊎ StoppedAt old cs new
-  one_turn [] old new ready room kept h = inl (h, ap (λ (n : Choosing). n.unjudged) h ∙ ready.unjudged)
-  one_turn (c ∷ cs) old new ready room kept h = elim h [
-    | inl last ↦ elim last [
-      | inl refused ↦ absurd (both_ways new.refused kept refused.1)
-      | inr taken ↦ elim (judged_or_not old c new ready taken.1) [
-        | inl is ↦ inl (inl (chooses old c Stop new ready taken.0 is), ap (λ (n : Choosing). n.unjudged) is ∙ (stays_ready old c ready).unjudged)
-        | inr not_yet ↦ inr (record {
-          front = [];
-          c = c;
-          left = cs;
-          parts = refl;
-          before = old;
-          is = not_yet;
-          ready = ready;
-          room = room;
-          leads = λ last h. h;
-        })
-      ]
-    ]
-    | inr more ↦ elim more.1 [
-      | inl never ↦ absurd (let differ : GoOn ≡ Stop = never.0 in cc)
-      | inr taken ↦ elim (judged_or_not old c more.0 ready taken.1) [
-        | inl is ↦ (let one = chooses old c GoOn more.0 ready taken.0 is in
-            let ready_yet = subst (IsReady w) (sym is) (stays_ready old c ready) in
-            elim (one_turn cs more.0 new ready_yet (goes (is_full more.0) one.0) kept more.2) [
-              | inl all ↦ inl (inr (more.0, one, all.0), all.1)
-              | inr stopped ↦ inr (record {
-                front = c ∷ stopped.front;
-                c = stopped.c;
-                left = stopped.left;
-                parts = ap (λ cs. c ∷ cs) stopped.parts;
-                before = stopped.before;
-                is = stopped.is;
-                ready = stopped.ready;
-                room = stopped.room;
-                leads = λ last h. inr (more.0, one, stopped.leads last h);
-              })
-            ])
-        | inr not_yet ↦ absurd (let differ : GoOn ≡ Stop = subst (λ (n : Choosing). GoOn ≡ cond (is_some n.unjudged || is_full n) Stop GoOn) not_yet taken.0 in cc)
-      ]
-    ]
+  -- what becomes of one turn of offers
+  abbrev Turned : Choosing → List Candidate → Choosing → Type 0
+  Turned old all new = (OffersAll (Chooses w) old all new × IsReadyFor new) ⊎ StoppedAt old all new
+
+  -- with one more candidate in front, which was judged
+  one_before : (c : Candidate) (cs : List Candidate) (old mid new : Choosing) → Chooses w old c GoOn mid → Turned mid cs new → Turned old (c ∷ cs) new
+  one_before c cs old mid new one (inl (all, ready)) = inl (inr (mid, one, all), ready)
+  one_before c cs old mid new one (inr stopped) = inr (record {
+    front = c ∷ stopped.front;
+    c = stopped.c;
+    left = stopped.left;
+    parts = ap (λ cs. c ∷ cs) stopped.parts;
+    before = stopped.before;
+    is = stopped.is;
+    ready = stopped.ready;
+    room = stopped.room;
+    leads = λ last h. inr (mid, one, stopped.leads last h);
+  })
+
+  -- one turn of offers, in which candidates of workunits that the user had may be left out
+  one_turn : (cs : List Candidate) (old new : Choosing) → IsReadyFor old → is_full old ≡ false → new.refused ≡ false
+      → OffersAll (OrSkips (IsHadBy w account) Takes) old cs new → Turned old cs new
+  one_turn [] old new ready room kept h = inl (h, subst IsReadyFor (sym h) ready)
+  one_turn (c ∷ cs) old new ready room kept (inl (inr (one, never, same))) = absurd (let differ : Stop ≡ GoOn = never in cc)
+  one_turn (c ∷ cs) old new ready room kept (inl (inl (inl (stopped, refused)))) = absurd (both_ways new.refused kept refused)
+  one_turn (c ∷ cs) old new ready room kept (inl (inl (inr (flow, taken)))) = elim (judged_or_not old c new ready.0 taken) [
+    | inl is ↦ inl (inl (chooses old c Stop new ready flow is), subst IsReadyFor (sym is) (stays_ready old c ready))
+    | inr not_yet ↦ inr (record {
+      front = [];
+      c = c;
+      left = cs;
+      parts = refl;
+      before = old;
+      is = not_yet;
+      ready = ready;
+      room = room;
+      leads = λ last h. h;
+    })
+  ]
+  one_turn (c ∷ cs) old new ready room kept (inr (mid, inr (one, flow, same), more)) =
+      one_before c cs old mid new (skipped old c mid ready room one same)
+      (one_turn cs mid new (subst IsReadyFor (sym same) ready) (ap is_full same ∙ room) kept more)
+  one_turn (c ∷ cs) old new ready room kept (inr (mid, inl (inl (never, refused)), more)) = absurd (let differ : GoOn ≡ Stop = never in cc)
+  one_turn (c ∷ cs) old new ready room kept (inr (mid, inl (inr (flow, taken)), more)) = elim (judged_or_not old c mid ready.0 taken) [
+    | inl is ↦ (let one = chooses old c GoOn mid ready flow is in
+        one_before c cs old mid new one
+        (one_turn cs mid new (subst IsReadyFor (sym is) (stays_ready old c ready)) (goes (is_full mid) one.0) kept more))
+    | inr not_yet ↦ absurd (let differ : GoOn ≡ Stop = subst (λ (n : Choosing). GoOn ≡ cond (is_some n.unjudged || is_full n) Stop GoOn) not_yet flow in cc)
   ]
 
   -- What is chosen from a place on is chosen from all candidates.
   pub record Resumes (old now : Choosing) (from : Place) : Type 0 where
-    pub ready : IsReady w now
+    pub ready : IsReadyFor now
     pub room : is_full now ≡ false
     pub leads : (last : Choosing) → OffersAll (Chooses w) now (unsent w from) last → OffersAll (Chooses w) old (unsent w first_place) last
 
-  -- the last turn
-  pub turns_end : (v : World) (old now new : Choosing) (from : Place) (left : Option Unjudged) → v ≡ w → is_full old ≡ false → Resumes old now from
-      → new.refused ≡ false → OffersAll Takes now (unsent v from) new → new.unjudged ≡ None → left ≡ None → HasChosen w old (record new { unjudged = left })
-  turns_end v old now new from left same room on kept h none none_left =
-      let turn = one_turn (unsent w from) now new on.ready on.room kept (subst (λ v. OffersAll Takes now (unsent v from) new) same h) in
-      inr (
-        room,
-        elim turn [
-          | inl all ↦ subst (λ o. OffersAll (Chooses w) old (unsent w first_place) (record new { unjudged = o })) (none ∙ sym none_left) (on.leads new all.0)
-          | inr stopped ↦ absurd (let never : None ≡ Some (record { place = stopped.c.place; app = stopped.c.unit.app }) = sym none ∙ ap (λ (n : Choosing). n.unjudged) stopped.is in cc)
-        ],
-      )
+  -- a turn from a place on, in a world that is the same
+  module _ (v : World) (old now new : Choosing) (from : Place) (same : v ≡ w) (on : Resumes old now from) (kept : new.refused ≡ false)
+      (offered : OffersAll (OrSkips (IsHadBy v account) Takes) now (unsent v from) new) where
+    turned : Turned now (unsent w from) new
+    turned = one_turn (unsent w from) now new on.ready on.room kept
+        (subst (λ v. OffersAll (OrSkips (IsHadBy v account) Takes) now (unsent v from) new) same offered)
 
-  -- a turn that stopped at a candidate that could not be judged, after more was learned
-  pub turns_go_on : (v : World) (old now new : Choosing) (from : Place) (left : Option Unjudged) (at : Unjudged) (more : Known) → v ≡ w
-      → Resumes old now from → new.refused ≡ false → OffersAll Takes now (unsent v from) new → new.unjudged ≡ Some at → left ≡ None
-      → (IsRight w new.host.now new.known → IsRight w new.host.now more) → Resumes old (record new { unjudged = left; known = more }) at.place
-  turns_go_on v old now new from left at more same on kept h some none_left right =
-      let turn = one_turn (unsent w from) now new on.ready on.room kept (subst (λ v. OffersAll Takes now (unsent v from) new) same h) in
-      elim turn [
-        | inl all ↦ absurd (let never : None ≡ Some at = sym all.1 ∙ some in cc)
-        | inr stopped ↦ resumes_at stopped
-      ]
-    where
-      resumes_at : StoppedAt now (unsent w from) new → Resumes old (record new { unjudged = left; known = more }) at.place
-      resumes_at s =
-          let before = s.before in
-          let at_is : at ≡ unjudged_of s.c = (let same : Some (unjudged_of s.c) ≡ Some at = sym (ap (λ (n : Choosing). n.unjudged) s.is) ∙ some in cc) in
-          let right_then = subst (λ (n : Choosing). IsRight w n.host.now n.known → IsRight w n.host.now more) s.is right in
-          let now_is : record new { unjudged = left; known = more } ≡ record before { known = more } =
-          ap (λ (n : Choosing). record n { unjudged = left; known = more }) s.is
-          ∙ ap (λ (o : Option Unjudged). record before { unjudged = o; known = more }) (none_left ∙ sym s.ready.unjudged) in
-          subst (λ (t : Choosing). Resumes old t at.place) (sym now_is)
-          (subst (λ (p : Place). Resumes old (record before { known = more }) p) (sym (ap (λ (a : Unjudged). a.place) at_is))
-          (record {
-            ready = record { known = right_then s.ready.known; unjudged = s.ready.unjudged };
-            room = s.room;
-            leads = λ last h. on.leads last (s.leads last (knows_more before more s.c s.left last
-                (subst (λ cs. OffersAll (Chooses w) (record before { known = more }) cs last) (resumed w from s.front s.c s.left s.parts) h)));
-          }))
+    ended : new.unjudged ≡ None → OffersAll (Chooses w) now (unsent w from) new × IsReadyFor new
+    ended none = elim turned [
+      | inl all ↦ all
+      | inr stopped ↦ absurd (let never : None ≡ Some (record { place = stopped.c.place; app = stopped.c.unit.app }) = sym none ∙ ap (λ (n : Choosing). n.unjudged) stopped.is in cc)
+    ]
+
+    -- the last turn
+    pub turns_end : (left : Option Unjudged) → is_full old ≡ false → new.unjudged ≡ None → left ≡ None → HasChosen w old (record new { unjudged = left })
+    turns_end left room none none_left = inr (
+      room,
+      subst (λ o. OffersAll (Chooses w) old (unsent w first_place) (record new { unjudged = o })) (none ∙ sym none_left) (on.leads new (ended none).0),
+    )
+
+    -- what is known of the user's past after it is true
+    pub past_is : new.unjudged ≡ None → IsPast w account new.known.past
+    past_is none = let last = (ended none).1 in subst (λ a. IsPast w a new.known.past) last.1 last.0.known.past
+
+    -- a turn that stopped at a candidate that could not be judged, after more was learned
+    pub turns_go_on : (left : Option Unjudged) (at : Unjudged) (more : Known) → new.unjudged ≡ Some at → left ≡ None
+        → (IsRight w new.host.now new.known → IsRight w new.host.now more) → Resumes old (record new { unjudged = left; known = more }) at.place
+    turns_go_on left at more some none_left right = elim turned [
+      | inl all ↦ absurd (let never : None ≡ Some at = sym all.1.0.unjudged ∙ some in cc)
+      | inr stopped ↦ resumes_at stopped
+    ]
+      where
+        resumes_at : StoppedAt now (unsent w from) new → Resumes old (record new { unjudged = left; known = more }) at.place
+        resumes_at s =
+            let before = s.before in
+            let at_is : at ≡ unjudged_of s.c = (let same : Some (unjudged_of s.c) ≡ Some at = sym (ap (λ (n : Choosing). n.unjudged) s.is) ∙ some in cc) in
+            let right_then = subst (λ (n : Choosing). IsRight w n.host.now n.known → IsRight w n.host.now more) s.is right in
+            let now_is : record new { unjudged = left; known = more } ≡ record before { known = more } =
+            ap (λ (n : Choosing). record n { unjudged = left; known = more }) s.is
+            ∙ ap (λ (o : Option Unjudged). record before { unjudged = o; known = more }) (none_left ∙ sym s.ready.0.unjudged) in
+            subst (λ (t : Choosing). Resumes old t at.place) (sym now_is)
+            (subst (λ (p : Place). Resumes old (record before { known = more }) p) (sym (ap (λ (a : Unjudged). a.place) at_is))
+            (record {
+              ready = (record { known = right_then s.ready.0.known; unjudged = s.ready.0.unjudged }, s.ready.1);
+              room = s.room;
+              leads = λ last h. on.leads last (s.leads last (knows_more before more s.c s.left last
+                  (subst (λ cs. OffersAll (Chooses w) (record before { known = more }) cs last) (resumed w from s.front s.c s.left s.parts) h)));
+            }))

@@ -3,3 +3,4 @@ pub mod Chosen
 pub mod Choosing
 pub mod Offered
 pub mod Past
+pub mod Seeking

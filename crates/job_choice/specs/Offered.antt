@@ -1,6 +1,7 @@
 -- Rule. What is known before the first offer and after each stop, and what is then chosen.
 use Rattle.std.specs.Prelude.{◌≡◌, ◌⊎◌, ℕ, ◌-◌, true, false, if◌then◌else◌, [], All, Some, None}
 use Rattle.sched_book.specs.Fits.{version_for}
+use Rattle.sched_book.specs.Skipping.{user_had_at}
 use Rattle.sched_book.specs.Offers.{unsent, OffersAll}
 use Rattle.sched_book.specs.Places.{sent_on_day}
 use Rattle.sched_book.specs.declared.desk.Candidate.{Candidate}
@@ -10,7 +11,7 @@ use Rattle.sched_book.specs.declared.instance.Place.{Place}
 use Rattle.sched_book.specs.declared.rows.HostRow.{HostRow}
 use Rattle.sched_book.specs.declared.world.World.{World}
 use Rattle.job_choice.specs.Choosing.{is_full, has_job_of, after_version}
-use Rattle.job_choice.specs.Past.{user_had_at, IsPast}
+use Rattle.job_choice.specs.Past.{IsPast}
 use Rattle.job_choice.specs.declared.choosing.Choosing.{Choosing}
 use Rattle.job_choice.specs.declared.choosing.Known.{Known}
 use Rattle.job_choice.specs.declared.choosing.KnownApp.{KnownApp}

@@ -1,6 +1,7 @@
 -- Rule. What is known about the workunits that a user had an instance of.
-use Rattle.std.specs.Prelude.{◌≡◌, ℕ, Bool, false, ◌==◌, nat_eq, nat_lt, List, [], ◌∷◌, ◌++◌, length, find, Option, Some, option_map, IfSome}
-use Rattle.sched_book.specs.Places.{option_any, unit_at, user_had}
+use Rattle.std.specs.Prelude.{◌≡◌, ℕ, Bool, true, false, ◌==◌, nat_eq, nat_lt, List, [], ◌∷◌, ◌++◌, length, find, Option, Some, option_map, IfSome}
+use Rattle.std.specs.List.{list_any}
+use Rattle.sched_book.specs.Skipping.{user_had_at}
 use Rattle.sched_book.specs.declared.world.World.{World}
 use Rattle.job_choice.specs.declared.past.LookedAt.{LookedAt}
 use Rattle.job_choice.specs.declared.past.UserPast.{UserPast}
@@ -16,13 +17,14 @@ abbrev pub known_had : UserPast → ℕ → Option Bool
 known_had (InPart looks) unit = option_map (λ l. l.had) (look_of looks unit)
 known_had (Whole had) unit = Some (has_seen nat_eq had unit)
 
--- some instance of the workunit at a place was given to a host of the user
-abbrev pub user_had_at : World → ℕ → ℕ → Bool
-user_had_at w account unit = option_any (user_had w account) (unit_at w unit)
-
 -- what is known of each workunit is true
 abbrev pub IsPast : World → ℕ → UserPast → Type 0
 IsPast w account past = (unit : ℕ) → IfSome (known_had past unit) (λ had. had ≡ user_had_at w account unit)
+
+-- it is known that the user had an instance of some workunit, or all is known
+abbrev pub has_had : UserPast → Bool
+has_had (InPart looks) = list_any (λ l. l.had) looks
+has_had (Whole had) = true
 
 -- how many workunits are looked at one by one
 abbrev pub most_looked_at : ℕ

@@ -5,11 +5,13 @@ ghost use Rattle.sched_book.specs.Fits.{version_for};
 ghost use Rattle.sched_book.specs.Trusted.{Trusted};
 ghost use Rattle.job_choice.specs.Chosen.{IsChoice};
 ghost use Rattle.job_choice.specs.Choosing.{known_runs, can_judge};
-ghost use Rattle.job_choice.specs.Offered.{limits_on, IsRight, IsReady, HasChosen};
+ghost use Rattle.job_choice.specs.Past.{IsPast};
+ghost use Rattle.job_choice.specs.Offered.{first_place, limits_on, IsRight, IsReady, HasChosen};
 
 use crate::choosing::{Choosing, Known, KnownApp, Limits, Unjudged, begin, finish, is_done};
 use crate::granted::Grant;
 use crate::past::{MOST_LOOKED_AT, look_at};
+use crate::seeking::note_had;
 use sched_book::limits::MOST_APPS;
 use sched_book::{Desk, HostRow, Moment, Place, Unavailable, Version};
 use std::alloc::Global;
@@ -18,6 +20,13 @@ use texts::Text;
 /// The most stops of the offers: at each one the choice learns about an application, a workunit, or everything that the
 /// user had.
 const MOST_STOPS: usize = MOST_APPS + MOST_LOOKED_AT + 1;
+
+/// The place of the first instance of the first workunit.
+pub(crate) fn first_place() -> Place
+    ensures { result ≡ first_place }
+{
+    Place { unit: 1, number: 0 }
+}
 
 /// Asks for the limits on the jobs of a host on this day.
 fn read_limits<D: Desk>(
@@ -126,13 +135,17 @@ fn offer_all<D: Desk>(
     ensures reads { D.reads desk.old desk.new }
     ensures answer { Trusted D.Units desk.old desk.new (
         OnOk result (IsReady (D.world desk.old) choosing.old → HasChosen (D.world desk.old) choosing.old choosing.new)) }
+    ensures past { Trusted D.Units desk.old desk.new (
+        OnOk result (IsReady (D.world desk.old) choosing.old
+        → IsPast (D.world desk.old) choosing.old.host.now.account choosing.new.known.past)) }
 {
     if is_done(choosing) {
         return Ok(());
     }
-    let mut from = Place { unit: 1, number: 0 };
+    let account = choosing.host.account;
+    let mut from = first_place();
     for _ in 0..=MOST_STOPS {
-        desk.unsent_from(from, choosing)?;
+        desk.unsent_for(account, from, choosing)?;
         if choosing.refused {
             return Err(Unavailable);
         }
@@ -175,5 +188,6 @@ pub fn choose<D: Desk>(
     let limits = read_limits(alloc, desk, number, host, held, now.day())?;
     let mut choosing = begin(alloc, host, limits, still_wanted(asked, before));
     offer_all(alloc, desk, &mut choosing)?;
+    note_had(desk, host.account, &choosing.known.past)?;
     Ok(finish(choosing))
 }

@@ -12,6 +12,7 @@ pub mod fitting;
 pub mod granted;
 pub mod laws;
 mod past;
+mod seeking;
 
 pub use choice::{choose, version_for};
 pub use fitting::{estimate, fits, seconds_at};

@@ -5,7 +5,8 @@ ghost use Rattle.std.specs.List.{list_any};
 ghost use Rattle.std.specs.Option.{option_copied};
 ghost use Rattle.sched_book.specs.Places.{is_of_user};
 ghost use Rattle.sched_book.specs.Trusted.{Trusted};
-ghost use Rattle.job_choice.specs.Past.{look_of, known_had, may_look, with_look, user_had_at, IsPast};
+ghost use Rattle.sched_book.specs.Skipping.{user_had_at};
+ghost use Rattle.job_choice.specs.Past.{look_of, known_had, has_had, may_look, with_look, IsPast};
 ghost use Rattle.job_choice.specs.declared.past.UserPast.TheVariants.{Whole};
 
 use sched_book::{Desk, Instance, Unavailable};
@@ -40,6 +41,13 @@ fn find_look(looks: &[LookedAt], unit: u32) -> Option<&LookedAt>
     looks.iter().find(|look| look.unit == unit)
 }
 
+/// Whether the user had an instance of a workunit that was looked at.
+fn had_any(looks: &[LookedAt]) -> bool
+    ensures { result ≡ list_any (λ (l : LookedAt). l.had) looks.now }
+{
+    looks.iter().any(|look| look.had)
+}
+
 impl UserPast {
     /// Whether the user had an instance of the workunit at this place; `None` if that is not known.
     pub(crate) fn user_had(&self, unit: u32) -> Option<bool>
@@ -48,6 +56,16 @@ impl UserPast {
         match self {
             UserPast::InPart(looks) => find_look(looks.as_slice(), unit).map(|look| look.had),
             UserPast::Whole(had) => Some(had.has(&unit)),
+        }
+    }
+
+    /// Whether it is known that the user had an instance of some workunit, or everything is known.
+    pub(crate) fn has_had(&self) -> bool
+        ensures { result ≡ has_had self.now }
+    {
+        match self {
+            UserPast::InPart(looks) => had_any(looks.as_slice()),
+            UserPast::Whole(_) => true,
         }
     }
 

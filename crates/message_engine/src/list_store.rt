@@ -271,6 +271,21 @@ impl Desk for ListStore {
     fn unsent_from<T: Taker>(&mut self, from: Place, taker: &mut T) -> Result<(), Unavailable> {
         self.desk.unsent_from(from, taker)
     }
+
+    fn unsent_for<T: Taker>(
+        &mut self,
+        account: u32,
+        from: Place,
+        taker: &mut T,
+    ) -> Result<(), Unavailable> {
+        self.desk.unsent_for(account, from, taker)
+    }
+
+    fn note_had(&mut self, account: u32, before: Place)
+        ensures reads { self.new ≡ self.old }
+    {
+        self.desk.note_had(account, before);
+    }
 }
 
 impl Store for ListStore {

@@ -17,6 +17,7 @@ pub mod Classes
 pub mod Former
 pub mod Sound
 pub mod Offers
+pub mod Skipping
 pub mod Delta
 pub mod Desk
 pub mod Trusted

@@ -42,6 +42,10 @@ module _ {T : Type 0} (takes : T → Candidate → Flow → T → Type 0) where
   OffersSome old [] new = new ≡ old
   OffersSome old (c ∷ cs) new = (new ≡ old) ⊎ takes old c Stop new ⊎ ((mid : T) × takes old c GoOn mid × OffersSome mid cs new)
 
+-- It is an offer, or the candidate is skipped, if it may be: nothing happens, and the offers go on.
+abbrev pub OrSkips : {T : Type 0} → (Candidate → Type 0) → (T → Candidate → Flow → T → Type 0) → T → Candidate → Flow → T → Type 0
+OrSkips May takes old c flow new = takes old c flow new ⊎ (May c × (flow ≡ GoOn) × (new ≡ old))
+
 module _ {T : Type 0} (takes : T → Candidate → Flow → T → Type 0) where
   -- If the taker is `now` and these candidates are left, what it makes of them is what `old` makes of all.
   pub record Leads (old : T) (all : List Candidate) (now : T) (left : List Candidate) : Type 0 where

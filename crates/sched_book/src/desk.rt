@@ -4,7 +4,8 @@ ghost use Rattle.std.specs.Prelude.{◌≡◌, ◌≤◌, length, IsTrue, IfOk, 
 ghost use Rattle.sched_book.specs.Limits.{most_instances};
 ghost use Rattle.sched_book.specs.Places.{instance_at, host_at, unit_named, known_host, held_by, owned_by, overdue, sent_on_day, host_credit, user_credit};
 ghost use Rattle.sched_book.specs.Fits.{version_at};
-ghost use Rattle.sched_book.specs.Offers.{unsent, OffersAll, OffersSome};
+ghost use Rattle.sched_book.specs.Offers.{unsent, OffersAll, OffersSome, OrSkips};
+ghost use Rattle.sched_book.specs.Skipping.{HadAllBefore, IsHadBy};
 ghost use Rattle.sched_book.specs.Desk.{counts, account_by_key, app_by_name, workunit_at, agreement_at, unit_status, instances_at, units_of_user, version_by_key};
 ghost use Rattle.sched_book.specs.declared.world.World.{World};
 
@@ -260,4 +261,26 @@ pub trait Desk: Units {
             OnOk result (OffersAll T.takes taker.old (unsent (Self.world self.old) from) taker.new)) }
         ensures some { Trusted Self.Units self.old self.new (
             OnErr result (OffersSome T.takes taker.old (unsent (Self.world self.old) from) taker.new)) };
+
+    /// Offers the same as `unsent_from`, but may skip instances of workunits that the user of this account had an instance
+    /// of. So the desk need not look at them each time.
+    fn unsent_for<T: Taker>(
+        &mut self,
+        account: u32,
+        from: Place,
+        taker: &mut T,
+    ) -> Result<(), Unavailable>
+        ensures reads { Self.reads self.old self.new }
+        ensures all { Trusted Self.Units self.old self.new (
+            OnOk result (OffersAll (OrSkips (IsHadBy (Self.world self.old) account) T.takes) taker.old (unsent (Self.world self.old) from) taker.new)) }
+        ensures some { Trusted Self.Units self.old self.new (
+            OnErr result (OffersSome (OrSkips (IsHadBy (Self.world self.old) account) T.takes) taker.old (unsent (Self.world self.old) from) taker.new)) };
+
+    /// Takes note that before this place, each instance that waits is of a workunit that the user of this account had an
+    /// instance of. `unsent_for` may then begin there. If that is true, nothing changes that a later call could show: it
+    /// is a read, together with what was read since `begun`.
+    fn note_had(&mut self, account: u32, before: Place)
+        ensures honest { Self.honest self.new → Self.honest self.old }
+        ensures reads { (begun : Self) → Self.reads begun self.old
+            → Trusted Self.Units begun self.new (HadAllBefore (Self.world begun) account before) → Self.reads begun self.new };
 }

@@ -299,4 +299,18 @@ impl Desk for ListDesk {
     fn unsent_from<T: Taker>(&mut self, from: Place, taker: &mut T) -> Result<(), Unavailable> {
         Ok(offer_all(&self.world, from, taker)?)
     }
+
+    #[tactic(auto, using(crate::proofs::Offering::all_kept, crate::proofs::Offering::some_kept))]
+    fn unsent_for<T: Taker>(
+        &mut self,
+        _account: u32,
+        from: Place,
+        taker: &mut T,
+    ) -> Result<(), Unavailable> {
+        Ok(offer_all(&self.world, from, taker)?)
+    }
+
+    fn note_had(&mut self, _account: u32, _before: Place)
+        ensures reads { self.new ≡ self.old }
+    {}
 }

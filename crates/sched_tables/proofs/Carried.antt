@@ -1,6 +1,6 @@
 -- What is still remembered after rows were put is what the world then has.
 use Rattle.std.proofs.Common.{◌≡◌, ℕ, suc, ◌+◌, Bool, true, false, true≢false, cond, eqb, arith, option_map, length, ◌||◌, List, [], ◌∷◌, ◌++◌, Option, Some, None, refl, sym, subst, ◌∙◌, inl, inr, ap}
-use Rattle.std.specs.Prelude.{◌⊎◌, All, IfSome, get_or, option_and_then, slice_get}
+use Rattle.std.specs.Prelude.{◌⊎◌, All, IfSome, fold, get_or, option_and_then, slice_get}
 use Rattle.std.specs.Cmp.Lexicographic.{slice_cmp}
 use Rattle.std.specs.List.{list_any, cons_option, AllByRecursion}
 use Rattle.std.specs.Ordering.{nat_cmp}
@@ -23,6 +23,7 @@ use Rattle.sched_book.proofs.ByPlace.{same_by_index}
 use Rattle.table_desk.specs.Columns.{counted_host_at}
 use Rattle.table_desk.specs.FirstPage.{IsFirstPageOf}
 use Rattle.table_desk.specs.declared.hosts.CountedHost.{CountedHost}
+use Rattle.table_meaning.specs.declared.rows.StoredInstance.{StoredInstance}
 use Rattle.table_meaning.specs.declared.rows.StoredRow.{StoredRow}
 use Rattle.table_meaning.specs.declared.rows.StoredRow.TheVariants as stored
 use Rattle.table_meaning.specs.Rows.{RowKey, host_key, instance_key, kept_key, batch_key, key_of, same_key}
@@ -40,12 +41,13 @@ use Rattle.stores.specs.declared.entry.Entry.TheVariants as entry
 use Rattle.sched_tables.specs.Commits.{ArePut}
 use Rattle.sched_tables.specs.Entries.{IsRowOf, ArePutWith}
 use Rattle.sched_tables.specs.Carrying.{IsOtherKey, IsUnput, IsPut, IsStillKnown, job_of, counted_of, with_host, with_hosts, with_job, with_jobs, shares, sent_among, AreCarried, AreOfHosts, AreOfJobs}
+use Rattle.sched_tables.specs.Covering.{jobs_of, waiting_of, with_wait, with_waits, AreSkipsFor}
 use Rattle.sched_tables.specs.Remembering.{IsAccountOf, IsVersionOf, IsSlotOf, AreRemembered}
 use Rattle.sched_tables.specs.RowsRead.{HoldOfEach, AreSome}
 use Rattle.sched_tables.specs.declared.remembered.Remembered.{Remembered}
 use Rattle.sched_tables.specs.declared.remembered.VersionRead.{VersionRead}
 use Rattle.sched_tables.specs.declared.rows_read.RowsRead.{RowsRead}
-use Rattle.sched_tables.proofs.ToldByRows.{same_accounts, same_apps, same_versions, same_workunit, same_host, host_told, job_told}
+use Rattle.sched_tables.proofs.ToldByRows.{same_accounts, same_apps, same_versions, same_workunit, same_host, queued_of, host_told, job_told, waiting_told}
 use Rattle.sched_tables.proofs.CreditMoves.{credit_shared}
 use Rattle.sched_tables.proofs.SentMoves.{most_numbers, sent_shared}
 
@@ -175,6 +177,19 @@ module _ (rows : List StoredRow) (r : StoredRow) where
     ];
   }
 
+-- ---- what rows that are put tell of one key
+
+-- it is what it was, if its row stays, and else what the row that is put tells
+known_after : {X T : Type 0} (told : StoredRow → X) (k : RowKey) (put : T → StoredRow → T) (at : T → Option X) → ((r : StoredRow) (t : T) → IsStillKnown (IsOtherKey r) (λ s. s ≡ r) told k (at t) (at (put t r)))
+    → (rows : List StoredRow) (first : T) → IsStillKnown (IsUnput rows) (IsPut rows) told k (at first) (at (fold put first rows))
+known_after {X} {T} told k put at one rows first = go rows [] first (inl (tt, refl))
+  where
+    go : (left done : List StoredRow) (now : T) → IsStillKnown (IsUnput done) (IsPut done) told k (at first) (at now) → IsStillKnown (IsUnput (done ++ left)) (IsPut (done ++ left)) told k (at first) (at (fold put now left))
+    go [] done now known = subst (λ rs. IsStillKnown (IsUnput rs) (IsPut rs) told k (at first) (at now)) (sym (append-nil done)) known
+    go (r ∷ left) done now known =
+        let then = known_on done r told k (at first) (at now) (at (put now r)) known (one r now) in
+        subst (λ rs. IsStillKnown (IsUnput rs) (IsPut rs) told k (at first) (at (fold put now (r ∷ left)))) (append_assoc done (r ∷ []) left) (go left (done ++ r ∷ []) (put now r) then)
+
 -- ---- hosts of rows that are put
 
 -- the host of a number is the one that was there, if its row stays, or else that of a row that is put
@@ -202,14 +217,7 @@ one_host (stored.VersionClass row) hosts number = inl ((λ same. absurd cc), ref
 one_host (stored.UnitMark row) hosts number = inl ((λ same. absurd cc), refl)
 
 pub host_known : (rows : List StoredRow) (hosts : ℕ → Option CountedHost) (number : ℕ) → IsStillKnown (IsUnput rows) (IsPut rows) counted_of (host_key number) (hosts number) (with_hosts hosts rows number)
-host_known rows hosts number = go rows [] hosts (inl (tt, refl))
-  where
-    go : (left done : List StoredRow) (now : ℕ → Option CountedHost) → IsStillKnown (IsUnput done) (IsPut done) counted_of (host_key number) (hosts number) (now number)
-        → IsStillKnown (IsUnput (done ++ left)) (IsPut (done ++ left)) counted_of (host_key number) (hosts number) (with_hosts now left number)
-    go [] done now known = subst (λ rs. IsStillKnown (IsUnput rs) (IsPut rs) counted_of (host_key number) (hosts number) (now number)) (sym (append-nil done)) known
-    go (r ∷ left) done now known =
-        let then = known_on done r counted_of (host_key number) (hosts number) (now number) (with_host now r number) known (one_host r now number) in
-        subst (λ rs. IsStillKnown (IsUnput rs) (IsPut rs) counted_of (host_key number) (hosts number) (with_hosts now (r ∷ left) number)) (append_assoc done (r ∷ []) left) (go left (done ++ r ∷ []) (with_host now r) then)
+host_known rows hosts number = known_after counted_of (host_key number) with_host (λ (hs : ℕ → Option CountedHost). hs number) (λ r hs. one_host r hs number) rows hosts
 
 -- what is known of a world's hosts and of the credit of their users is theirs
 pub known_of_world : (w : World) (calls : SlotCalls) (r : Remembered) → AreRemembered w calls r → AreOfHosts (counted_host_at w) r.hosts r.credits
@@ -226,15 +234,20 @@ number_of_job : RowKey → ℕ
 number_of_job (instance_key unit number) = number
 number_of_job other = 0
 
-one_job : (r : StoredRow) (jobs : ℕ → ℕ → Option Job) (unit number : ℕ) → IsStillKnown (IsOtherKey r) (λ s. s ≡ r) job_of (instance_key unit number) (jobs unit number) (with_job jobs r unit number)
+one_instance : {X : Type 0} (told : StoredRow → X) (row : StoredInstance) (known : ℕ → ℕ → Option X) (unit number : ℕ)
+    → IsStillKnown (IsOtherKey (stored.Instance row)) (λ s. s ≡ stored.Instance row) told (instance_key unit number) (known unit number)
+    (cond (eqb row.unit_id unit) (cond (eqb row.num number) (Some (told (stored.Instance row))) (known unit number)) (known unit number))
 unfolding unit_of_job number_of_job
-one_job (stored.Instance row) jobs unit number = cases (eqb row.unit_id unit) refl (eqb row.num number) refl
+one_instance told row known unit number = cases (eqb row.unit_id unit) refl (eqb row.num number) refl
   where
     cases : (b : Bool) → eqb row.unit_id unit ≡ b → (c : Bool) → eqb row.num number ≡ c
-        → IsStillKnown (IsOtherKey (stored.Instance row)) (λ s. s ≡ stored.Instance row) job_of (instance_key unit number) (jobs unit number) (cond b (cond c (Some (job_of (stored.Instance row))) (jobs unit number)) (jobs unit number))
+        → IsStillKnown (IsOtherKey (stored.Instance row)) (λ s. s ≡ stored.Instance row) told (instance_key unit number) (known unit number) (cond b (cond c (Some (told (stored.Instance row))) (known unit number)) (known unit number))
     cases true unit_is true number_is = inr (stored.Instance row, refl, (λ i. instance_key (eqb-true row.unit_id unit unit_is i) (eqb-true row.num number number_is i)), refl)
     cases true unit_is false number_is = inl ((λ same. true≢false (sym (eq-eqb row.num number (ap number_of_job same)) ∙ number_is)), refl)
     cases false unit_is c number_is = inl ((λ same. true≢false (sym (eq-eqb row.unit_id unit (ap unit_of_job same)) ∙ unit_is)), refl)
+
+one_job : (r : StoredRow) (jobs : ℕ → ℕ → Option Job) (unit number : ℕ) → IsStillKnown (IsOtherKey r) (λ s. s ≡ r) job_of (instance_key unit number) (jobs unit number) (with_job jobs r unit number)
+one_job (stored.Instance row) jobs unit number = one_instance job_of row jobs unit number
 one_job (stored.Host row) jobs unit number = inl ((λ same. absurd cc), refl)
 one_job (stored.Setting row) jobs unit number = inl ((λ same. absurd cc), refl)
 one_job (stored.Account row) jobs unit number = inl ((λ same. absurd cc), refl)
@@ -247,18 +260,24 @@ one_job (stored.VersionClass row) jobs unit number = inl ((λ same. absurd cc), 
 one_job (stored.UnitMark row) jobs unit number = inl ((λ same. absurd cc), refl)
 
 pub job_known : (rows : List StoredRow) (jobs : ℕ → ℕ → Option Job) (unit number : ℕ) → IsStillKnown (IsUnput rows) (IsPut rows) job_of (instance_key unit number) (jobs unit number) (with_jobs jobs rows unit number)
-job_known rows jobs unit number = go rows [] jobs (inl (tt, refl))
-  where
-    go : (left done : List StoredRow) (now : ℕ → ℕ → Option Job) → IsStillKnown (IsUnput done) (IsPut done) job_of (instance_key unit number) (jobs unit number) (now unit number)
-        → IsStillKnown (IsUnput (done ++ left)) (IsPut (done ++ left)) job_of (instance_key unit number) (jobs unit number) (with_jobs now left unit number)
-    go [] done now known = subst (λ rs. IsStillKnown (IsUnput rs) (IsPut rs) job_of (instance_key unit number) (jobs unit number) (now unit number)) (sym (append-nil done)) known
-    go (r ∷ left) done now known =
-        let then = known_on done r job_of (instance_key unit number) (jobs unit number) (now unit number) (with_job now r unit number) known (one_job r now unit number) in
-        subst (λ rs. IsStillKnown (IsUnput rs) (IsPut rs) job_of (instance_key unit number) (jobs unit number) (with_jobs now (r ∷ left) unit number)) (append_assoc done (r ∷ []) left) (go left (done ++ r ∷ []) (with_job now r) then)
+job_known rows jobs unit number = known_after job_of (instance_key unit number) with_job (λ (js : ℕ → ℕ → Option Job). js unit number) (λ r js. one_job r js unit number) rows jobs
 
--- the jobs of a world
-abbrev pub jobs_of : World → ℕ → ℕ → Option Job
-jobs_of w unit number = slice_get (instances_at w unit) number
+-- the same of whether it waits
+one_wait : (r : StoredRow) (waiting : ℕ → ℕ → Option Bool) (unit number : ℕ) → IsStillKnown (IsOtherKey r) (λ s. s ≡ r) queued_of (instance_key unit number) (waiting unit number) (with_wait waiting r unit number)
+one_wait (stored.Instance row) waiting unit number = one_instance queued_of row waiting unit number
+one_wait (stored.Host row) waiting unit number = inl ((λ same. absurd cc), refl)
+one_wait (stored.Setting row) waiting unit number = inl ((λ same. absurd cc), refl)
+one_wait (stored.Account row) waiting unit number = inl ((λ same. absurd cc), refl)
+one_wait (stored.App row) waiting unit number = inl ((λ same. absurd cc), refl)
+one_wait (stored.Version row) waiting unit number = inl ((λ same. absurd cc), refl)
+one_wait (stored.Unit row) waiting unit number = inl ((λ same. absurd cc), refl)
+one_wait (stored.Kept row) waiting unit number = inl ((λ same. absurd cc), refl)
+one_wait (stored.Batch row) waiting unit number = inl ((λ same. absurd cc), refl)
+one_wait (stored.VersionClass row) waiting unit number = inl ((λ same. absurd cc), refl)
+one_wait (stored.UnitMark row) waiting unit number = inl ((λ same. absurd cc), refl)
+
+pub wait_known : (rows : List StoredRow) (waiting : ℕ → ℕ → Option Bool) (unit number : ℕ) → IsStillKnown (IsUnput rows) (IsPut rows) queued_of (instance_key unit number) (waiting unit number) (with_waits waiting rows unit number)
+wait_known rows waiting unit number = known_after queued_of (instance_key unit number) with_wait (λ (ws : ℕ → ℕ → Option Bool). ws unit number) (λ r ws. one_wait r ws unit number) rows waiting
 
 -- what is known of a world's instances and of how many its hosts were sent is theirs
 pub jobs_of_world : (w : World) (calls : SlotCalls) (r : Remembered) → AreRemembered w calls r → AreOfJobs (jobs_of w) r.instances r.sent
@@ -280,7 +299,8 @@ module _ (w w' : World) (readable : IsReadable w) (readable' : IsReadable w') (S
     (Puts : StoredRow → Type 0) (put : (r : StoredRow) (k : WorldKey) → Puts r → key_of r ≡ row_key k → row_in w' k ≡ Some r)
     (hosts : ℕ → Option CountedHost) (known : (n : ℕ) → IsStillKnown Stays Puts counted_of (host_key n) (counted_host_at w n) (hosts n))
     (jobs : ℕ → ℕ → Option Job) (jobs_known : (n num : ℕ) → IsStillKnown Stays Puts job_of (instance_key n num) (jobs_of w n num) (jobs n num))
-    (calls calls' : SlotCalls) (old new : Remembered) (of_hosts : AreOfHosts hosts new.hosts new.credits) (of_jobs : AreOfJobs jobs new.instances new.sent) (left : AreCarried Stays old new) (none : new.slot ≡ None) (no_page : new.page ≡ None) (before : AreRemembered w calls old) where
+    (waiting : ℕ → ℕ → Option Bool) (waits_known : (n num : ℕ) → IsStillKnown Stays Puts queued_of (instance_key n num) (waiting_of w n num) (waiting n num))
+    (calls calls' : SlotCalls) (old new : Remembered) (of_hosts : AreOfHosts hosts new.hosts new.credits) (of_jobs : AreOfJobs jobs new.instances new.sent) (of_skips : AreSkipsFor waiting jobs hosts new.skips) (left : AreCarried Stays old new) (none : new.slot ≡ None) (no_page : new.page ≡ None) (before : AreRemembered w calls old) where
   apps_stay : ((id : ℕ) → Stays (row_key (key.App id))) → w.apps ≡ w'.apps
   apps_stay unput = same_apps w w' readable readable' (λ n. stay (key.App n) (unput n))
 
@@ -301,6 +321,12 @@ module _ (w w' : World) (readable : IsReadable w) (readable' : IsReadable w') (S
   jobs_then n num = elim (jobs_known n num) [
     | inl still ↦ still.1 ∙ job_told w readable n num ∙ ap (option_map job_of) (stay (key.Instance (record { unit = n; number = num })) still.0) ∙ sym (job_told w' readable' n num)
     | inr told ↦ told.3 ∙ sym (ap (option_map job_of) (put told.0 (key.Instance (record { unit = n; number = num })) told.1 told.2)) ∙ sym (job_told w' readable' n num)
+  ]
+
+  waits_then : (n num : ℕ) → waiting n num ≡ waiting_of w' n num
+  waits_then n num = elim (waits_known n num) [
+    | inl still ↦ still.1 ∙ waiting_told w n num ∙ ap (option_map queued_of) (stay (key.Instance (record { unit = n; number = num })) still.0) ∙ sym (waiting_told w' n num)
+    | inr told ↦ told.3 ∙ sym (ap (option_map queued_of) (put told.0 (key.Instance (record { unit = n; number = num })) told.1 told.2)) ∙ sym (waiting_told w' n num)
   ]
 
   are_then : (n : ℕ) → hosts n ≡ counted_host_at w' n
@@ -329,4 +355,8 @@ module _ (w w' : World) (readable : IsReadable w) (readable' : IsReadable w') (S
     versions = versions_left old.versions.items new.versions.items left.versions before.versions;
     slot = subst (λ o. IfSome o (IsSlotOf calls')) (sym none) tt;
     page = subst (λ o. IfSome o (IsFirstPageOf w')) (sym no_page) tt;
+    skips =
+        subst (λ (ws : ℕ → ℕ → Option Bool). AreSkipsFor ws (jobs_of w') (counted_host_at w') new.skips) (λ i n num. waits_then n num i)
+        (subst (λ (js : ℕ → ℕ → Option Job). AreSkipsFor waiting js (counted_host_at w') new.skips) (λ i n num. jobs_then n num i)
+        (subst (λ (hs : ℕ → Option CountedHost). AreSkipsFor waiting jobs hs new.skips) (λ i n. are_then n i) of_skips));
   }

@@ -1,9 +1,11 @@
 pub mod FourKept
+pub mod HadBy
 pub mod EntriesKept
 pub mod Carried
 pub mod Leads
 pub mod DueFromStays
 pub mod NewTables
+pub mod NoneRemembered
 pub mod Offered
 pub mod Opened
 pub mod Refusals
@@ -16,6 +18,7 @@ pub mod Upgraded
 pub mod UpgradedTexts
 pub mod TextsKept
 pub mod CreditMoves
+pub mod SkipMoves
 pub mod SentMoves
 mod AppsBrought
 mod Memory

@@ -1,5 +1,5 @@
 -- How many jobs a host was sent on a day moves with the jobs.
-use Rattle.std.proofs.Common.{◌≡◌, ◌<◌, ◌≤◌, ◌+◌, ◌-◌, ◌/◌, ◌&&◌, ℕ, zero, suc, Bool, true, false, cond, eqb, arith, List, [], ◌∷◌, length, sum_by, count_by, Option, Some, None, refl, sym, ◌∙◌, inl, inr, ap}
+use Rattle.std.proofs.Common.{◌≡◌, ◌<◌, ◌≤◌, ◌+◌, ◌-◌, ◌/◌, ◌&&◌, ℕ, zero, suc, Bool, true, false, cond, eqb, arith, List, [], ◌∷◌, ◌++◌, length, sum_by, count_by, Option, Some, None, refl, sym, ◌∙◌, inl, inr, ap}
 use Rattle.std.specs.Prelude.{option_and_then, option_map, slice_get, slice_set, unwrap_or}
 use Rattle.std.specs.BTreeMap.{get}
 use Rattle.std.specs.List.{range_with_len}
@@ -134,6 +134,16 @@ got_of_set (y ∷ ys) (suc i) (suc j) x within = got_of_set ys i j x (omega arit
 
 pub is_renewed : (number : ℕ) (x : Instance) (old : List Instance) → number < length old → IsRenewed number x old (slice_set old number x)
 is_renewed number x old within = λ at. got_of_set old number at x within
+
+-- what is at an index after one element was added
+got_of_push : {X : Type 0} (xs : List X) (x : X) (j : ℕ) → slice_get (xs ++ x ∷ []) j ≡ cond (eqb (length xs) j) (Some x) (slice_get xs j)
+got_of_push [] x zero = refl
+got_of_push [] x (suc j) = sym (ap (λ (b : Bool). cond b (Some x) None) (eqb-zero-suc j))
+got_of_push (y ∷ ys) x zero = sym (ap (λ (b : Bool). cond b (Some x) (Some y)) (eqb-suc-zero (length ys)))
+got_of_push (y ∷ ys) x (suc j) = got_of_push ys x j ∙ sym (ap (λ (b : Bool). cond b (Some x) (slice_get ys j)) (eqb-suc-suc (length ys) j))
+
+pub is_next : (number : ℕ) (x : Instance) (old : List Instance) → number ≡ length old → IsRenewed number x old (old ++ x ∷ [])
+is_next number x old next = λ at. got_of_push old x at ∙ ap (λ n. cond (eqb n at) (Some x) (slice_get old at)) (sym next)
 
 abbrev AreKnown : (ℕ → ℕ → Option Instance) → RowsRead ℕ (List Instance) → Type 0
 AreKnown jobs known = HoldOfEach nat_cmp (λ unit xs. (number : ℕ) → slice_get xs number ≡ jobs unit number) known

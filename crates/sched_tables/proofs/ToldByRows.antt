@@ -1,10 +1,12 @@
 -- What a world has at a place follows from its rows there. So worlds with the same rows there have the same.
-use Rattle.std.proofs.Common.{◌≡◌, ℕ, true, List, [], length, Option, Some, None, option_map, refl, sym, ap, ◌∙◌}
-use Rattle.std.specs.Prelude.{◌≤◌, All, option_and_then, slice_get, unwrap_or}
+use Rattle.std.proofs.Common.{◌≡◌, ℕ, Bool, true, false, ◌&&◌, List, [], length, Option, Some, None, option_map, refl, sym, ap, ◌∙◌}
+use mathlib.Core.Bool.{and_comm}
+use Rattle.std.specs.Prelude.{◌≤◌, All, is_none, option_and_then, slice_get, unwrap_or}
 use Rattle.sched_book.proofs.ByPlace.{same_by_place}
+use Rattle.sched_book.specs.Count.{is_open}
 use Rattle.sched_book.specs.Desk.{workunit_at, instances_at}
 use Rattle.sched_book.specs.Imports.{has_app}
-use Rattle.sched_book.specs.Places.{nth, unit_at, host_at, held_by, host_credit}
+use Rattle.sched_book.specs.Places.{nth, status_of, unit_at, host_at, held_by, host_credit}
 use Rattle.sched_book.specs.declared.instance.Instance.{Instance as Job}
 use Rattle.sched_book.specs.declared.instance.UnitBook.{UnitBook}
 use Rattle.sched_book.specs.declared.rows.Account.{Account}
@@ -14,16 +16,18 @@ use Rattle.sched_book.specs.declared.rows.Version.{Version}
 use Rattle.sched_book.specs.declared.rows.Workunit.{Workunit}
 use Rattle.sched_book.specs.declared.world.World.{World}
 use Rattle.table_desk.specs.Columns.{counted_host_at}
+use Rattle.table_desk.proofs.Waiting.{open_code}
 use Rattle.table_meaning.specs.declared.rows.StoredRow.{StoredRow}
 use Rattle.table_meaning.specs.declared.rows.StoredRow.TheVariants as stored
 use Rattle.table_meaning.specs.Rows.{columns_of}
-use Rattle.table_meaning.specs.Worlds.{account_row, app_row, version_row, class_row, unit_row, mark_row, host_row, instance_row}
+use Rattle.table_meaning.specs.Worlds.{account_row, app_row, version_row, class_row, unit_row, mark_row, host_row, instance_row, is_queued}
 use Rattle.table_worlds.proofs.ByPlace.{all_nth}
 use Rattle.table_worlds.proofs.ReadBack.{app_back, version_back, unit_back, host_back, job_back}
 use Rattle.table_worlds.specs.Keys.{row_in}
 use Rattle.table_worlds.specs.ReadBack.{account_in, app_in, version_in, unit_in}
 use Rattle.table_worlds.specs.Readable.{IsReadable}
 use Rattle.sched_tables.specs.Carrying.{job_of, counted_of}
+use Rattle.sched_tables.specs.Covering.{waiting_of}
 use Rattle.table_worlds.specs.declared.keys.WorldKey.TheVariants.{Account as account_at, App as app_at, Version as version_at, Class as class_at, Unit as unit_key_at, Mark as mark_at, Host as host_key_at, Instance as job_at}
 use Rattle.texts.specs.Words.{IsWord}
 
@@ -41,9 +45,31 @@ version_of apps row class = option_and_then (λ r. option_map (λ c. version_in 
 abbrev workunit_of : List App → Option StoredRow → Option StoredRow → Option Workunit
 workunit_of apps row mark = option_and_then (λ r. option_map (λ m. unit_in apps (columns_of r) (columns_of m)) mark) row
 
+-- whether the instance of a row waits
+abbrev pub queued_of : StoredRow → Bool
+queued_of (stored.Instance row) = row.queued
+queued_of other = false
+
 -- ---- lists by what is at each place
 
 -- ---- a world follows from its rows
+
+pub waiting_told : (w : World) (unit num : ℕ) → waiting_of w unit num ≡ option_map queued_of (row_in w (job_at (record { unit = unit; number = num })))
+waiting_told w unit num = go (unit_at w unit)
+  where
+    of_job : (b : UnitBook) (x : Job) → (is_open (status_of w b) && is_none x.owner) ≡ is_queued w b x
+    of_job b x = and_comm (is_open (status_of w b)) (is_none x.owner) ∙ ap (λ t. is_none x.owner && t) (sym (open_code (status_of w b)))
+
+    of_book : (b : UnitBook) (o : Option Job)
+        → option_map (λ (x : Job). is_open (status_of w b) && is_none x.owner) o ≡ option_map queued_of (option_map (λ (x : Job). stored.Instance (instance_row w b unit num x)) o)
+    of_book b None = refl
+    of_book b (Some x) = ap Some (of_job b x)
+
+    go : (o : Option UnitBook)
+        → option_and_then (λ (b : UnitBook). option_map (λ (x : Job). is_open (status_of w b) && is_none x.owner) (slice_get b.instances num)) o
+        ≡ option_map queued_of (option_and_then (λ (b : UnitBook). option_map (λ (x : Job). stored.Instance (instance_row w b unit num x)) (slice_get b.instances num)) o)
+    go None = refl
+    go (Some b) = of_book b (slice_get b.instances num)
 
 module _ (w : World) (readable : IsReadable w) where
   account_told : (n : ℕ) → nth w.accounts n ≡ option_map account_of (row_in w (account_at n))

@@ -3,6 +3,7 @@ pub mod Commits
 pub mod Entries
 pub mod Held
 pub mod Carrying
+pub mod Covering
 pub mod Offering
 pub mod DueFrom
 pub mod Refusals

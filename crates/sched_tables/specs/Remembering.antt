@@ -11,6 +11,7 @@ use Rattle.sched_book.specs.declared.world.World.{World}
 use Rattle.table_desk.specs.Columns.{counted_host_at}
 use Rattle.table_desk.specs.FirstPage.{IsFirstPageOf}
 use Rattle.table_meaning.specs.Worlds.{SlotCalls}
+use Rattle.sched_tables.specs.Covering.{jobs_of, waiting_of, AreSkipsFor}
 use Rattle.sched_tables.specs.RowsRead.{HoldOfEach}
 use Rattle.sched_tables.specs.Slots.{IsSlotFor}
 use Rattle.sched_tables.specs.declared.remembered.AccountRead.{AccountRead}
@@ -52,3 +53,4 @@ pub record AreRemembered (w : World) (calls : SlotCalls) (r : Remembered) : Type
   pub versions : All (IsVersionOf w) r.versions.items
   pub slot : IfSome r.slot (IsSlotOf calls)
   pub page : IfSome r.page (IsFirstPageOf w)
+  pub skips : AreSkipsFor (waiting_of w) (jobs_of w) (counted_host_at w) r.skips

@@ -200,9 +200,19 @@ impl<S: Alter> Desk for Tables<S> {
     }
 
     fn unsent_from<T: Taker>(&mut self, from: Place, taker: &mut T) -> Result<(), Unavailable> {
-        let mut noted = Vec::new(self.alloc);
-        let offered = self.offer_from(from, taker, &mut noted);
-        self.remembered.remember_units(noted.as_slice());
-        offered
+        self.offer_and_note(None, from, taker)
+    }
+
+    fn unsent_for<T: Taker>(
+        &mut self,
+        account: u32,
+        from: Place,
+        taker: &mut T,
+    ) -> Result<(), Unavailable> {
+        self.offer_and_note(Some(account), from, taker)
+    }
+
+    fn note_had(&mut self, account: u32, before: Place) {
+        self.remember_had(account, before);
     }
 }

@@ -11,6 +11,7 @@ mod opening;
 mod reading;
 mod remembered;
 mod rows_read;
+mod skips;
 mod store;
 mod tables;
 mod upgrading;

@@ -4,9 +4,11 @@
 ghost use Rattle.std.specs.Prelude.{◌≡◌, All, OnErr, OnOk};
 ghost use Rattle.sched_book.specs.Offers.{OffersAll, OffersSome, unsent};
 ghost use Rattle.sched_book.specs.declared.world.World.{World};
+ghost use Rattle.sched_book.specs.Offers.{OrSkips};
 ghost use Rattle.sched_tables.specs.Held.{IsHonest};
-ghost use Rattle.sched_tables.specs.Offering.{IsCandidateOf};
+ghost use Rattle.sched_tables.specs.Offering.{IsCandidateOf, MaySkip};
 ghost use Rattle.sched_tables.specs.Remembering.{IsUnitOf};
+ghost use Rattle.sched_book.specs.Skipping.{HadAllBefore};
 ghost use Rattle.sched_tables.specs.Views.{state_of, world_of, AreKept, AreReadOn};
 
 use crate::remembered::UnitRead;
@@ -67,17 +69,18 @@ impl<'a, T: Taker> Taker for Noting<'a, T> {
 }
 
 impl<S: Alter> Tables<S> {
-    /// Offers what waits from this place on, and notes the workunits of the first offers. The page on which the offers
-    /// begin is remembered.
+    /// Offers what waits from this place on, and notes the workunits of the first offers. If an account is named, it leaves
+    /// out what the skip of its user covers. The page on which the offers begin is remembered.
     pub(crate) fn offer_from<T: Taker>(
         &mut self,
+        account: Option<u32>,
         from: Place,
         taker: &mut T,
         noted: &mut Vec<UnitRead>,
     ) -> Result<(), Unavailable>
         ensures reads { AreReadOn S.Store self.old self.new }
-        ensures all { IsHonest (state_of S.Store self.new) → AreKept S.Store self.old → OnOk result (OffersAll T.takes taker.old (unsent (world_of S.Store self.old) from) taker.new) }
-        ensures some { IsHonest (state_of S.Store self.new) → AreKept S.Store self.old → OnErr result (OffersSome T.takes taker.old (unsent (world_of S.Store self.old) from) taker.new) }
+        ensures all { IsHonest (state_of S.Store self.new) → AreKept S.Store self.old → OnOk result (OffersAll (OrSkips (MaySkip (world_of S.Store self.old) account) T.takes) taker.old (unsent (world_of S.Store self.old) from) taker.new) }
+        ensures some { IsHonest (state_of S.Store self.new) → AreKept S.Store self.old → OnErr result (OffersSome (OrSkips (MaySkip (world_of S.Store self.old) account) T.takes) taker.old (unsent (world_of S.Store self.old) from) taker.new) }
         ensures noted { IsHonest (state_of S.Store self.new) → AreKept S.Store self.old
             → All (IsUnitOf (world_of S.Store self.old)) noted.old.items → All (IsUnitOf (world_of S.Store self.old)) noted.new.items }
     {
@@ -88,11 +91,39 @@ impl<S: Alter> Tables<S> {
             &mut self.conn,
             self.apps.as_slice(),
             &self.remembered,
+            self.remembered.skip_of(account),
             &mut page,
             from,
             &mut noting,
         );
         self.remembered.remember_page(page);
         offered
+    }
+
+    /// Offers what waits from this place on, and remembers the workunits of the first offers. If an account is named, it
+    /// leaves out what the skip of its user covers.
+    pub(crate) fn offer_and_note<T: Taker>(
+        &mut self,
+        account: Option<u32>,
+        from: Place,
+        taker: &mut T,
+    ) -> Result<(), Unavailable>
+        ensures reads { AreReadOn S.Store self.old self.new }
+        ensures all { IsHonest (state_of S.Store self.new) → AreKept S.Store self.old → OnOk result (OffersAll (OrSkips (MaySkip (world_of S.Store self.old) account) T.takes) taker.old (unsent (world_of S.Store self.old) from) taker.new) }
+        ensures some { IsHonest (state_of S.Store self.new) → AreKept S.Store self.old → OnErr result (OffersSome (OrSkips (MaySkip (world_of S.Store self.old) account) T.takes) taker.old (unsent (world_of S.Store self.old) from) taker.new) }
+    {
+        let mut noted = Vec::new(self.alloc);
+        let offered = self.offer_from(account, from, taker, &mut noted);
+        self.remembered.remember_units(noted.as_slice());
+        offered
+    }
+
+    /// Remembers the skip of the user of an account.
+    pub(crate) fn remember_had(&mut self, account: u32, skip: Place)
+        ensures honest { IsHonest (state_of S.Store self.new) → IsHonest (state_of S.Store self.old) }
+        ensures reads { (begun : Tables S) → AreReadOn S.Store begun self.old
+            → (IsHonest (state_of S.Store self.new) → AreKept S.Store begun → HadAllBefore (world_of S.Store begun) account skip) → AreReadOn S.Store begun self.new }
+    {
+        self.remembered.remember_had(self.alloc, account, skip);
     }
 }

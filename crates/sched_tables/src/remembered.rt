@@ -1,6 +1,6 @@
 //! What was read, and is as it was read or as it was put since. So no row is asked for twice.
 
-ghost use Rattle.std.specs.Prelude.{◌≡◌, ◌+◌, ℕ, suc, All, None, Option, Some, IfOk, IfSome, option_and_then, slice_get};
+ghost use Rattle.std.specs.Prelude.{◌≡◌, ◌+◌, ℕ, Bool, suc, All, None, Option, Some, IfOk, IfSome, IsTrue, option_and_then, slice_get};
 ghost use Rattle.sched_book.specs.Desk.{account_by_key, workunit_at, instances_at};
 ghost use Rattle.sched_book.specs.Fits.{version_at};
 ghost use Rattle.sched_book.specs.Places.{sent_on_day, user_credit};
@@ -13,14 +13,17 @@ ghost use Rattle.table_desk.specs.FirstPage.{IsFirstPageOf};
 ghost use Rattle.table_meaning.specs.Worlds.{SlotCalls};
 ghost use Rattle.table_meaning.specs.declared.rows.StoredRow.TheVariants as stored;
 ghost use Rattle.sched_tables.specs.Carrying.{counted_of, given_to, sending_of, with_counted, with_host, with_hosts, with_job, with_jobs, with_one, AreCarried, AreCreditsOf, AreOfHosts, AreOfJobs, AreSentOf, HaveOneMore, IsOtherKey, IsRenewed, IsUnput};
+ghost use Rattle.sched_tables.specs.Covering.{jobs_of, waiting_of, with_wait, with_waits, AreSkipsFor, IsSkipFor};
 ghost use Rattle.sched_tables.specs.Remembering.{AreRemembered, IsUnitOf, IsVersionOf};
 ghost use Rattle.sched_tables.specs.Slots.{IsSlotFor};
+ghost use Rattle.sched_book.specs.Skipping.{HadAllBefore};
 
 use crate::rows_read::RowsRead;
-use sched_book::{Account, Instance, Placed, Version, Workunit, copy_of};
+use crate::skips::Skips;
+use sched_book::{Account, Instance, Place, Placed, Version, Workunit, copy_of};
 use std::alloc::Global;
 use table_decoding::{host, instance};
-use table_desk::{CountedHost, KnownUnits, PageRead};
+use table_desk::{CountedHost, KnownUnits, PageRead, Skip};
 use table_meaning::rows::{RowChange, StoredHost, StoredInstance, StoredRow};
 use texts::{Listed, Memory, Same, Text};
 
@@ -112,7 +115,21 @@ fn push_version(versions: &mut Vec<VersionRead>, read: VersionRead)
     let _ = versions.push(read);
 }
 
-/// The instances of a workunit with this one at a number. `None` if there is no instance of that number.
+/// Puts an instance at a number: it replaces the one there, or is the next one. Says whether it could.
+fn renew(instances: &mut Listed<Instance>, number: usize, renewed: Instance) -> bool
+    ensures { IsTrue result → IsRenewed number renewed instances.old instances.new }
+{
+    if number < instances.len() {
+        instances.replace(number, renewed);
+        return true;
+    }
+    if number != instances.len() {
+        return false;
+    }
+    instances.push(renewed).is_ok()
+}
+
+/// The instances of a workunit with this one at a number. `None` if there are fewer than that, or no memory for it.
 fn with_instance(
     known: Listed<Instance>,
     number: usize,
@@ -121,11 +138,11 @@ fn with_instance(
     ensures { IfSome result (IsRenewed number renewed known) }
 {
     let mut instances = known;
-    if instances.len() <= number {
-        return None;
+    if renew(&mut instances, number, renewed) {
+        Some(instances)
+    } else {
+        None
     }
-    instances.replace(number, renewed);
-    Some(instances)
 }
 
 /// To which host an instance was given, and on which day.
@@ -287,8 +304,8 @@ fn renew_host(
 }
 
 /// What was read, and is as it was read or as it was put since: rows by their keys, credits by accounts, how many jobs hosts
-/// were sent on a day, versions, the slot for the next call of the host whose calls were read last, and the first places of
-/// what waits that were read last.
+/// were sent on a day, versions, the slot for the next call of the host whose calls were read last, the first places of what
+/// waits that were read last, and the skips of users.
 pub(crate) struct Remembered {
     units: RowsRead<u32, Workunit>,
     instances: RowsRead<u32, Listed<Instance>>,
@@ -299,6 +316,7 @@ pub(crate) struct Remembered {
     versions: Vec<VersionRead>,
     slot: Option<SlotRead>,
     page: Option<PageRead>,
+    skips: Skips,
 }
 
 // It is written out, so that a caller does not prove again how each part is dropped.
@@ -314,6 +332,7 @@ impl Drop for Remembered {
             versions: _versions,
             slot: _slot,
             page: _page,
+            skips: _skips,
         } = self;
     }
 }
@@ -333,6 +352,7 @@ impl Remembered {
             versions: Vec::new(alloc),
             slot: None,
             page: None,
+            skips: Skips::new(alloc),
         }
     }
 
@@ -508,17 +528,40 @@ impl Remembered {
         self.page = page;
     }
 
+    /// The skip of the user of this account. It covers nothing if none is known, or no account is named.
+    pub(crate) fn skip_of(&self, account: Option<u32>) -> &Skip
+        ensures { (w : World) (calls : SlotCalls) → AreRemembered w calls self.now → IsSkipFor (waiting_of w) (jobs_of w) (counted_host_at w) account result.now }
+    {
+        self.skips.of(account)
+    }
+
+    /// Remembers the skip of the user of this account.
+    pub(crate) fn remember_had(&mut self, alloc: Global, account: u32, place: Place)
+        ensures { (w : World) (calls : SlotCalls) → AreRemembered w calls self.old → HadAllBefore w account place → AreRemembered w calls self.new }
+    {
+        self.skips.raise(alloc, account, place);
+    }
+
     /// Takes note of a row that was put.
     fn note_row(&mut self, alloc: Global, row: &StoredRow)
         ensures carried { AreCarried (IsOtherKey row.now) self.old self.new }
         ensures hosts { (f : ℕ → Option Counted) → AreOfHosts f self.old.hosts self.old.credits → AreOfHosts (with_host f row.now) self.new.hosts self.new.credits }
         ensures jobs { (f : ℕ → ℕ → Option Job) → AreOfJobs f self.old.instances self.old.sent → AreOfJobs (with_job f row.now) self.new.instances self.new.sent }
+        ensures skips { (waiting : ℕ → ℕ → Option Bool) (jobs : ℕ → ℕ → Option Job) (hosts : ℕ → Option Counted)
+            → AreOfHosts hosts self.old.hosts self.old.credits → AreOfJobs jobs self.old.instances self.old.sent → AreSkipsFor waiting jobs hosts self.old.skips
+            → AreSkipsFor (with_wait waiting row.now) (with_job jobs row.now) (with_host hosts row.now) self.new.skips }
     {
         match row {
             StoredRow::Unit(row) => self.units.forget(&row.id),
             StoredRow::UnitMark(row) => self.units.forget(&row.unit_id),
-            StoredRow::Instance(row) => { renew_instance(&mut self.instances, &mut self.sent, row) }
-            StoredRow::Host(row) => renew_host(alloc, &mut self.hosts, &mut self.credits, row),
+            StoredRow::Instance(row) => {
+                self.skips.follow_instance(&self.instances, row);
+                renew_instance(&mut self.instances, &mut self.sent, row);
+            }
+            StoredRow::Host(row) => {
+                self.skips.follow_host(&self.hosts, row);
+                renew_host(alloc, &mut self.hosts, &mut self.credits, row);
+            }
             StoredRow::Account(_) => self.accounts.forget_all(),
             StoredRow::Version(_) | StoredRow::VersionClass(_) => self.versions.clear(),
             StoredRow::App(_) => {
@@ -530,12 +573,15 @@ impl Remembered {
     }
 
     /// Takes note of rows that were put. What they say of hosts, of the credit of their users, of instances, and of how many
-    /// jobs hosts were sent is renewed. Everything else that was read of them is forgotten, with the slot for a call and the
-    /// places that wait.
+    /// jobs hosts were sent is renewed, and the skips of users follow it. Everything else that was read of them is forgotten,
+    /// with the slot for a call and the places that wait.
     pub(crate) fn note_put(&mut self, alloc: Global, changes: &[RowChange])
         ensures carried { AreCarried (IsUnput changes.now) self.old self.new }
         ensures hosts { (f : ℕ → Option Counted) → AreOfHosts f self.old.hosts self.old.credits → AreOfHosts (with_hosts f changes.now) self.new.hosts self.new.credits }
         ensures jobs { (f : ℕ → ℕ → Option Job) → AreOfJobs f self.old.instances self.old.sent → AreOfJobs (with_jobs f changes.now) self.new.instances self.new.sent }
+        ensures skips { (waiting : ℕ → ℕ → Option Bool) (jobs : ℕ → ℕ → Option Job) (hosts : ℕ → Option Counted)
+            → AreOfHosts hosts self.old.hosts self.old.credits → AreOfJobs jobs self.old.instances self.old.sent → AreSkipsFor waiting jobs hosts self.old.skips
+            → AreSkipsFor (with_waits waiting changes.now) (with_jobs jobs changes.now) (with_hosts hosts changes.now) self.new.skips }
         ensures slot { self.new.slot ≡ None }
         ensures page { self.new.page ≡ None }
     {
@@ -559,6 +605,7 @@ impl Remembered {
         self.versions.clear();
         self.slot = None;
         self.page = None;
+        self.skips.forget_all();
     }
 }
 

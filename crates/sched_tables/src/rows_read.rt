@@ -2,6 +2,7 @@
 
 ghost use Rattle.std.specs.Prelude.{◌≡◌, None, IfOk};
 ghost use Rattle.std.specs.BTreeMap.{get};
+ghost use Rattle.std.specs.Option.{option_copied};
 ghost use Rattle.sched_tables.specs.RowsRead.{HasKept, IsWithout};
 
 use sched_book::copy_of;
@@ -81,6 +82,15 @@ impl<K: Ord + Drop, T: Same + Drop> RowsRead<K, T> {
         if let Ok(copy) = copy_of(row) {
             self.put(key, copy);
         }
+    }
+}
+
+impl<K: Ord, T> RowsRead<K, T> {
+    /// The row of this key, if it was read.
+    pub(crate) fn seen(&self, key: &K) -> Option<&T>
+        ensures { option_copied result ≡ get K.cmp self.now.rows key.now }
+    {
+        self.rows.get(key)
     }
 }
 

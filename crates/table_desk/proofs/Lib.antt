@@ -4,12 +4,15 @@ pub mod CreditsListed
 pub mod Found
 pub mod InstancesListed
 pub mod LastNumbers
+pub mod Jumps
 pub mod PagesOffered
+pub mod PlaceOrder
 pub mod PlacesAsked
 pub mod PlacesNone
 pub mod PlacesStand
 pub mod ReadLater
 pub mod Standing
+pub mod Uncovered
 pub mod UnitsOfUser
 pub mod VersionsListed
 pub mod Waiting

@@ -1,6 +1,6 @@
 -- Offers of one candidate after another, and of one page after another, are offers of all.
 use Rattle.std.proofs.Common.{◌≡◌, ◌<◌, ◌+◌, ℕ, List, [], ◌∷◌, ◌++◌, drop, length, get_or, Option, Some, None, Ok, Err, refl, sym, ap, subst, ◌∙◌, inl, inr}
-use Rattle.std.specs.Prelude.{Result, OnErr, option_map}
+use Rattle.std.specs.Prelude.{Result, OnOk, OnErr, option_map}
 use Rattle.std.specs.List.{cons_option}
 use Rattle.std.proofs.lemmas.List.{at_drop_more}
 use Rattle.sched_book.specs.Offers.{OffersAll, OffersSome, Offered, OfferedSome, Leads}
@@ -38,6 +38,16 @@ module _ {T : Type 0} (takes : T → Candidate → Flow → T → Type 0) where
   -- one was offered, and the taker continues with the others
   pub leads_one : (old new : T) (c : Candidate) (cs : List Candidate) → takes old c GoOn new → Leads takes old (c ∷ cs) new cs
   leads_one old new c cs taken = record { to_all = λ last h. inr (new, taken, h); to_some = λ last h. inr (inr (new, taken, h)) }
+
+  -- After offers that lead to the candidates that are left, these were offered.
+  module _ (old mid new : T) (all left these : List Candidate) (leads : Leads takes old all mid left) (same : these ≡ left) {X E : Type 0} where
+    pub then_all : (r : Result X E) → OnOk r (OffersAll takes mid these new) → OnOk r (OffersAll takes old all new)
+    then_all (Ok x) offered = leads.to_all new (subst (λ (cs : List Candidate). OffersAll takes mid cs new) same offered)
+    then_all (Err e) offered = tt
+
+    pub then_some : (r : Result X E) → OnErr r (OffersSome takes mid these new) → OnErr r (OffersSome takes old all new)
+    then_some (Ok x) offered = tt
+    then_some (Err e) offered = leads.to_some new (subst (λ (cs : List Candidate). OffersSome takes mid cs new) same offered)
 
   -- all were offered, and nothing is left
   pub leads_to_end : (old new : T) (cs : List Candidate) → OffersAll takes old cs new → Leads takes old cs new []

@@ -53,7 +53,7 @@ queued_one : (b : Bool) → compares Eq (whole (cond b 1 0)) (whole 1) ≡ b
 queued_one true = equal_numbers 1 1
 queued_one false = equal_numbers 0 1
 
-open_code : (s : Status) → (status_code s == 0) ≡ is_open s
+pub open_code : (s : Status) → (status_code s == 0) ≡ is_open s
 open_code Open = refl
 open_code _ = refl
 

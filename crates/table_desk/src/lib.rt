@@ -12,6 +12,7 @@ mod lengths;
 mod offers;
 mod pages;
 mod places;
+mod skip;
 mod users;
 mod workunits;
 
@@ -23,5 +24,6 @@ pub use lengths::counts;
 pub use offers::{KnownUnits, unsent_from};
 pub use pages::PageRead;
 pub use places::{due_before, held_by, owned_by, sent_on_day};
+pub use skip::Skip;
 pub use users::units_of_user;
 pub use workunits::{instance_at, instances_at, unit_at, unit_by_name};

@@ -1,15 +1,19 @@
 //! Offers of the waiting instances to a taker, a page of places at a time.
 
-ghost use Rattle.std.specs.Prelude.{◌≡◌, ◌++◌, Some, IfOk, IfSome, OnOk, OnErr};
+ghost use Rattle.std.specs.Prelude.{◌≡◌, ◌++◌, Some, IfOk, IfSome, IsTrue, OnOk, OnErr};
 ghost use Rattle.sqlite.specs.Held.{state};
 ghost use Rattle.sched_book.specs.Offers.{unsent, OffersAll, OffersSome, Offered, OfferedSome, Leads};
 ghost use Rattle.sched_book.specs.declared.desk.Candidate.{Candidate as BookCandidate};
+ghost use Rattle.sched_book.specs.declared.desk.Flow.TheVariants.{GoOn};
 ghost use Rattle.table_meaning.specs.Reads.{Reads};
 ghost use Rattle.table_desk.specs.Asked.{Asked};
 ghost use Rattle.table_desk.specs.FirstPage.{IsFirstPageOf};
+ghost use Rattle.table_desk.specs.Skips.{IsCovered};
+ghost use Rattle.sched_book.specs.Offers.{OrSkips};
 ghost use Rattle.table_desk.specs.Pages.{candidate_at, candidates_at, unsent_on, unsent_behind};
 
 use crate::pages::{PageRead, next_page};
+use crate::skip::Skip;
 use crate::workunits::unit_at;
 use sched_book::limits::{MOST_INSTANCES, MOST_WORKUNITS};
 use sched_book::{App, Candidate, Flow, Place, Taker, Unavailable, Workunit};
@@ -59,22 +63,30 @@ fn offer_at<S: Alter, K: KnownUnits, T: Taker>(
     }
 }
 
-/// Offers the candidates at these places, except those that the taker passes over, and says whether it wants more. What
+/// Whether no candidate at this place need be offered: the skip covers it, or the taker passes over it.
+fn is_skipped<T: Taker>(skip: &Skip, taker: &T, place: Place) -> bool
+    ensures { IsTrue result → (c : BookCandidate) → c.place ≡ place → OrSkips (IsCovered skip.now) T.takes taker.now c GoOn taker.now }
+{
+    skip.covers(place) || taker.passes_over(place)
+}
+
+/// Offers the candidates at these places, except those that are left out, and says whether the taker wants more. What
 /// the connection shows is unchanged.
 fn offer_each<S: Alter, K: KnownUnits, T: Taker>(
     alloc: Global,
     conn: &mut Connection<S>,
     apps: &[App],
     known: &K,
+    skip: &Skip,
     places: &[Place],
     taker: &mut T,
 ) -> Result<Flow, Unavailable>
     ensures reads { Reads (state S.Store conn.old) (state S.Store conn.new) }
-    ensures all { Asked S.Store conn.old conn.new (λ w. apps.now ≡ w.apps → K.are_of w known.now → IfOk result (Offered T.takes taker.old (candidates_at w places.now) taker.new)) }
-    ensures some { Asked S.Store conn.old conn.new (λ w. apps.now ≡ w.apps → K.are_of w known.now → OnErr result (OfferedSome T.takes taker.old (candidates_at w places.now) taker.new)) }
+    ensures all { Asked S.Store conn.old conn.new (λ w. apps.now ≡ w.apps → K.are_of w known.now → IfOk result (Offered (OrSkips (IsCovered skip.now) T.takes) taker.old (candidates_at w places.now) taker.new)) }
+    ensures some { Asked S.Store conn.old conn.new (λ w. apps.now ≡ w.apps → K.are_of w known.now → OnErr result (OfferedSome (OrSkips (IsCovered skip.now) T.takes) taker.old (candidates_at w places.now) taker.new)) }
 {
     for place in places {
-        if taker.passes_over(*place) {
+        if is_skipped(skip, taker, *place) {
             continue;
         }
         match offer_at(alloc, conn, apps, known, *place, taker)? {
@@ -92,15 +104,16 @@ fn offer_page<S: Alter, K: KnownUnits, T: Taker>(
     conn: &mut Connection<S>,
     apps: &[App],
     known: &K,
+    skip: &Skip,
     from: Place,
     taker: &mut T,
 ) -> Result<Option<Place>, Unavailable>
     ensures reads { Reads (state S.Store conn.old) (state S.Store conn.new) }
-    ensures all { Asked S.Store conn.old conn.new (λ w. apps.now ≡ w.apps → K.are_of w known.now → IfOk result (λ next. Leads T.takes taker.old (unsent w from) taker.new (unsent_on w next))) }
-    ensures some { Asked S.Store conn.old conn.new (λ w. apps.now ≡ w.apps → K.are_of w known.now → OnErr result (OffersSome T.takes taker.old (unsent w from) taker.new)) }
+    ensures all { Asked S.Store conn.old conn.new (λ w. apps.now ≡ w.apps → K.are_of w known.now → IfOk result (λ next. Leads (OrSkips (IsCovered skip.now) T.takes) taker.old (unsent w from) taker.new (unsent_on w next))) }
+    ensures some { Asked S.Store conn.old conn.new (λ w. apps.now ≡ w.apps → K.are_of w known.now → OnErr result (OffersSome (OrSkips (IsCovered skip.now) T.takes) taker.old (unsent w from) taker.new)) }
 {
-    let queued = queued_from(alloc, conn, from, QueuePage::Further)?;
-    match offer_each(alloc, conn, apps, known, queued.as_slice(), taker)? {
+    let queued = queued_from(alloc, conn, skip.next(from), QueuePage::Further)?;
+    match offer_each(alloc, conn, apps, known, skip, queued.as_slice(), taker)? {
         Flow::Stop => Ok(None),
         Flow::GoOn => next_page(QueuePage::Further, queued.as_slice()),
     }
@@ -113,18 +126,19 @@ fn offer_pages<S: Alter, K: KnownUnits, T: Taker>(
     conn: &mut Connection<S>,
     apps: &[App],
     known: &K,
+    skip: &Skip,
     from: Option<Place>,
     taker: &mut T,
 ) -> Result<(), Unavailable>
     ensures reads { Reads (state S.Store conn.old) (state S.Store conn.new) }
-    ensures all { Asked S.Store conn.old conn.new (λ w. apps.now ≡ w.apps → K.are_of w known.now → OnOk result (OffersAll T.takes taker.old (unsent_on w from) taker.new)) }
-    ensures some { Asked S.Store conn.old conn.new (λ w. apps.now ≡ w.apps → K.are_of w known.now → OnErr result (OffersSome T.takes taker.old (unsent_on w from) taker.new)) }
+    ensures all { Asked S.Store conn.old conn.new (λ w. apps.now ≡ w.apps → K.are_of w known.now → OnOk result (OffersAll (OrSkips (IsCovered skip.now) T.takes) taker.old (unsent_on w from) taker.new)) }
+    ensures some { Asked S.Store conn.old conn.new (λ w. apps.now ≡ w.apps → K.are_of w known.now → OnErr result (OffersSome (OrSkips (IsCovered skip.now) T.takes) taker.old (unsent_on w from) taker.new)) }
 {
     let mut next = from;
     for _turn in 0..MOST_PAGES {
         match next {
             None => return Ok(()),
-            Some(place) => next = offer_page(alloc, conn, apps, known, place, taker)?,
+            Some(place) => next = offer_page(alloc, conn, apps, known, skip, place, taker)?,
         }
     }
     Err(Unavailable)
@@ -137,46 +151,50 @@ fn offer_on<S: Alter, K: KnownUnits, T: Taker>(
     conn: &mut Connection<S>,
     apps: &[App],
     known: &K,
+    skip: &Skip,
     page: &PageRead,
     places: &[Place],
     taker: &mut T,
 ) -> Result<(), Unavailable>
     ensures reads { Reads (state S.Store conn.old) (state S.Store conn.new) }
-    ensures all { Asked S.Store conn.old conn.new (λ w. apps.now ≡ w.apps → K.are_of w known.now → OnOk result (OffersAll T.takes taker.old (candidates_at w places.now ++ unsent_behind w page.now) taker.new)) }
-    ensures some { Asked S.Store conn.old conn.new (λ w. apps.now ≡ w.apps → K.are_of w known.now → OnErr result (OffersSome T.takes taker.old (candidates_at w places.now ++ unsent_behind w page.now) taker.new)) }
+    ensures all { Asked S.Store conn.old conn.new (λ w. apps.now ≡ w.apps → K.are_of w known.now → OnOk result (OffersAll (OrSkips (IsCovered skip.now) T.takes) taker.old (candidates_at w places.now ++ unsent_behind w page.now) taker.new)) }
+    ensures some { Asked S.Store conn.old conn.new (λ w. apps.now ≡ w.apps → K.are_of w known.now → OnErr result (OffersSome (OrSkips (IsCovered skip.now) T.takes) taker.old (candidates_at w places.now ++ unsent_behind w page.now) taker.new)) }
 {
-    match offer_each(alloc, conn, apps, known, places, taker)? {
+    match offer_each(alloc, conn, apps, known, skip, places, taker)? {
         Flow::Stop => Ok(()),
-        Flow::GoOn => offer_pages(alloc, conn, apps, known, page.next()?, taker),
+        Flow::GoOn => offer_pages(alloc, conn, apps, known, skip, page.next()?, taker),
     }
 }
 
 /// Offers the instances of open workunits that were given to nobody, in the order of their places, from this place on.
-/// The offers end when the taker says stop, and a candidate that the taker passes over is not offered. `apps` are all
-/// applications. If the page that was read last was read from this place on, or has the place, the offers begin on that
-/// page. If not, another page is read and replaces it. A workunit is read if it is not known. If the tables are
-/// unavailable, the offers end early. What the connection shows is unchanged.
+/// The offers end when the taker says stop. A candidate that the skip covers or that the taker passes over is not
+/// offered. `apps` are all applications. Pages are read from the first place on that the skip does not cover. If the
+/// page that was read last was read from there on, or has that place, the offers begin on that page. If not, another
+/// page is read and replaces it. A workunit is read if it is not known. If the tables are unavailable, the offers end
+/// early. What the connection shows is unchanged.
 pub fn unsent_from<S: Alter, K: KnownUnits, T: Taker>(
     alloc: Global,
     conn: &mut Connection<S>,
     apps: &[App],
     known: &K,
+    skip: &Skip,
     read: &mut Option<PageRead>,
     from: Place,
     taker: &mut T,
 ) -> Result<(), Unavailable>
     ensures reads { Reads (state S.Store conn.old) (state S.Store conn.new) }
     ensures page { Asked S.Store conn.old conn.new (λ w. IfSome read.old (IsFirstPageOf w) → IfSome read.new (IsFirstPageOf w)) }
-    ensures all { Asked S.Store conn.old conn.new (λ w. apps.now ≡ w.apps → K.are_of w known.now → IfSome read.old (IsFirstPageOf w) → OnOk result (OffersAll T.takes taker.old (unsent w from) taker.new)) }
-    ensures some { Asked S.Store conn.old conn.new (λ w. apps.now ≡ w.apps → K.are_of w known.now → IfSome read.old (IsFirstPageOf w) → OnErr result (OffersSome T.takes taker.old (unsent w from) taker.new)) }
+    ensures all { Asked S.Store conn.old conn.new (λ w. apps.now ≡ w.apps → K.are_of w known.now → IfSome read.old (IsFirstPageOf w) → OnOk result (OffersAll (OrSkips (IsCovered skip.now) T.takes) taker.old (unsent w from) taker.new)) }
+    ensures some { Asked S.Store conn.old conn.new (λ w. apps.now ≡ w.apps → K.are_of w known.now → IfSome read.old (IsFirstPageOf w) → OnErr result (OffersSome (OrSkips (IsCovered skip.now) T.takes) taker.old (unsent w from) taker.new)) }
 {
+    let from = skip.next(from);
     if let Some(page) = read {
         if let Some(places) = page.places_from(from) {
-            return offer_on(alloc, conn, apps, known, page, places, taker);
+            return offer_on(alloc, conn, apps, known, skip, page, places, taker);
         }
     }
     let page = PageRead::read(alloc, conn, from)?;
-    let offered = offer_on(alloc, conn, apps, known, &page, page.places(), taker);
+    let offered = offer_on(alloc, conn, apps, known, skip, &page, page.places(), taker);
     *read = Some(page);
     offered
 }

@@ -7,5 +7,5 @@ abbrev pub invariant-loop : goal.invariant-loop
 invariant-loop g l = record {
   reads : g.D.Units.reads l.initial.desk l.desk;
   resumes : g.D.Units.honest l.desk → g.D.Units.well_kept l.fn.desk → IsReady (g.D.Units.world l.fn.desk) l.fn.choosing
-      → Resumes (g.D.Units.world l.fn.desk) l.fn.choosing l.choosing l.from;
+      → Resumes (g.D.Units.world l.fn.desk) l.fn.choosing.host.now.account l.fn.choosing l.choosing l.from;
 }

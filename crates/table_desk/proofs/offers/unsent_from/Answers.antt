@@ -1,14 +1,42 @@
-use Rattle.std.proofs.Common.{List, sym, subst}
-use Rattle.std.specs.Prelude.{OnOk, OnErr}
-use Rattle.sched_book.specs.Offers.{unsent, OffersAll, OffersSome}
-use Rattle.sched_book.specs.declared.desk.Candidate.{Candidate}
+use Rattle.std.proofs.Common.{◌++◌, sym, subst}
+use Rattle.std.specs.Prelude.{IfSome, Option}
+use Rattle.sched_book.specs.Offers.{unsent}
+use Rattle.table_desk.specs.FirstPage.{IsFirstPageOf}
+use Rattle.table_desk.specs.Skips.{IsCovered}
+use Rattle.sched_book.specs.Offers.{OrSkips}
+use Rattle.table_desk.specs.Pages.{candidates_at, unsent_behind}
+use Rattle.table_desk.specs.declared.pages.PageRead.{PageRead}
 use Rattle.table_desk.proofs.AskedOn.{asked_before, asked_after}
-use Rattle.table_desk.proofs.PagesOffered.{on_any, none_offered}
+use Rattle.table_desk.proofs.Jumps.{jumped}
+use Rattle.table_desk.proofs.PagesOffered.{on_any, none_offered, then_all, then_some}
 use Rattle.table_desk.proofs.Waiting.{unsent_of_all}
 use Rattle.table_desk.proofs.offers.unsent_from.Goals as goal
 
+pub returns-in-Some-places_from-clause-all : goal.returns-in-Some-places_from-clause-all
+returns-in-Some-places_from-clause-all g c = λ clean is_open rests w tell same known before.
+    let takes = OrSkips (IsCovered c.args.skip.now) g.T.Taker.takes in
+    let old = c.args.taker.now in
+    let next = c.next-from.result in
+    let page = c.in-Some.page in
+    let parts = c.in-Some-places_from.ensures w (subst (λ (o : Option PageRead). IfSome o (IsFirstPageOf w)) c.in-Some.is before) in
+    let jump = jumped g.T.Taker.takes c.args.skip.now c.args.from next c.next-from.ensures.no_earlier c.next-from.ensures.covered w old in
+    then_all takes old old c.offer_on.new.taker (unsent w c.args.from) (unsent w next) (candidates_at w c.in-Some-places_from.places.now ++ unsent_behind w page) jump (sym parts) c.offer_on.result
+    (c.offer_on.ensures.all clean is_open rests w tell same known)
+
+pub returns-in-Some-places_from-clause-some : goal.returns-in-Some-places_from-clause-some
+returns-in-Some-places_from-clause-some g c = λ clean is_open rests w tell same known before.
+    let takes = OrSkips (IsCovered c.args.skip.now) g.T.Taker.takes in
+    let old = c.args.taker.now in
+    let next = c.next-from.result in
+    let page = c.in-Some.page in
+    let parts = c.in-Some-places_from.ensures w (subst (λ (o : Option PageRead). IfSome o (IsFirstPageOf w)) c.in-Some.is before) in
+    let jump = jumped g.T.Taker.takes c.args.skip.now c.args.from next c.next-from.ensures.no_earlier c.next-from.ensures.covered w old in
+    then_some takes old old c.offer_on.new.taker (unsent w c.args.from) (unsent w next) (candidates_at w c.in-Some-places_from.places.now ++ unsent_behind w page) jump (sym parts) c.offer_on.result
+    (c.offer_on.ensures.some clean is_open rests w tell same known)
+
 pub returns-in_err-page-clause-some : goal.returns-in_err-page-clause-some
-returns-in_err-page-clause-some g c = λ clean is_open rests w tell same known before. on_any c.from_residual.result (none_offered g.T.Taker.takes c.args.taker.now (unsent w c.args.from))
+returns-in_err-page-clause-some g c = λ clean is_open rests w tell same known before.
+    on_any c.from_residual.result (none_offered (OrSkips (IsCovered c.args.skip.now) g.T.Taker.takes) c.args.taker.now (unsent w c.args.from))
 
 pub returns-clause-all : goal.returns-clause-all
 returns-clause-all g c = λ clean is_open rests w tell same known before.
@@ -17,10 +45,15 @@ returns-clause-all g c = λ clean is_open rests w tell same known before.
     let mid = c.read.new.conn in
     let last = c.offer_on-offered.new.conn in
     let read = c.offer_on-offered.ensures.reads in
+    let takes = OrSkips (IsCovered c.args.skip.now) g.T.Taker.takes in
+    let old = c.args.taker.now in
+    let next = c.next-from.result in
+    let places = c.places.result.now in
     let page = asked_before store first mid last read c.in_ok-page.ensures.page clean is_open rests w tell in
-    let parts = unsent_of_all w c.in_ok-page.page page.0 c.args.from page.1 c.places.result.now c.places.ensures in
+    let parts = unsent_of_all w c.in_ok-page.page page.0 next page.1 places c.places.ensures in
     let offered = asked_after store first mid last c.read.ensures.reads read c.offer_on-offered.ensures.all clean is_open rests w tell same known in
-    subst (λ (cs : List Candidate). OnOk c.offer_on-offered.result (OffersAll g.T.Taker.takes c.args.taker.now cs c.offer_on-offered.new.taker)) (sym parts) offered
+    let jump = jumped g.T.Taker.takes c.args.skip.now c.args.from next c.next-from.ensures.no_earlier c.next-from.ensures.covered w old in
+    then_all takes old old c.offer_on-offered.new.taker (unsent w c.args.from) (unsent w next) (candidates_at w places ++ unsent_behind w c.in_ok-page.page) jump (sym parts) c.offer_on-offered.result offered
 
 pub returns-clause-some : goal.returns-clause-some
 returns-clause-some g c = λ clean is_open rests w tell same known before.
@@ -29,7 +62,12 @@ returns-clause-some g c = λ clean is_open rests w tell same known before.
     let mid = c.read.new.conn in
     let last = c.offer_on-offered.new.conn in
     let read = c.offer_on-offered.ensures.reads in
+    let takes = OrSkips (IsCovered c.args.skip.now) g.T.Taker.takes in
+    let old = c.args.taker.now in
+    let next = c.next-from.result in
+    let places = c.places.result.now in
     let page = asked_before store first mid last read c.in_ok-page.ensures.page clean is_open rests w tell in
-    let parts = unsent_of_all w c.in_ok-page.page page.0 c.args.from page.1 c.places.result.now c.places.ensures in
+    let parts = unsent_of_all w c.in_ok-page.page page.0 next page.1 places c.places.ensures in
     let offered = asked_after store first mid last c.read.ensures.reads read c.offer_on-offered.ensures.some clean is_open rests w tell same known in
-    subst (λ (cs : List Candidate). OnErr c.offer_on-offered.result (OffersSome g.T.Taker.takes c.args.taker.now cs c.offer_on-offered.new.taker)) (sym parts) offered
+    let jump = jumped g.T.Taker.takes c.args.skip.now c.args.from next c.next-from.ensures.no_earlier c.next-from.ensures.covered w old in
+    then_some takes old old c.offer_on-offered.new.taker (unsent w c.args.from) (unsent w next) (candidates_at w places ++ unsent_behind w c.in_ok-page.page) jump (sym parts) c.offer_on-offered.result offered

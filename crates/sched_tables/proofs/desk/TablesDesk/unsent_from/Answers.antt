@@ -1,20 +1,17 @@
-use Rattle.std.proofs.Common.{◌≡◌, List, [], sym, subst, rules}
-use Rattle.std.specs.Prelude.{All}
-use Rattle.std.proofs.lemmas.List.Elements.{All-nil}
-use Rattle.sched_tables.specs.Remembering.{IsUnitOf}
+use Rattle.sched_book.specs.Offers.{unsent}
 use Rattle.sched_tables.specs.Views.{world_of}
-use Rattle.sched_tables.specs.declared.remembered.UnitRead.{UnitRead}
+use Rattle.sched_tables.proofs.Leads.{each_ok, all_err}
+use Rattle.sched_tables.proofs.Offered.{none_skipped_all, none_skipped_some}
 use Rattle.sched_tables.proofs.desk.TablesDesk.unsent_from.Goals as goal
 
-pub returns-clause-reads : goal.returns-clause-reads
-returns-clause-reads g c = (
-  search rules,
-  search rules,
-  search rules,
-  λ honest kept.
-      let w = world_of g.S.Store c.args.self.now in
-      let none : c.new-noted.result.items ≡ [] = search rules in
-      let noted = c.offer_from-offered.ensures.noted honest kept (subst (λ (us : List UnitRead). All (IsUnitOf w) us) (sym none) (All-nil _)) in
-      c.remember_units.ensures _ _ (c.offer_from-offered.ensures.reads.3 honest kept) (subst (λ (us : List UnitRead). All (IsUnitOf w) us) (sym c.as_slice.ensures.value) noted),
-  c.offer_from-offered.ensures.reads.4,
-)
+pub returns-clause-all : goal.returns-clause-all
+returns-clause-all g c = λ honest kept.
+    let w = world_of g.S.Store c.args.self.now in
+    each_ok c.offer_and_note.result _ _ (c.offer_and_note.ensures.all honest kept)
+    (none_skipped_all g.T.Taker.takes w c.args.taker.now (unsent w c.args.from) c.offer_and_note.new.taker)
+
+pub returns-clause-some : goal.returns-clause-some
+returns-clause-some g c = λ honest kept.
+    let w = world_of g.S.Store c.args.self.now in
+    all_err c.offer_and_note.result _ _ (c.offer_and_note.ensures.some honest kept)
+    (none_skipped_some g.T.Taker.takes w c.args.taker.now (unsent w c.args.from) c.offer_and_note.new.taker)

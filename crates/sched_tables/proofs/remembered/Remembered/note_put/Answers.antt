@@ -2,7 +2,9 @@ use Rattle.std.proofs.Common.{take, ap, sym, subst, ◌∙◌, ◌++◌, ◌∷�
 use Rattle.std.proofs.lemmas.List.{take_all, take_more}
 use Rattle.std.proofs.lemmas.List.Sums.{fold-append}
 use Rattle.sched_tables.specs.Carrying.{with_host, with_hosts, with_job, with_jobs, AreCarried, AreOfHosts, AreOfJobs, IsUnput}
+use Rattle.sched_tables.specs.Covering.{with_waits, AreSkipsFor}
 use Rattle.sched_tables.proofs.Carried.{carried_more}
+use Rattle.sched_tables.proofs.SkipMoves.{skips_after}
 use Rattle.sched_tables.proofs.remembered.Remembered.note_put.Goals as goal
 
 pub loop-change-preserved : goal.loop-change-preserved
@@ -19,6 +21,11 @@ loop-change-preserved c =
       λ f before.
           subst (λ jobs. AreOfJobs jobs c.note_row.new.self.instances c.note_row.new.self.sent) (sym (ap (with_jobs f) next ∙ fold-append with_job f so_far (row ∷ [])))
           (c.note_row.ensures.jobs (with_jobs f so_far) (c.loop-change.invariant.2 f before)),
+      λ waiting jobs hosts of_hosts of_jobs are.
+          subst (λ rs. AreSkipsFor (with_waits waiting rs) (with_jobs jobs rs) (with_hosts hosts rs) c.note_row.new.self.skips) (sym next)
+          (skips_after waiting jobs hosts so_far row c.note_row.new.self.skips
+          (c.note_row.ensures.skips (with_waits waiting so_far) (with_jobs jobs so_far) (with_hosts hosts so_far)
+          (c.loop-change.invariant.1 hosts of_hosts) (c.loop-change.invariant.2 jobs of_jobs) (c.loop-change.invariant.3 waiting jobs hosts of_hosts of_jobs are))),
     )
 
 pub returns-clause-carried : goal.returns-clause-carried
@@ -33,3 +40,8 @@ returns-clause-hosts c = λ f before.
 pub returns-clause-jobs : goal.returns-clause-jobs
 returns-clause-jobs c = λ f before.
     subst (λ rs. AreOfJobs (with_jobs f rs) c.loop-change.self.instances c.loop-change.self.sent) (take_all c.loop-change.change-index c.args.changes.now c.loop-change-test.false) (c.loop-change.invariant.2 f before)
+
+pub returns-clause-skips : goal.returns-clause-skips
+returns-clause-skips c = λ waiting jobs hosts of_hosts of_jobs are.
+    subst (λ rs. AreSkipsFor (with_waits waiting rs) (with_jobs jobs rs) (with_hosts hosts rs) c.loop-change.self.skips) (take_all c.loop-change.change-index c.args.changes.now c.loop-change-test.false)
+    (c.loop-change.invariant.3 waiting jobs hosts of_hosts of_jobs are)

@@ -21,4 +21,5 @@ returns-in-Ok-account_read c = λ w calls read found.
       versions = read.versions;
       slot = read.slot;
       page = read.page;
+      skips = read.skips;
     }

@@ -19,4 +19,5 @@ loop-unit-preserved c = λ w calls before all.
       versions = so_far.versions;
       slot = so_far.slot;
       page = so_far.page;
+      skips = so_far.skips;
     }

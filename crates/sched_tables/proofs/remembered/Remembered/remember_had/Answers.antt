@@ -1,0 +1,18 @@
+use Rattle.table_desk.specs.Columns.{counted_host_at}
+use Rattle.sched_tables.specs.Covering.{jobs_of, waiting_of}
+use Rattle.sched_tables.proofs.HadBy.{given_before}
+use Rattle.sched_tables.proofs.remembered.Remembered.remember_had.Goals as goal
+
+pub returns : goal.returns
+returns c = λ w calls read is. record {
+  units = read.units;
+  instances = read.instances;
+  hosts = read.hosts;
+  credits = read.credits;
+  sent = read.sent;
+  accounts = read.accounts;
+  versions = read.versions;
+  slot = read.slot;
+  page = read.page;
+  skips = c.raise.ensures (waiting_of w) (jobs_of w) (counted_host_at w) (given_before w c.args.account c.args.place is) read.skips;
+}
