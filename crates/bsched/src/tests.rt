@@ -215,7 +215,14 @@ fn lines_that_are_none_end_the_run(rt: HostRuntime) -> Result<(), Fail> {
     let alloc = rt.alloc();
     assert!(rt; prints(alloc, "", "", Ended::Good)?);
     // The last line may lack its line feed.
-    assert!(rt; prints(alloc, "9892-03-08T12:26:40Z account k1", K1_IMPORTED, Ended::Good)?);
+    assert!(rt;
+        prints(
+            alloc,
+            "9892-03-08T12:26:40Z account k1",
+            K1_IMPORTED,
+            Ended::Good
+        )?
+    );
     assert!(rt; ends_at(alloc, "1970-01-01T00:00:00Z tick x")?);
     assert!(rt; ends_at(alloc, "1970-01-01T00:00:00.5Z account k2")?);
     assert!(rt; ends_at(alloc, "noon account k2")?);
