@@ -1,4 +1,4 @@
--- Words. What the skips of users cover, by the rows of instances and hosts.
+-- Rule. What the skips of users cover, by the rows of instances and hosts.
 use Rattle.std.specs.Prelude.{◌≡◌, ◌==◌, ℕ, true, Bool, ◌&&◌, if◌then◌else◌, is_none, List, All, fold, slice_get, Option, Some, None, IsTrue, option_and_then, option_map}
 use Rattle.sched_book.specs.Count.{is_open}
 use Rattle.sched_book.specs.Desk.{instances_at}

@@ -1,4 +1,4 @@
--- Words. Where no candidate need be offered.
+-- Rule. Where no candidate need be offered.
 use Rattle.std.specs.Prelude.{ℕ, Bool, not, ◌&&◌, nat_lt, if◌then◌else◌, List, [], ◌∷◌, ◌++◌, fold, length, IsTrue}
 use Rattle.std.specs.List.{list_any}
 use Rattle.sched_book.specs.Places.{is_before, is_same}
