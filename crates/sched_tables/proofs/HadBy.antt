@@ -76,7 +76,7 @@ module _ (w : World) (account : ℕ) where
             list_any_at (is_of_user w.hosts account) b.instances given.number given.job (slice_get_within b.instances given.number given.job is)
             (ap (is_of_user w.hosts account) (get_or_from_slice_get b.instances given.number given.job given.job is) ∙ of_user)
 
-  -- If this is a skip of the user, a job was given of each workunit of which one waits before it.
+  -- If this is a skip of the user, each instance that waits before it is of a workunit that the user had a job of.
   pub given_before : (skip : Place) → HadAllBefore w account skip → (unit number : ℕ) → waiting_of w unit number ≡ Some true
       → IsTrue (is_before (record { unit = unit; number = number }) skip) → WasGiven (jobs_of w) (counted_host_at w) account unit
   given_before skip is unit number waits before = given_if_had unit (is (record { unit = unit; number = number }) (ap (λ (o : Option Bool). unwrap_or o false) waits) before)

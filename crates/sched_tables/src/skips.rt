@@ -29,7 +29,7 @@ pub(crate) struct UserSkip {
 }
 
 impl UserSkip {
-    /// Raises the skip to a place before which the user had an instance of each workunit of which one waits.
+    /// Raises the skip to a place. Before it, each instance that waits is of a workunit that the user had.
     fn raise(&mut self, place: Place)
         ensures account { self.new.account ≡ self.old.account }
         ensures skip { (waiting : ℕ → ℕ → Option Bool) (jobs : ℕ → ℕ → Option Job) (hosts : ℕ → Option Counted)
@@ -61,7 +61,7 @@ fn index_of(users: &[UserSkip], account: u32) -> Option<usize>
     users.iter().position(|user| user.account == account)
 }
 
-/// Raises the skip at an index to a place before which its user had an instance of each workunit of which one waits.
+/// Raises the skip at an index to a place. Before it, each instance that waits is of a workunit that its user had.
 fn raise_at(users: &mut Vec<UserSkip>, at: usize, place: Place)
     ensures { (waiting : ℕ → ℕ → Option Bool) (jobs : ℕ → ℕ → Option Job) (hosts : ℕ → Option Counted)
         → IfSome (slice_get users.old.items at) (λ u. IsHadBefore waiting jobs hosts u.account place)
@@ -176,7 +176,7 @@ impl Skips {
         }
     }
 
-    /// Remembers that the user of this account had an instance of each workunit of which one waits before this place.
+    /// Remembers that each instance that waits before this place is of a workunit that the user of this account had.
     pub(crate) fn raise(&mut self, alloc: Global, account: u32, place: Place)
         ensures { (waiting : ℕ → ℕ → Option Bool) (jobs : ℕ → ℕ → Option Job) (hosts : ℕ → Option Counted)
             → IsHadBefore waiting jobs hosts account place → AreSkipsFor waiting jobs hosts self.old → AreSkipsFor waiting jobs hosts self.new }
