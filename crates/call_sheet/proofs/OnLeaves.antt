@@ -9,7 +9,7 @@ use Rattle.sched_book.specs.declared.instance.Place.{Place}
 use Rattle.sched_book.specs.declared.instance.Status.TheVariants.{FailedTotal}
 use Rattle.sched_book.specs.declared.instance.UnitBook.{UnitBook}
 use Rattle.sched_book.specs.declared.world.World.{World}
-use Rattle.call_sheet.specs.Sheets.{IsReadAt, instances_now, instance_before, instance_now, status_before, standing_on}
+use Rattle.call_sheet.specs.Sheets.{IsReadAt, instances_now, instance_before, instance_now, status_before, existing_on}
 use Rattle.call_sheet.specs.declared.leaf.Leaf.{Leaf}
 
 -- the instances now, and one of them before
@@ -33,7 +33,7 @@ status_before-is entry present unit (Some k) read =
     ∙ sym (ap (λ (b : Option UnitBook). unwrap_or (option_map (status_of entry) b) FailedTotal) read.before)
 
 -- the place, if there was an instance
-pub standing-is : (entry present : World) (p : Place) (o : Option Leaf) → IsReadAt entry present p.unit o → standing_on o p ≡ standing entry p
+pub standing-is : (entry present : World) (p : Place) (o : Option Leaf) → IsReadAt entry present p.unit o → existing_on o p ≡ standing entry p
 standing-is entry present p o read = ap (option_map (λ (x : Instance). p)) (instance_before-is entry present p o read)
 
 pub ruleset standing_steps = (standing-is)

@@ -113,5 +113,5 @@ status_before None = FailedTotal
 status_before (Some k) = status k.agreement k.unit k.before
 
 -- a place, if there was an instance before the call
-abbrev pub standing_on : Option Leaf → Place → Option Place
-standing_on k p = option_map (λ x. p) (instance_before k p.number)
+abbrev pub existing_on : Option Leaf → Place → Option Place
+existing_on k p = option_map (λ x. p) (instance_before k p.number)

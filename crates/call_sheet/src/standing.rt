@@ -6,7 +6,7 @@ ghost use Rattle.sched_book.specs.Places.{place_named};
 ghost use Rattle.sched_book.specs.Delta.{applied, applied_one};
 ghost use Rattle.sched_book.specs.Trusted.{Trusted};
 ghost use Rattle.sched_book.specs.declared.delta.Change.TheVariants as change;
-ghost use Rattle.call_sheet.specs.Sheets.{standing_on};
+ghost use Rattle.call_sheet.specs.Sheets.{existing_on};
 
 use crate::draft::Draft;
 use crate::leaf::Leaf;
@@ -15,7 +15,7 @@ use std::alloc::Global;
 
 /// The place, if there was an instance when the call came.
 fn stood_at(leaf: Option<&Leaf>, place: Place) -> Option<Place>
-    ensures { result ≡ standing_on (option_copied leaf.entry) place }
+    ensures { result ≡ existing_on (option_copied leaf.entry) place }
 {
     match leaf {
         None => None,

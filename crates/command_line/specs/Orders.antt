@@ -5,7 +5,7 @@ use Rattle.clap.specs.Words.{IsAmong, Kinds, Row, Text, fault_of, first_of, subc
 use Rattle.clap.specs.declared.error.kind.ErrorKind.{ErrorKind}
 use Rattle.clap.specs.declared.error.kind.ErrorKind.TheVariants as kind
 use Rattle.texts.specs.Words.{word_of}
-use Rattle.instants.specs.Instants.{moment_told}
+use Rattle.instants.specs.Instants.{moment_in}
 use Rattle.command_line.specs.Numbers.{number_up_to, last_port, most_connections, last_host}
 use Rattle.command_line.specs.Program.{the_program}
 use Rattle.command_line.specs.declared.order.Order.{Order}
@@ -26,7 +26,7 @@ abbrev pub word_at : Text → List Row → Option Text
 word_at name values = first_of name values >>= word_of
 
 abbrev pub moment_at : Text → List Row → Option ℕ
-moment_at name values = first_of name values >>= moment_told
+moment_at name values = first_of name values >>= moment_in
 
 -- what each subcommand orders, from the values of its options
 abbrev pub create_order : List Row → Option Order

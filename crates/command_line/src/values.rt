@@ -7,7 +7,7 @@ ghost use Rattle.command_line.specs.Orders as spec;
 use crate::number::number_up_to;
 use crate::order::Order;
 use clap::ArgMatches;
-use instants::moment_told;
+use instants::moment_in;
 use sched_book::Moment;
 use sched_book::limits::MOST_NUMBER;
 use std::alloc::Global;
@@ -49,7 +49,7 @@ fn moment_at(values: &ArgMatches<'_>, name: &str) -> Option<Moment>
     ensures { result ≡ spec.moment_at name.now (rows_of (found_of values.now)) }
 {
     match value_at(values, name) {
-        Some(text) => moment_told(text),
+        Some(text) => moment_in(text),
         None => None,
     }
 }

@@ -10,7 +10,7 @@ use Rattle.rpc_records.specs.declared.fault.Fault.TheVariants.{TooLarge}
 use Rattle.stores.specs.Kinds.{kind_of}
 use Rattle.stores.specs.declared.kind.Kind.{Kind}
 use Rattle.texts.specs.Words.{is_word}
-use Rattle.http_messages.specs.Bodies.{body_length, told_length, length_within}
+use Rattle.http_messages.specs.Bodies.{body_length, length_from_field, length_within}
 use Rattle.http_messages.specs.Deciding.{Asked, Decision, call, import, tick, statement, wrong_method, refused, decided_for, decided_length, is_operator, asked_on, asked_with, statement_of}
 use Rattle.http_messages.specs.Fields.{Told, absent, once, often, told, is_told}
 use Rattle.http_messages.specs.Meaning.{Means}
@@ -77,7 +77,7 @@ within (Some bytes) = cases (nat_le bytes 1048576) refl
     cases true most = grind (arith, nat_tests, most)
     cases false more = tt
 
-told_within : (t : Told) → IsWithin (told_length at.Import t)
+told_within : (t : Told) → IsWithin (length_from_field at.Import t)
 told_within absent = tt
 told_within (once value) = within (length_in value)
 told_within often = tt

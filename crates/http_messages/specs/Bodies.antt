@@ -9,27 +9,27 @@ use Rattle.http_messages.specs.declared.route_kind.RouteKind.{RouteKind}
 use Rattle.http_messages.specs.declared.route_kind.RouteKind.TheVariants.{Scheduler, Import, Tick, Hosts}
 
 -- if no length is given, the body of a tick is empty
-abbrev pub untold_length : RouteKind → Result ℕ Fault
-untold_length Scheduler = Err LengthRequired
-untold_length Import = Err LengthRequired
-untold_length Tick = Ok 0
-untold_length Hosts = Err LengthRequired
+abbrev pub length_if_absent : RouteKind → Result ℕ Fault
+length_if_absent Scheduler = Err LengthRequired
+length_if_absent Import = Err LengthRequired
+length_if_absent Tick = Ok 0
+length_if_absent Hosts = Err LengthRequired
 
 abbrev pub length_within : ℕ → Option ℕ → Result ℕ Fault
 length_within most None = Err BadHttp
 length_within most (Some bytes) = if nat_le bytes most then Ok bytes else Err TooLarge
 
 -- the length, from what the fields Content-Length say
-abbrev pub told_length : RouteKind → Told → Result ℕ Fault
-told_length route_kind absent = untold_length route_kind
-told_length route_kind (once value) = length_within (most_bytes route_kind) (length_in value)
-told_length route_kind often = Err BadHttp
+abbrev pub length_from_field : RouteKind → Told → Result ℕ Fault
+length_from_field route_kind absent = length_if_absent route_kind
+length_from_field route_kind (once value) = length_within (most_bytes route_kind) (length_in value)
+length_from_field route_kind often = Err BadHttp
 
 -- the length of a body that is sent
 abbrev pub sent_length : RouteKind → List (List ℕ × List ℕ) → Result ℕ Fault
 sent_length route_kind fields =
     if is_told (told (codes "transfer-encoding") fields) then Err LengthRequired
-    else told_length route_kind (told (codes "content-length") fields)
+    else length_from_field route_kind (told (codes "content-length") fields)
 
 -- the length of the body, from the head's fields; the body of a GET is not read
 abbrev pub body_length : RouteKind → List (List ℕ × List ℕ) → Result ℕ Fault

@@ -11,8 +11,8 @@ use crate::route_kind::RouteKind;
 use httparse::spans::HeaderSpan;
 use rpc_records::Fault;
 
-fn untold_length(route_kind: RouteKind) -> Result<usize, Fault>
-    ensures { result ≡ spec.untold_length route_kind }
+fn length_if_absent(route_kind: RouteKind) -> Result<usize, Fault>
+    ensures { result ≡ spec.length_if_absent route_kind }
 {
     match route_kind {
         RouteKind::Tick => Ok(0),
@@ -31,11 +31,11 @@ fn length_within(most: usize, length: Option<u64>) -> Result<usize, Fault>
 }
 
 /// The length, from what the fields Content-Length say.
-fn told_length(route_kind: RouteKind, found: Found<'_>) -> Result<usize, Fault>
-    ensures { result ≡ spec.told_length route_kind (found_told found.entry) }
+fn length_from_field(route_kind: RouteKind, found: Found<'_>) -> Result<usize, Fault>
+    ensures { result ≡ spec.length_from_field route_kind (found_told found.entry) }
 {
     match found {
-        Found::Absent => untold_length(route_kind),
+        Found::Absent => length_if_absent(route_kind),
         Found::Once(value) => length_within(route_kind.most_bytes(), length_in(value)),
         Found::Often => Err(Fault::BadHttp),
     }
@@ -56,5 +56,5 @@ pub(crate) fn body_length(
     if find(front, spans, b"transfer-encoding").is_told() {
         return Err(Fault::LengthRequired);
     }
-    told_length(route_kind, find(front, spans, b"content-length"))
+    length_from_field(route_kind, find(front, spans, b"content-length"))
 }

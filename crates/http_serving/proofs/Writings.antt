@@ -7,7 +7,7 @@ use Rattle.std.specs.Prelude.{Option}
 use Rattle.http_responses.specs.Answers.{answer_bytes, response_of}
 use Rattle.http_responses.specs.Responses.{head_of, response_text}
 use Rattle.http_responses.specs.declared.answer.Answer.{Answer}
-use Rattle.http_serving.specs.Streams.{WentOut}
+use Rattle.http_serving.specs.Streams.{IsWritten}
 
 -- one more write
 pub Appends-more : (a b c : Option (List ℕ)) (bytes : List ℕ) (n m : ℕ)
@@ -16,13 +16,13 @@ Appends-more a b c bytes n m first next =
     subst (Appends a c) (sym (take-add n m bytes)) (Appends-trans a b c (take n bytes) (take m (drop n bytes)) first next)
 
 -- a write that took nothing
-pub WentOut-front : (a b c : Option (List ℕ)) (bytes : List ℕ) (n : ℕ) → Appends a b (take n bytes) → Appends b c [] → WentOut a c bytes
-WentOut-front a b c bytes n first none =
+pub IsWritten-front : (a b c : Option (List ℕ)) (bytes : List ℕ) (n : ℕ) → Appends a b (take n bytes) → Appends b c [] → IsWritten a c bytes
+IsWritten-front a b c bytes n first none =
     (take n bytes, drop n bytes, sym (take-append-drop n bytes), subst (Appends a c) (append-nil (take n bytes)) (Appends-trans a b c (take n bytes) [] first none))
 
 -- a write that failed
-pub WentOut-kept : (a b c : Option (List ℕ)) (bytes : List ℕ) (n : ℕ) → Appends a b (take n bytes) → Keeps b c → WentOut a c bytes
-WentOut-kept a b c bytes n first kept =
+pub IsWritten-kept : (a b c : Option (List ℕ)) (bytes : List ℕ) (n : ℕ) → Appends a b (take n bytes) → Keeps b c → IsWritten a c bytes
+IsWritten-kept a b c bytes n first kept =
     (take n bytes, drop n bytes, sym (take-append-drop n bytes), Appends-kept a b c (take n bytes) first kept)
 
 -- an answer is a head and a body
@@ -32,13 +32,13 @@ unfolding response_text
 answer-parts answer head body is_head is_body = ap₂ (λ (x y : List ℕ). x ++ y) (sym is_head) (sym is_body)
 
 -- the head was written, and a front of the body
-pub WentOut-behind : (a b c : Option (List ℕ)) (head body all : List ℕ) → all ≡ head ++ body → Appends a b head → WentOut b c body → WentOut a c all
-WentOut-behind a b c head body all is first next =
+pub IsWritten-behind : (a b c : Option (List ℕ)) (head body all : List ℕ) → all ≡ head ++ body → Appends a b head → IsWritten b c body → IsWritten a c all
+IsWritten-behind a b c head body all is first next =
     (head ++ next.0, next.1, is ∙ ap (λ (t : List ℕ). head ++ t) next.2 ∙ sym (append_assoc head next.0 next.1), Appends-trans a b c head next.0 first next.3)
 
 -- a front of the head was written
-pub WentOut-within : (a b : Option (List ℕ)) (head body all : List ℕ) → all ≡ head ++ body → WentOut a b head → WentOut a b all
-WentOut-within a b head body all is first =
+pub IsWritten-within : (a b : Option (List ℕ)) (head body all : List ℕ) → all ≡ head ++ body → IsWritten a b head → IsWritten a b all
+IsWritten-within a b head body all is first =
     (first.0, first.1 ++ body, is ∙ ap (λ (t : List ℕ). t ++ body) first.2 ∙ append_assoc first.0 first.1 body, first.3)
 
 pub ruleset answer_steps = (answer-parts)

@@ -8,5 +8,5 @@ Calls step zero before after = before ≡ after
 Calls step (suc n) before after = (between : _) × Calls step n before between × step between after
 
 -- A front of the answer was written: all of it, or as far as the writer took it.
-abbrev pub WentOut : Option (List ℕ) → Option (List ℕ) → List ℕ → Type 0
-WentOut before after answer = (front : List ℕ) × (rest : List ℕ) × (answer ≡ front ++ rest) × Appends before after front
+abbrev pub IsWritten : Option (List ℕ) → Option (List ℕ) → List ℕ → Type 0
+IsWritten before after answer = (front : List ℕ) × (rest : List ℕ) × (answer ≡ front ++ rest) × Appends before after front

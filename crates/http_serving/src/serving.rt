@@ -3,7 +3,7 @@
 ghost use Rattle.std.specs.Prelude.{◌≡◌, ◌⊎◌, ℕ, List, IsErrOf, OnOk, OnErr};
 ghost use Rattle.std.specs.Io.KnownBytes.{Appends};
 ghost use Rattle.http_serving.specs.Serving.{Comes, IsAnswered};
-ghost use Rattle.http_serving.specs.Streams.{Calls, WentOut};
+ghost use Rattle.http_serving.specs.Streams.{Calls, IsWritten};
 
 use crate::fault::IoFault;
 use crate::handler::Handler;
@@ -37,7 +37,7 @@ pub fn serve_one<H: Handler, R: Source, W: Sink>(
         → W.has_failed writer.new × ((bytes : List ℕ) × (answer : List ℕ)
         × Comes (H.wanting service.old) (R.left reader.old) (R.left reader.new) bytes
         × IsAnswered H.settled H.handles (R.left reader.new) service.old now bytes answer service.new
-        × WentOut (W.held writer.old) (W.held writer.new) answer) }
+        × IsWritten (W.held writer.old) (W.held writer.new) answer) }
 {
     match read_message(alloc, &*service, reader) {
         Ok(Heard::Message(bytes)) => answer_one(alloc, service, now, &bytes, writer),
@@ -59,7 +59,7 @@ fn answer_one<H: Handler, W: Sink>(
     ensures fault { OnErr result (result ≡ Err IoFault.Write) }
     ensures failed { OnErr result (W.has_failed writer.new) }
     ensures went_out { OnErr result ((answer : List ℕ) × H.handles service.old now bytes.now answer service.new
-        × WentOut (W.held writer.old) (W.held writer.new) answer) }
+        × IsWritten (W.held writer.old) (W.held writer.new) answer) }
 {
     let answer = service.handle(alloc, now, bytes);
     write_answer(&answer, writer)

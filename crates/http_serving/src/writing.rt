@@ -3,7 +3,7 @@
 ghost use Rattle.std.specs.Prelude.{◌≡◌, ◌++◌, OnOk, OnErr, IfSome};
 ghost use Rattle.std.specs.Io.KnownBytes.{Appends};
 ghost use Rattle.http_responses.specs.Answers.{answer_bytes};
-ghost use Rattle.http_serving.specs.Streams.{WentOut};
+ghost use Rattle.http_serving.specs.Streams.{IsWritten};
 
 use crate::fault::IoFault;
 use crate::streams::{Sink, StreamFault};
@@ -19,7 +19,7 @@ pub(crate) fn write_answer<W: Sink>(answer: &Answer, writer: &mut W) -> Result<(
     ensures ok { OnOk result (Appends (W.held writer.old) (W.held writer.new) (answer_bytes answer.now)) }
     ensures fault { OnErr result (result ≡ Err IoFault.Write) }
     ensures failed { OnErr result (W.has_failed writer.new) }
-    ensures went_out { OnErr result (WentOut (W.held writer.old) (W.held writer.new) (answer_bytes answer.now)) }
+    ensures went_out { OnErr result (IsWritten (W.held writer.old) (W.held writer.new) (answer_bytes answer.now)) }
 {
     let head = answer.head();
     let head = head.as_str().as_bytes();
@@ -45,7 +45,7 @@ fn write_in_turn<W: Sink>(head: &[u8], body: &[u8], writer: &mut W) -> Result<()
     ensures ok { OnOk result (Appends (W.held writer.old) (W.held writer.new) (head.now ++ body.now)) }
     ensures fault { OnErr result (result ≡ Err IoFault.Write) }
     ensures failed { OnErr result (W.has_failed writer.new) }
-    ensures went_out { OnErr result (WentOut (W.held writer.old) (W.held writer.new) (head.now ++ body.now)) }
+    ensures went_out { OnErr result (IsWritten (W.held writer.old) (W.held writer.new) (head.now ++ body.now)) }
 {
     write_whole(writer, head)?;
     write_whole(writer, body)
@@ -55,7 +55,7 @@ fn write_whole<W: Sink>(writer: &mut W, bytes: &[u8]) -> Result<(), IoFault>
     ensures ok { OnOk result (Appends (W.held writer.old) (W.held writer.new) bytes.now) }
     ensures fault { OnErr result (result ≡ Err IoFault.Write) }
     ensures failed { OnErr result (W.has_failed writer.new) }
-    ensures went_out { OnErr result (WentOut (W.held writer.old) (W.held writer.new) bytes.now) }
+    ensures went_out { OnErr result (IsWritten (W.held writer.old) (W.held writer.new) bytes.now) }
 {
     let mut written = 0;
     while written < bytes.len() {

@@ -12,9 +12,9 @@ moment_of_nanoseconds (pos n) =
 moment_of_nanoseconds (negsuc n) = None
 
 -- the moment of a text, which is an instant of ISO 8601 as `jiff` reads it
-abbrev pub moment_told : List ℕ → Option ℕ
-moment_told text = option_and_then moment_of_nanoseconds (result_ok (parse_timestamp text))
+abbrev pub moment_in : List ℕ → Option ℕ
+moment_in text = option_and_then moment_of_nanoseconds (result_ok (parse_timestamp text))
 
 -- the same for bytes, which must be UTF-8
 abbrev pub moment_of : List ℕ → Option ℕ
-moment_of bytes = if is_utf8 bytes then moment_told bytes else None
+moment_of bytes = if is_utf8 bytes then moment_in bytes else None

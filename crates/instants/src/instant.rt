@@ -13,14 +13,14 @@ pub fn moment_of(text: &[u8]) -> Option<Moment>
     ensures { result ≡ spec.moment_of text.now }
 {
     match utf8_text(text) {
-        Some(text) => moment_told(text),
+        Some(text) => moment_in(text),
         None => None,
     }
 }
 
 /// The same for a text.
-pub fn moment_told(text: &str) -> Option<Moment>
-    ensures { result ≡ spec.moment_told text.now }
+pub fn moment_in(text: &str) -> Option<Moment>
+    ensures { result ≡ spec.moment_in text.now }
 {
     match text.parse::<Timestamp>() {
         Ok(instant) => moment_at(instant),

@@ -3,4 +3,4 @@
 
 mod instant;
 
-pub use instant::{moment_of, moment_told};
+pub use instant::{moment_in, moment_of};

@@ -34,7 +34,7 @@ use Rattle.pasts.specs.FirstHeard.{has_host_room}
 use Rattle.pasts.specs.Leaves.{host_of_key}
 use Rattle.pasts.specs.Messages.{Rpc, key_of, heard_now}
 use Rattle.sched_book.specs.Limits.{last_moment}
-use Rattle.pasts.specs.Told.{told_fresh, told_heard, told_beside, told_call, told_account, told_number}
+use Rattle.pasts.specs.Told.{told_fresh, told_heard, answer_from_kept, told_call, told_account, told_number}
 use Rattle.pasts.specs.declared.answer.Answer.{Answer}
 use Rattle.pasts.specs.declared.answer.Answer.TheVariants.{Good, Refusal}
 use Rattle.pasts.proofs.ByNumber.{at_number, kept_by_number}
@@ -55,11 +55,11 @@ room_for w c = has_host_room w.settings.max_hosts c.host (length w.hosts)
 
 -- the answer to a named caller follows from the place of its call among its host's kept calls, and from room
 told_named : (w : World) (c : Caller) (r : Request) (kept : List Kept) → IsNamed w c r
-    → told_call w kept r ≡ told_beside (room_for w c) kept r.rpc_seqno (canonical_text r)
+    → told_call w kept r ≡ answer_from_kept (room_for w c) kept r.rpc_seqno (canonical_text r)
 told_named w c r kept named =
     ap (told_account w kept r) named.0.account
     ∙ ap (told_number w kept r) named.0.host
-    ∙ ap (λ (b : Bool). cond b (told_beside (room_for w c) kept r.rpc_seqno (canonical_text r)) (Some (Refusal fault.BadHost)))
+    ∙ ap (λ (b : Bool). cond b (answer_from_kept (room_for w c) kept r.rpc_seqno (canonical_text r)) (Some (Refusal fault.BadHost)))
     named.1
 
 -- ---- compared with the kept calls, with the room apart
@@ -70,8 +70,8 @@ heard_some room kept (heard.Repeat place) answer is = is
 heard_some room kept (heard.Reused last) answer is = is
 heard_some room kept (heard.Stale last) answer is = is
 
-beside_some : (room : Bool) (kept : List Kept) (seqno : ℕ) (text : List ℕ) (answer : Answer) → told_beside true kept seqno text ≡ Some answer
-    → told_beside room kept seqno text ≡ Some answer
+beside_some : (room : Bool) (kept : List Kept) (seqno : ℕ) (text : List ℕ) (answer : Answer) → answer_from_kept true kept seqno text ≡ Some answer
+    → answer_from_kept room kept seqno text ≡ Some answer
 beside_some room kept seqno text answer is = heard_some room kept (heard kept seqno text) answer is
 
 heard_fresh : (room : Bool) (kept : List Kept) (h : Heard) → told_heard true kept h ≡ None → told_heard room kept h ≡ told_fresh room
@@ -80,8 +80,8 @@ heard_fresh room kept (heard.Repeat place) is = absurd (none-some (Good (reply_a
 heard_fresh room kept (heard.Reused last) is = absurd (none-some (Refusal (fault.Reused last)) (sym is))
 heard_fresh room kept (heard.Stale last) is = absurd (none-some (Refusal (fault.Stale last)) (sym is))
 
-beside_fresh : (room : Bool) (kept : List Kept) (seqno : ℕ) (text : List ℕ) → told_beside true kept seqno text ≡ None
-    → told_beside room kept seqno text ≡ told_fresh room
+beside_fresh : (room : Bool) (kept : List Kept) (seqno : ℕ) (text : List ℕ) → answer_from_kept true kept seqno text ≡ None
+    → answer_from_kept room kept seqno text ≡ told_fresh room
 beside_fresh room kept seqno text is = heard_fresh room kept (heard kept seqno text) is
 
 no_room : (max count : ℕ) (number : Option ℕ) → number ≡ None → max ≤ count → has_host_room max number count ≡ false
@@ -92,7 +92,7 @@ no_room max count (Some number) none full = absurd (none-some number (sym none))
 told_acting : (held : Held) (c : Caller) (r : Request) → MayAct held c r → told_call held.world (calls_by_number held.world held.calls (key_of r)) r ≡ told_fresh (room_for held.world c)
 told_acting held c r may =
     told_named held.world c r (calls_by_number held.world held.calls (key_of r)) may.0
-    ∙ ap (λ o. told_beside (room_for held.world c) (kept_at held.calls o) r.rpc_seqno (canonical_text r)) (number_named held.world c r may.0)
+    ∙ ap (λ o. answer_from_kept (room_for held.world c) (kept_at held.calls o) r.rpc_seqno (canonical_text r)) (number_named held.world c r may.0)
     ∙ beside_fresh (room_for held.world c) (kept_at held.calls c.host) r.rpc_seqno (canonical_text r) may.1
 
 -- ---- a call that is answered without a step, by a store whose world is w
@@ -103,14 +103,14 @@ module _ (old new : Held) (w : World) (world_is : old.world ≡ w) (left : IsLef
       told_serves (heard_now now (Rpc r)) (Refusal fault.BadAccount) old new
       (ap (told_account old.world (calls_by_number old.world old.calls (key_of r)) r) (ap (λ v. account_place v r.authenticator) world_is ∙ unknown)) left
 
-  pub number_serves : admission.TellsWrongNumber w r → ServesCall r now (Refusal fault.BadHost) old new
+  pub number_serves : admission.NamesWrongNumber w r → ServesCall r now (Refusal fault.BadHost) old new
   number_serves tells_there =
-      let tells : admission.TellsWrongNumber old.world r = subst (λ v. admission.TellsWrongNumber v r) (sym world_is) tells_there in
+      let tells : admission.NamesWrongNumber old.world r = subst (λ v. admission.NamesWrongNumber v r) (sym world_is) tells_there in
       let kept : List Kept = calls_by_number old.world old.calls (key_of r) in
       let number : Option ℕ = known_host old.world tells.account r.host.host_cpid in
       told_serves (heard_now now (Rpc r)) (Refusal fault.BadHost) old new
       (ap (told_account old.world kept r) tells.stands
-      ∙ ap (λ (b : Bool). cond b (told_beside (has_host_room old.world.settings.max_hosts number (length old.world.hosts)) kept r.rpc_seqno (canonical_text r)) (Some (Refusal fault.BadHost)))
+      ∙ ap (λ (b : Bool). cond b (answer_from_kept (has_host_room old.world.settings.max_hosts number (length old.world.hosts)) kept r.rpc_seqno (canonical_text r)) (Some (Refusal fault.BadHost)))
       tells.wrong)
       left
 
@@ -125,7 +125,7 @@ module _ (old new : Held) (w : World) (world_is : old.world ≡ w) (left : IsLef
   again_serves c text told answer spelt is told_is named =
       told_serves (heard_now now (Rpc r)) answer old new
       (told_named old.world c r (calls_by_number old.world old.calls (key_of r)) named
-      ∙ ap (λ o. told_beside (room_for old.world c) (kept_at old.calls o) r.rpc_seqno (canonical_text r)) (number_named old.world c r named)
+      ∙ ap (λ o. answer_from_kept (room_for old.world c) (kept_at old.calls o) r.rpc_seqno (canonical_text r)) (number_named old.world c r named)
       ∙ beside_some (room_for old.world c) (kept_at old.calls c.host) r.rpc_seqno (canonical_text r) answer
       (ap (told_caller old.calls c r.rpc_seqno) (sym spelt) ∙ sym told_is ∙ is))
       left
@@ -133,7 +133,7 @@ module _ (old new : Held) (w : World) (world_is : old.world ≡ w) (left : IsLef
 -- ---- a call that acts
 
 -- a call that the kept ones do not answer is above them
-above_kept : (kept : List Kept) (seqno : ℕ) (text : List ℕ) → told_beside true kept seqno text ≡ None → is_above_all seqno kept ≡ true
+above_kept : (kept : List Kept) (seqno : ℕ) (text : List ℕ) → answer_from_kept true kept seqno text ≡ None → is_above_all seqno kept ≡ true
 above_kept kept seqno text none =
     (and_parts (is_above_all seqno kept) true (sym (beside_none true kept seqno text) ∙ ap (λ (o : Option Answer). is_none o) none)).0
 

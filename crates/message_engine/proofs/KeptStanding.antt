@@ -22,7 +22,7 @@ use Rattle.sched_book.specs.declared.machine.Call.{Call}
 use Rattle.sched_book.specs.declared.machine.Caller.{Caller}
 use Rattle.sched_book.specs.declared.world.World.{World}
 use Rattle.sched_book.proofs.PlacesOf.{nth-within}
-use Rattle.stores.specs.Eras.{kept_beside, this_era}
+use Rattle.stores.specs.Eras.{kept_before_last, this_era}
 use Rattle.stores.specs.Held.{Calls, Batches, Held, calls_with, batches_with, IsCommitted}
 use Rattle.stores.specs.Kinds.{same_kind}
 use Rattle.stores.specs.Standing.{MayBeKept, MayStand}
@@ -77,10 +77,10 @@ AreKeptCalls w calls = (host : ℕ) → All (λ k. MayBeKept w (entry.Kept host 
 calls_stand : (w : World) (e : Entry) (calls : Calls) → MayBeKept w e → AreKeptCalls w calls → AreKeptCalls w (calls_with e calls)
 calls_stand w (entry.Kept host k) calls may all = λ n. cases n (eqb host n) refl
   where
-    cases : (n : ℕ) (b : Bool) → eqb host n ≡ b → All (λ x. MayBeKept w (entry.Kept n x)) (cond b (k ∷ take (kept_beside this_era) (calls host)) (calls n))
+    cases : (n : ℕ) (b : Bool) → eqb host n ≡ b → All (λ x. MayBeKept w (entry.Kept n x)) (cond b (k ∷ take (kept_before_last this_era) (calls host)) (calls n))
     cases n true same =
-        let P : ℕ → Type 0 = λ m. All (λ x. MayBeKept w (entry.Kept m x)) (k ∷ take (kept_beside this_era) (calls host)) in
-        subst P (eqb-true host n same) (All-cons (λ x. MayBeKept w (entry.Kept host x)) k (take (kept_beside this_era) (calls host)) may (All-take (λ x. MayBeKept w (entry.Kept host x)) (kept_beside this_era) (calls host) (all host)))
+        let P : ℕ → Type 0 = λ m. All (λ x. MayBeKept w (entry.Kept m x)) (k ∷ take (kept_before_last this_era) (calls host)) in
+        subst P (eqb-true host n same) (All-cons (λ x. MayBeKept w (entry.Kept host x)) k (take (kept_before_last this_era) (calls host)) may (All-take (λ x. MayBeKept w (entry.Kept host x)) (kept_before_last this_era) (calls host) (all host)))
     cases n false other = all n
 calls_stand w (entry.Batch kind name b) calls may all = all
 calls_stand w entry.Nothing calls may all = all

@@ -13,7 +13,7 @@ use Rattle.stores.specs.declared.entry.Entry.{Entry}
 use Rattle.stores.specs.declared.entry.Entry.TheVariants.{Kept}
 use Rattle.pasts.specs.ByNumber.{kept_at}
 use Rattle.pasts.specs.Messages.{Rpc, heard_now}
-use Rattle.pasts.specs.Told.{told_beside}
+use Rattle.pasts.specs.Told.{answer_from_kept}
 use Rattle.pasts.specs.declared.answer.Answer.{Answer}
 use Rattle.message_engine.specs.Stores.{ServesIn, IsServed}
 
@@ -23,7 +23,7 @@ IsNamed w c r = IsCaller w c r × (names_host r.hostid c.host ≡ true)
 
 -- The answer to a call of this number and text without a step. It follows from the kept calls of its caller, if there is room for its host.
 abbrev pub told_caller : Calls → Caller → ℕ → List ℕ → Option Answer
-told_caller calls c seqno text = told_beside true (kept_at calls c.host) seqno text
+told_caller calls c seqno text = answer_from_kept true (kept_at calls c.host) seqno text
 
 -- a call that only a lack of room may refuse
 abbrev pub MayAct : Held → Caller → Request → Type 0

@@ -10,7 +10,7 @@ ghost use Rattle.stores.specs.Acting.{ActsWhole};
 ghost use Rattle.stores.specs.Held.{IsCommitted, IsKeptSoundly, MayBeCommitted};
 ghost use Rattle.stores.specs.declared.entry.Entry.TheVariants as entry;
 ghost use Rattle.pasts.specs.ByNumber.{kept_at};
-ghost use Rattle.pasts.specs.Told.{told_beside};
+ghost use Rattle.pasts.specs.Told.{answer_from_kept};
 ghost use Rattle.pasts.specs.declared.answer.Answer.TheVariants.{Good};
 ghost use Rattle.message_engine.specs.Calls.{IsNamed, IsCallServed, MayAct, ServesCall, entry_of_call, told_caller};
 
@@ -33,8 +33,8 @@ fn kept_reply(kept: &[Kept], place: usize) -> Result<Answer, Memory>
 }
 
 /// The answer to a call of this number and canonical text from the kept calls of its host; `None` if it is fresh.
-fn told_beside(kept: &[Kept], seqno: u32, text: &str) -> Result<Option<Answer>, Memory>
-    ensures { IfOk result (λ told. told ≡ told_beside true kept.now seqno text.now) }
+fn answer_from_kept(kept: &[Kept], seqno: u32, text: &str) -> Result<Option<Answer>, Memory>
+    ensures { IfOk result (λ told. told ≡ answer_from_kept true kept.now seqno text.now) }
 {
     match classify(kept, seqno, text) {
         Heard::Fresh => Ok(None),
@@ -72,7 +72,7 @@ fn told_kept<S: Store>(
         told ≡ told_caller (S.holds store.old).calls caller.now seqno text.now)) }
 {
     let kept = kept_of(alloc, store, caller)?;
-    Ok(told_beside(kept.as_slice(), seqno, text)?)
+    Ok(answer_from_kept(kept.as_slice(), seqno, text)?)
 }
 
 /// The entry of a call of this host, with the body of its reply.

@@ -33,8 +33,8 @@ new_units (rows.Versions xs) = 0
 new_units (rows.Workunits xs) = length xs
 
 -- with so many rows in each table there is room for the new ones
-abbrev pub has_room_beside : Counts → Rows → Bool
-has_room_beside c new =
+abbrev pub has_room_for : Counts → Rows → Bool
+has_room_for c new =
     nat_le (c.accounts + new_accounts new) most_accounts && nat_le (c.apps + new_apps new) most_apps
     && nat_le (c.versions + new_versions new) most_versions && nat_le (c.workunits + new_units new) most_workunits
 

@@ -51,9 +51,9 @@ pub record AreSettingsOf (table : Members) (s : Settings) : Type 0 where
   pub in_limits : AreSettingsInLimits s
 
 -- a text has these settings: as TOML it is a table of them
-abbrev pub TellsSettings : List ℕ → Settings → Type 0
-TellsSettings text s = (table : Members) × (parse_document text ≡ Some table) × AreSettingsOf table s
+abbrev pub HasSettings : List ℕ → Settings → Type 0
+HasSettings text s = (table : Members) × (parse_document text ≡ Some table) × AreSettingsOf table s
 
 -- a text has at most one set of settings
 abbrev pub TextsTellOneSettings : Type 0
-TextsTellOneSettings = (text : List ℕ) (s t : Settings) → TellsSettings text s → TellsSettings text t → s ≡ t
+TextsTellOneSettings = (text : List ℕ) (s t : Settings) → HasSettings text s → HasSettings text t → s ≡ t

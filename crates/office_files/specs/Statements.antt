@@ -80,13 +80,13 @@ abbrev pub credit_text : ℕ → List ℕ
 credit_text millicredits = decimal (millicredits / 1000) ++ 46 ∷ three_digits (millicredits % 1000)
 
 -- the fields of a line whose moments and credit have these texts
-abbrev pub fields_beside : Line → List ℕ → List ℕ → List ℕ → List (List ℕ)
-fields_beside line sent deadline credit =
+abbrev pub fields_with : Line → List ℕ → List ℕ → List ℕ → List (List ℕ)
+fields_with line sent deadline credit =
     line.result ∷ line.app ∷ sent ∷ deadline
     ∷ decimal line.server_state ∷ decimal line.outcome ∷ decimal line.validate_state ∷ credit ∷ []
 
 abbrev pub fields_of_line : Line → List (List ℕ)
-fields_of_line line = fields_beside line (civil_text line.sent) (civil_text line.deadline) (credit_text line.credit)
+fields_of_line line = fields_with line (civil_text line.sent) (civil_text line.deadline) (credit_text line.credit)
 
 abbrev pub header : List (List ℕ)
 header =

@@ -117,8 +117,8 @@ fn fits(count: u32, new: usize, most: usize) -> bool
     new <= most && count as usize + new <= most
 }
 
-fn has_room_beside(counts: Counts, rows: &Rows) -> bool
-    ensures { result ≡ spec.has_room_beside counts rows.now }
+fn has_room_for(counts: Counts, rows: &Rows) -> bool
+    ensures { result ≡ spec.has_room_for counts rows.now }
 {
     let (accounts, apps, versions, workunits) = match rows {
         Rows::Accounts(accounts) => (accounts.len(), 0, 0, 0),
@@ -138,7 +138,7 @@ fn has_room<D: Desk>(desk: &mut D, rows: &Rows) -> Result<bool, Unavailable>
         IfOk result (λ room. room ≡ has_room (shelved (shelf_of (D.world desk.old)) rows.now))) }
 {
     let counts = desk.counts()?;
-    Ok(has_room_beside(counts, rows))
+    Ok(has_room_for(counts, rows))
 }
 
 /// Checks the rows of an import against the rows that exist.

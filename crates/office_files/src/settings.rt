@@ -67,9 +67,9 @@ impl From<toml::de::Error> for SettingsFault {
 /// Reads the settings of a TOML text: a table of exactly the seven keys, each with a value of its kind and in its
 /// range. Any other text is [`SettingsFault::Bad`].
 pub fn settings_of(alloc: Global, text: &str) -> Result<Settings, SettingsFault>
-    ensures ok { IfOk result (spec.TellsSettings text.now) }
+    ensures ok { IfOk result (spec.HasSettings text.now) }
     ensures range { IfOk result AreSettingsInLimits }
-    ensures bad { IfErr result (λ e. e ≡ SettingsFault.Bad → (s : Settings) → ¬ spec.TellsSettings text.now s) }
+    ensures bad { IfErr result (λ e. e ≡ SettingsFault.Bad → (s : Settings) → ¬ spec.HasSettings text.now s) }
 {
     let table = toml::table_from_str(alloc, text)?;
     settings_in(alloc, &table)

@@ -29,7 +29,7 @@ use Rattle.sched_book.specs.declared.rows.Rows.TheVariants as rows
 use Rattle.sched_book.specs.declared.world.World.{World}
 use Rattle.sched_book.proofs.PlacesOf.{place_where-is, place_where-push, found_from, FoundFrom}
 use Rattle.sched_book.proofs.LeftByImports.{hosts_with_rows}
-use Rattle.stores.specs.Eras.{kept_beside}
+use Rattle.stores.specs.Eras.{kept_before_last}
 use Rattle.stores.specs.Held.{put_at, put_call}
 use Rattle.pasts.specs.Answers.{body_of, kept_call, kept_after}
 use Rattle.pasts.specs.ByNumber.{kept_at, numbered_after, calls_by_number, AreOfHosts, KeptByNumber}
@@ -161,7 +161,7 @@ call_kept era w after c r now answer caller step body kept of key =
     mine = (c.account, r.host.host_cpid)
 
     new : List Kept → List Kept
-    new older = kept_call r body ∷ take (kept_beside era) older
+    new older = kept_call r body ∷ take (kept_before_last era) older
 
     here : place_of mine names ≡ c.host
     here = place_where-is (is_name c.account r.host.host_cpid) names ∙ sym (known-place w.hosts c.account r.host.host_cpid) ∙ caller.host
@@ -297,7 +297,7 @@ call_of_hosts : (era : ℕ) (w after : World) (c : Caller) (r : Request) (now : 
     → (body : List ℕ) (kept : ℕ → List Kept) → AreOfHosts w kept → AreOfHosts after (numbered_after era w (call.Rpc c r) body kept)
 call_of_hosts era w after c r now answer caller step body kept of =
     let hosts = call_hosts w after c r now answer caller step in
-    put_of (length w.hosts) (length after.hosts) (host_number w c) (kept_call r body ∷ take (kept_beside era) (kept (host_number w c))) kept of hosts.0 hosts.2
+    put_of (length w.hosts) (length after.hosts) (host_number w c) (kept_call r body ∷ take (kept_before_last era) (kept (host_number w c))) kept of hosts.0 hosts.2
 
 import_hosts : (w after : World) (new : Rows) (now : ℕ) (answer : Answered) → Step w (call.Import new) now after answer → length after.hosts ≡ length w.hosts
 import_hosts w after new now (answered.Imported n) step = ap (λ (v : World). length v.hosts) step.left ∙ ap length (hosts_with_rows w new)

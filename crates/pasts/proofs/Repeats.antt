@@ -23,7 +23,7 @@ use Rattle.sched_book.specs.Places.{place_where, account_place, known_host}
 use Rattle.sched_book.specs.declared.rows.Rows.{Rows}
 use Rattle.sched_book.specs.declared.settings.Settings.{Settings}
 use Rattle.sched_book.proofs.PlacesOf.{place_where-is, place_where-push}
-use Rattle.stores.specs.Eras.{kept_beside}
+use Rattle.stores.specs.Eras.{kept_before_last}
 use Rattle.stores.specs.declared.batch.KeptBatch.{KeptBatch}
 use Rattle.stores.specs.declared.kind.Kind.{Kind}
 use Rattle.pasts.specs.Answers.{kept_call, kept_after, batch_after}
@@ -34,7 +34,7 @@ use Rattle.pasts.specs.Messages.{Said, Rpc, Import, Tick, Read, Refused, Message
 use Rattle.pasts.specs.Repeats.{is_call_of, newest, kept_calls, IsCallOf, AreToldBeside, CallsAreToldBesideTheKept, BatchesCountOnce}
 use Rattle.pasts.specs.Runs.{Turn, turn_body, kept_of, batch_of}
 use Rattle.pasts.specs.Stands.{Heard, Past, Tables, Acts, Answers, messages_in, told_by}
-use Rattle.pasts.specs.Told.{told_heard, told_beside, told_number, told_account, told_import}
+use Rattle.pasts.specs.Told.{told_heard, answer_from_kept, told_number, told_account, told_import}
 use Rattle.pasts.specs.declared.answer.Answer.TheVariants.{Good, Refusal}
 use Rattle.pasts.proofs.Carried.{IsRunOf, run_of, rows_are_of_first_heard}
 use Rattle.pasts.proofs.HostKeys.{keys_after, with_key-is}
@@ -230,13 +230,13 @@ acted_are : (s : Settings) (key : Key) (era : ℕ) (heard : List Message) (h : H
     → h.message.said ≡ said → is_first_heard s heard said ≡ true → h.answer ≡ Good body
     → ((seqno : ℕ) → is_above key seqno heard ≡ is_above_all seqno ks)
     → AreKept (rows_of heard) (keys_of heard) key hs ks
-    → AreKept (shelf_said said (rows_of heard)) (keys_said said (keys_of heard)) key (if is_call_of key said then h ∷ take (kept_beside era) hs else hs)
+    → AreKept (shelf_said said (rows_of heard)) (keys_said said (keys_of heard)) key (if is_call_of key said then h ∷ take (kept_before_last era) hs else hs)
     (kept_after era key said body ks)
 acted_are s key era heard h body (Rpc r) hs ks says first answer above are = cases (same_key key (key_of r)) refl
   where
     cases : (same : Bool) → same_key key (key_of r) ≡ same
-        → AreKept (rows_of heard) (with_key (key_of r) (keys_of heard)) key (if same then h ∷ take (kept_beside era) hs else hs)
-        (if same then kept_call r body ∷ take (kept_beside era) ks else ks)
+        → AreKept (rows_of heard) (with_key (key_of r) (keys_of heard)) key (if same then h ∷ take (kept_before_last era) hs else hs)
+        (if same then kept_call r body ∷ take (kept_before_last era) ks else ks)
     cases true same =
         let is : key ≡ key_of r = same_key-is key (key_of r) same in
         let rises : is_above_all r.rpc_seqno ks ≡ true =
@@ -250,8 +250,8 @@ acted_are s key era heard h body (Rpc r) hs ks says first answer above are = cas
             answer = answer;
             let_in = first_let_in s heard r first;
           },
-          above_taken (kept_beside era) ks r.rpc_seqno rises,
-          are_taken (kept_beside era) _ _ key hs ks (are_more (rows_of heard) (keys_of heard) key (Rpc r) hs ks are),
+          above_taken (kept_before_last era) ks r.rpc_seqno rises,
+          are_taken (kept_before_last era) _ _ key hs ks (are_more (rows_of heard) (keys_of heard) key (Rpc r) hs ks are),
         )
     cases false other = are_more (rows_of heard) (keys_of heard) key (Rpc r) hs ks are
 acted_are s key era heard h body (Import kind batch text read) hs ks says first answer above are =
@@ -278,17 +278,17 @@ kept_are s key (h ∷ past) turns answers =
           let mine = acted_are s key h.message.era heard h (turn_body turn) said (kept_calls s key past) (kept_of older key) refl acts.0 acts.4.answer above
           (kept_are s key past older acts.5) in
           let M : Message → Type 0 = λ m. AreKept (shelf_said said (rows_of heard)) (keys_said said (keys_of heard)) key
-          (if is_call_of key said then h ∷ take (kept_beside h.message.era) (kept_calls s key past) else kept_calls s key past)
+          (if is_call_of key said then h ∷ take (kept_before_last h.message.era) (kept_calls s key past) else kept_calls s key past)
           (kept_after m.era key m.said (turn_body turn) (kept_of older key)) in
           let T : List Turn → Type 0 = λ ts. AreKept (rows_of (first_heard s (messages_in (h ∷ past)))) (keys_of (first_heard s (messages_in (h ∷ past)))) key
           (kept_calls s key (h ∷ past)) (kept_of ts key) in
           let L : Bool → Type 0 = λ b. AreKept (rows_of (if b then h.message ∷ heard else heard)) (keys_of (if b then h.message ∷ heard else heard)) key
-          (if b && is_call_of key said then h ∷ take (kept_beside h.message.era) (kept_calls s key past) else kept_calls s key past)
+          (if b && is_call_of key said then h ∷ take (kept_before_last h.message.era) (kept_calls s key past) else kept_calls s key past)
           (kept_of (turn ∷ older) key) in
           subst T (sym acts.3) (subst L (sym acts.0) (subst M (sym acts.4.message) mine))
       | inr quiet ↦
           let L : Bool → Type 0 = λ b. AreKept (rows_of (if b then h.message ∷ heard else heard)) (keys_of (if b then h.message ∷ heard else heard)) key
-          (if b && is_call_of key said then h ∷ take (kept_beside h.message.era) (kept_calls s key past) else kept_calls s key past)
+          (if b && is_call_of key said then h ∷ take (kept_before_last h.message.era) (kept_calls s key past) else kept_calls s key past)
           (kept_of turns key) in
           subst L (sym quiet.0) (kept_are s key past turns quiet.2)
     ]
@@ -356,7 +356,7 @@ module _ (t : Tables) (shelf : Shelf) (keys : List Key) (key : Key) (rows : shel
       ∙ ap (host_of_key t.world) same ∙ host_is r mine was in
       (λ i. told_account t.world ((ap t.calls same ∙ calls) i) q (account i))
       ∙ ap (told_number t.world (k ∷ ks) q) number
-      ∙ ap (λ (b : Bool). if b then told_beside true (k ∷ ks) q.rpc_seqno (canonical_text q) else Some (Refusal fault.BadHost)) names
+      ∙ ap (λ (b : Bool). if b then answer_from_kept true (k ∷ ks) q.rpc_seqno (canonical_text q) else Some (Refusal fault.BadHost)) names
 
   -- any call of the key
   told_so : (q : Request) → IsCallOf t key q → told_by t (Rpc q) ≡ told_heard true (k ∷ ks) (heard (k ∷ ks) q.rpc_seqno (canonical_text q))

@@ -17,13 +17,13 @@ use Rattle.sched_book.specs.Places.{place_where, account_place, known_host}
 use Rattle.sched_book.specs.declared.rows.Rows.{Rows}
 use Rattle.sched_book.specs.declared.settings.Settings.{Settings}
 use Rattle.sched_book.specs.declared.world.World.{World}
-use Rattle.stores.specs.Eras.{kept_beside}
+use Rattle.stores.specs.Eras.{kept_before_last}
 use Rattle.pasts.specs.Answers.{kept_call, kept_after, batch_after}
 use Rattle.pasts.specs.FirstHeard.{account_on, above_said, has_batch, has_host_room, is_above, is_batch, is_first_call, is_first_heard, keys_of, names_host, rows_of}
 use Rattle.pasts.specs.Leaves.{host_of_key}
 use Rattle.pasts.specs.Messages.{Said, Rpc, Import, Tick, Read, Refused, Message, key_of}
 use Rattle.pasts.specs.Runs.{Turn, turn_body, world_of, messages_of, kept_of, batch_of}
-use Rattle.pasts.specs.Told.{told_fresh, told_heard, told_beside, told_account, told_import, told}
+use Rattle.pasts.specs.Told.{told_fresh, told_heard, answer_from_kept, told_account, told_import, told}
 use Rattle.pasts.specs.declared.answer.Answer.{Answer}
 use Rattle.pasts.specs.declared.answer.Answer.TheVariants.{Refusal}
 use Rattle.stores.specs.declared.batch.KeptBatch.{KeptBatch}
@@ -40,12 +40,12 @@ both_alike false b c left right = refl
 -- a number above the newest of the key's calls is above each of them
 above_call : (same : Bool) (era : ℕ) (kept : List Kept) (newest : Kept) (seqno : ℕ) → (same ≡ true → is_above_all newest.seqno kept ≡ true)
     → ((if same then nat_lt newest.seqno seqno else true) && is_above_all seqno kept)
-    ≡ is_above_all seqno (if same then newest ∷ take (kept_beside era) kept else kept)
+    ≡ is_above_all seqno (if same then newest ∷ take (kept_before_last era) kept else kept)
 above_call false era kept newest seqno rises = refl
 above_call true era kept newest seqno rises =
-    both_alike (nat_lt newest.seqno seqno) (is_above_all seqno kept) (is_above_all seqno (take (kept_beside era) kept))
+    both_alike (nat_lt newest.seqno seqno) (is_above_all seqno kept) (is_above_all seqno (take (kept_before_last era) kept))
     (λ less. above_more kept newest.seqno seqno less (rises refl))
-    (λ less. above_taken (kept_beside era) kept seqno (above_more kept newest.seqno seqno less (rises refl)))
+    (λ less. above_taken (kept_before_last era) kept seqno (above_more kept newest.seqno seqno less (rises refl)))
 
 is_third : (a b c d : Bool) → (a && b && c && d) ≡ true → c ≡ true
 is_third a b true d all = refl
@@ -115,7 +115,7 @@ heard_none room false kept text (Some place) = cases (bytes_eq (text_at kept pla
     cases true = refl
     cases false = refl
 
-pub beside_none : (room : Bool) (kept : List Kept) (seqno : ℕ) (text : List ℕ) → is_none (told_beside room kept seqno text) ≡ (is_above_all seqno kept && room)
+pub beside_none : (room : Bool) (kept : List Kept) (seqno : ℕ) (text : List ℕ) → is_none (answer_from_kept room kept seqno text) ≡ (is_above_all seqno kept && room)
 beside_none room kept seqno text = heard_none room (is_above_all seqno kept) kept text (position (has_number seqno) kept)
 
 number_cases : (names above room : Bool) (beside : Option Answer) (x : Answer) → is_none beside ≡ (above && room)
@@ -134,7 +134,7 @@ call_told w kept r (Some a) number above count is above_is count_is =
     λ i. is_first_call w.settings r (Some a) (is a refl i) (above_is i) (count_is i) in
     here
     ∙ number_cases (names_host r.hostid known) (is_above_all r.rpc_seqno kept) (has_host_room w.settings.max_hosts known (length w.hosts))
-    (told_beside (has_host_room w.settings.max_hosts known (length w.hosts)) kept r.rpc_seqno (canonical_text r)) _
+    (answer_from_kept (has_host_room w.settings.max_hosts known (length w.hosts)) kept r.rpc_seqno (canonical_text r)) _
     (beside_none (has_host_room w.settings.max_hosts known (length w.hosts)) kept r.rpc_seqno (canonical_text r))
 
 import_told : (w : World) (kept : Option KeptBatch) (text : List ℕ) (rows : Rows)

@@ -6,7 +6,7 @@ use Rattle.std.proofs.lemmas.Bool.{le-leb, lt-leb}
 use Rattle.std.proofs.lemmas.List.{length-append, length-replicate, length-take, take_all}
 use Rattle.reply_register.specs.declared.key.Key.{Key}
 use Rattle.sched_book.specs.declared.settings.Settings.{Settings}
-use Rattle.stores.specs.Eras.{era_at, kept_beside, new_upgrade_points}
+use Rattle.stores.specs.Eras.{era_at, kept_before_last, new_upgrade_points}
 use Rattle.pasts.specs.UpgradePoints.{AreOfEras, NewPastsAreInEra, ErasGoOn, UpgradesLeadOn, NewTablesHaveOneEra, KeptSinceTheFirstUpgrade}
 use Rattle.pasts.specs.Repeats.{calls_heard, is_first_of, kept_calls, KeptAreTheLatestFour}
 use Rattle.pasts.specs.Stands.{Heard, Past}
@@ -99,12 +99,12 @@ one_kept s key [] first = refl
 one_kept s key (h ∷ past) first = cases (is_first_of s key past h) (one_kept s key past first.1)
   where
     cases : (b : Bool) → kept_calls s key past ≡ take 1 (calls_heard s key past)
-        → (if b then h ∷ take (kept_beside h.message.era) (kept_calls s key past) else kept_calls s key past)
+        → (if b then h ∷ take (kept_before_last h.message.era) (kept_calls s key past) else kept_calls s key past)
         ≡ take 1 (if b then h ∷ calls_heard s key past else calls_heard s key past)
-    cases true older = ap (λ era. h ∷ take (kept_beside era) (kept_calls s key past)) first.0
+    cases true older = ap (λ era. h ∷ take (kept_before_last era) (kept_calls s key past)) first.0
     cases false older = older
 
-three_beside : (era : ℕ) → 1 ≤ era → kept_beside era ≡ 3
+three_beside : (era : ℕ) → 1 ≤ era → kept_before_last era ≡ 3
 three_beside zero later = absurd (omega (arith, later))
 three_beside (suc era) later = refl
 
@@ -126,7 +126,7 @@ kept_are_the_latest_four s key (h ∷ newer) older later first =
     cases : (b : Bool) → AreLatestFour s key (newer ++ older) older
         → (since : List Heard)
         × ((if b then h ∷ calls_heard s key (newer ++ older) else calls_heard s key (newer ++ older)) ≡ since ++ calls_heard s key older)
-        × ((if b then h ∷ take (kept_beside h.message.era) (kept_calls s key (newer ++ older)) else kept_calls s key (newer ++ older))
+        × ((if b then h ∷ take (kept_before_last h.message.era) (kept_calls s key (newer ++ older)) else kept_calls s key (newer ++ older))
         ≡ take 4 (since ++ take 1 (calls_heard s key older)))
     cases true rest = (
       h ∷ rest.0,

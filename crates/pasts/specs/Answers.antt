@@ -11,7 +11,7 @@ use Rattle.rpc_records.specs.Spelling.{whole, canonical_text}
 use Rattle.rpc_records.specs.declared.request.Request.{Request}
 use Rattle.sched_book.specs.declared.machine.Answered.{Answered}
 use Rattle.sched_book.specs.declared.machine.Answered.TheVariants as answered
-use Rattle.stores.specs.Eras.{kept_beside}
+use Rattle.stores.specs.Eras.{kept_before_last}
 use Rattle.pasts.specs.FirstHeard.{is_batch}
 use Rattle.stores.specs.Kinds.{kind_name}
 use Rattle.pasts.specs.Messages.{Said, Rpc, Import, key_of}
@@ -48,7 +48,7 @@ kept_call request reply = record { seqno = request.rpc_seqno; text = canonical_t
 
 -- what is kept of a key after a first-heard message of an era with this body, the last call first
 abbrev pub kept_after : ℕ → Key → Said → List ℕ → List Kept → List Kept
-kept_after era key (Rpc request) body older = if same_key key (key_of request) then kept_call request body ∷ take (kept_beside era) older else older
+kept_after era key (Rpc request) body older = if same_key key (key_of request) then kept_call request body ∷ take (kept_before_last era) older else older
 kept_after era key said body older = older
 
 -- what is kept of a batch after a first-heard message with this body

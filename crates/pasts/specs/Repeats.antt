@@ -10,7 +10,7 @@ use Rattle.rpc_records.specs.declared.fault.Fault.TheVariants as fault
 use Rattle.rpc_records.specs.declared.request.Request.{Request}
 use Rattle.sched_book.specs.declared.rows.Rows.{Rows}
 use Rattle.sched_book.specs.declared.settings.Settings.{Settings}
-use Rattle.stores.specs.Eras.{kept_beside}
+use Rattle.stores.specs.Eras.{kept_before_last}
 use Rattle.pasts.specs.FirstHeard.{names_host, is_batch, is_first_heard, first_heard}
 use Rattle.pasts.specs.Leaves.{host_of_key}
 use Rattle.pasts.specs.Messages.{Said, Rpc, Import, key_of}
@@ -41,7 +41,7 @@ calls_heard s key (h ∷ past) = if is_first_of s key past h then h ∷ calls_he
 -- the kept ones of them: at each one, that call and the latest of those that were kept
 abbrev pub kept_calls : Settings → Key → Past → List Heard
 kept_calls s key [] = []
-kept_calls s key (h ∷ past) = if is_first_of s key past h then h ∷ take (kept_beside h.message.era) (kept_calls s key past) else kept_calls s key past
+kept_calls s key (h ∷ past) = if is_first_of s key past h then h ∷ take (kept_before_last h.message.era) (kept_calls s key past) else kept_calls s key past
 
 -- If all messages are of later eras than the first, the kept calls are the latest four. If messages of the first era come before, they are the
 -- latest four, counted from the last call of that era on.

@@ -34,14 +34,14 @@ told_heard room kept (call.Reused last) = Some (Refusal (fault.Reused last))
 told_heard room kept (call.Stale last) = Some (Refusal (fault.Stale last))
 
 -- a call of this number and canonical text, compared with the kept calls of its key
-abbrev pub told_beside : Bool → List Kept → ℕ → List ℕ → Option Answer
-told_beside room kept seqno text = told_heard room kept (heard kept seqno text)
+abbrev pub answer_from_kept : Bool → List Kept → ℕ → List ℕ → Option Answer
+answer_from_kept room kept seqno text = told_heard room kept (heard kept seqno text)
 
 -- a call of an account that exists, whose host has this number or none
 abbrev pub told_number : World → List Kept → Request → Option ℕ → Option Answer
 told_number w kept r number =
     if names_host r.hostid number
-    then told_beside (has_host_room w.settings.max_hosts number (length w.hosts)) kept r.rpc_seqno (canonical_text r)
+    then answer_from_kept (has_host_room w.settings.max_hosts number (length w.hosts)) kept r.rpc_seqno (canonical_text r)
     else Some (Refusal fault.BadHost)
 
 abbrev pub told_account : World → List Kept → Request → Option ℕ → Option Answer

@@ -14,7 +14,7 @@ use Rattle.sched_book.specs.declared.rows.Workunit.{Workunit}
 use Rattle.sched_book.specs.declared.world.World.{World}
 use Rattle.sched_book.proofs.Credits.{times}
 use Rattle.sched_book.proofs.PlacesOf.{nth-suc}
-use Rattle.quorum_credit.specs.CreditKept.{UnitGoesOn, CreditGoesOn}
+use Rattle.quorum_credit.specs.CreditKept.{UnitContinues, CreditContinues}
 use Rattle.quorum_credit.specs.Scores.{standing_with, no_standing, standing_in, standing_at, credit_between, unit_credit, credit_new_at, unit_credits, credits_in}
 use Rattle.quorum_credit.specs.Settling.{TouchJust, AreScores}
 use Rattle.quorum_credit.specs.declared.scores.Score.{Score}
@@ -125,7 +125,7 @@ one_new false owned valid false credit stays same = by owned
     by false = refl
 
 -- A world that continues: at each place the host has what it had, plus what is new there.
-module _ (old new : World) (goes : CreditGoesOn old new) (host unit number : ℕ) where
+module _ (old new : World) (goes : CreditContinues old new) (host unit number : ℕ) where
   abbrev new_in : UnitBook → Standing → Option Instance → ℕ
   new_in c before q =
       cond (unwrap_or (option_map (is_owned_by host) q) false)
@@ -142,7 +142,7 @@ module _ (old new : World) (goes : CreditGoesOn old new) (host unit number : ℕ
   unpaid false was credit is = refl
 
   -- there was an instance
-  from_some : (b c : UnitBook) → UnitGoesOn old new b c → (x : Instance) → slice_get b.instances number ≡ Some x
+  from_some : (b c : UnitBook) → UnitContinues old new b c → (x : Instance) → slice_get b.instances number ≡ Some x
       → (q : Option Instance) → slice_get c.instances number ≡ q
       → unwrap_or (option_map (credit_of_one new.apps host c) q) 0 ≡ credit_of_one old.apps host b x + new_in c (standing_with (book_verdict old.apps b x) x) q
   from_some b c on x stood None stands = unpaid (is_owned_by host x) (is_valid (book_verdict old.apps b x)) b.unit.credit (never (is_valid (book_verdict old.apps b x)) refl)
@@ -169,7 +169,7 @@ module _ (old new : World) (goes : CreditGoesOn old new) (host unit number : ℕ
           (unwrap_or (option_map (λ b. standing_in old.apps b number) o) no_standing)
           (unwrap_or (option_map (λ b. standing_in new.apps b number) q) no_standing)) 0
 
-      in_unit : (b c : UnitBook) → UnitGoesOn old new b c → (o : Option Instance) → slice_get b.instances number ≡ o
+      in_unit : (b c : UnitBook) → UnitContinues old new b c → (o : Option Instance) → slice_get b.instances number ≡ o
           → unwrap_or (option_map (credit_of_one new.apps host c) (slice_get c.instances number)) 0
           ≡ unwrap_or (option_map (credit_of_one old.apps host b) o) 0
           + new_in c (unwrap_or (option_map (λ x. standing_with (book_verdict old.apps b x) x) o) no_standing) (slice_get c.instances number)
@@ -184,7 +184,7 @@ module _ (old new : World) (goes : CreditGoesOn old new) (host unit number : ℕ
       by (Some b) stood (Some c) stands =
           let there = goes.each unit b stood in
           let same : there.0 ≡ c = (let both : Some there.0 ≡ Some c = sym there.1 ∙ stands in cc) in
-          in_unit b c (subst (UnitGoesOn old new b) same there.2) (slice_get b.instances number) refl
+          in_unit b c (subst (UnitContinues old new b) same there.2) (slice_get b.instances number) refl
 
 -- nothing is new if there is no instance
 none_at : (old new : World) (host unit number : ℕ) → slice_get (instances_at new unit) number ≡ None → credit_new_at old new host (place unit number) ≡ 0
@@ -197,7 +197,7 @@ none_at old new host unit number past =
     by None past = refl
     by (Some b) past = ap (λ o. unwrap_or (option_map (is_owned_by host) o) false) past
 
-module _ (old new : World) (goes : CreditGoesOn old new) (host : ℕ) where
+module _ (old new : World) (goes : CreditContinues old new) (host : ℕ) where
   -- for a workunit the host has what it had, plus what is new
   unit_goes_on : (unit : ℕ) → won_in new host unit ≡ won_in old host unit + unit_credits old new host unit
   unit_goes_on unit =
@@ -261,7 +261,7 @@ module _ (old new : World) (goes : CreditGoesOn old new) (host : ℕ) where
         (all_new before)
 
 -- so a host has what it had, plus what the scores bring
-pub host_credit-scored : (old new : World) (scores : List Score) → AreScores old new scores → CreditGoesOn old new → (host : ℕ)
+pub host_credit-scored : (old new : World) (scores : List Score) → AreScores old new scores → CreditContinues old new → (host : ℕ)
     → host_credit new host ≡ host_credit old host + credits_in scores host
 host_credit-scored old new scores scored goes host =
     goes_on_by old new goes host scored.units scored.just

@@ -9,11 +9,11 @@ use Rattle.sched_book.specs.declared.world.World.{World}
 
 -- A workunit with its instances continues as another. Its row is the same, except for its class. Each instance with a valid
 -- result still has one, and the same host.
-pub record UnitGoesOn (old new : World) (b c : UnitBook) : Type 0 where
+pub record UnitContinues (old new : World) (b c : UnitBook) : Type 0 where
   pub row : imported c.unit ≡ imported b.unit
   pub valid : (number : ℕ) (x : Instance) → slice_get b.instances number ≡ Some x → is_valid (book_verdict old.apps b x) ≡ true
       → (y : Instance) × (slice_get c.instances number ≡ Some y) × (is_valid (book_verdict new.apps c y) ≡ true) × (host_of y ≡ host_of x)
 
 -- Each workunit of the one world exists in the other, and continues there.
-pub record CreditGoesOn (old new : World) : Type 0 where
-  pub each : (unit : ℕ) (b : UnitBook) → unit_at old unit ≡ Some b → (c : UnitBook) × (unit_at new unit ≡ Some c) × UnitGoesOn old new b c
+pub record CreditContinues (old new : World) : Type 0 where
+  pub each : (unit : ℕ) (b : UnitBook) → unit_at old unit ≡ Some b → (c : UnitBook) × (unit_at new unit ≡ Some c) × UnitContinues old new b c

@@ -73,11 +73,11 @@ pub record AreQuotasBy (scores : List Score) (w : World) (quotas : List Change) 
   pub alone : applied w quotas ≡ record w { hosts = (applied w quotas).hosts }
 
 -- the later changes are the earlier ones, followed by others
-abbrev pub GoesOn : List Change → List Change → Type 0
-GoesOn earlier later = earlier ++ drop (length earlier) later ≡ later
+abbrev pub Extends : List Change → List Change → Type 0
+Extends earlier later = earlier ++ drop (length earlier) later ≡ later
 
 -- These changes are the earlier ones followed by their settlement, if only these workunits are touched.
 pub record IsSettlement (w : World) (changes all : List Change) (units : List ℕ) : Type 0 where
-  pub goes_on : GoesOn changes all
+  pub goes_on : Extends changes all
   pub settles : Sound w → Fits w changes → TouchJust units w (applied w changes) → applied w all ≡ settled w (applied w changes)
   pub fits : Sound w → Fits w changes → TouchJust units w (applied w changes) → Fits w all

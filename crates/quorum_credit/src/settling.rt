@@ -7,7 +7,7 @@ ghost use Rattle.sched_book.specs.Sound.{Sound};
 ghost use Rattle.sched_book.specs.Trusted.{Trusted};
 ghost use Rattle.quorum_credit.specs.Scoring.{scores_of_units};
 ghost use Rattle.quorum_credit.specs.Late.{lapsed_at};
-ghost use Rattle.quorum_credit.specs.Settling.{TouchJust, GoesOn, AreScores};
+ghost use Rattle.quorum_credit.specs.Settling.{TouchJust, Extends, AreScores};
 
 use crate::growth::grow_on;
 use crate::host_quotas::new_quotas;
@@ -39,7 +39,7 @@ pub fn settle_on<S: Draft>(
         Fits (S.entry sheet.old) (S.delta sheet.new))) }
     ensures scores { Trusted S.Units sheet.old sheet.new (
         IfOk result (λ scores. scores ≡ scores_of_units (S.entry sheet.old) (S.world sheet.new) touched.now)) }
-    ensures delta { Trusted S.Units sheet.old sheet.new (OnOk result (GoesOn (S.delta sheet.old) (S.delta sheet.new))) }
+    ensures delta { Trusted S.Units sheet.old sheet.new (OnOk result (Extends (S.delta sheet.old) (S.delta sheet.new))) }
 {
     grow_on(alloc, sheet, touched)?;
     let scores = scores_of_units(alloc, sheet, touched)?;

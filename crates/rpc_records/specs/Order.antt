@@ -19,13 +19,13 @@ abbrev pub at_top : List Member
 at_top = Authenticator ∷ Hostid ∷ RpcSeqno ∷ HostInfo ∷ PlatformName ∷ AltPlatforms ∷ WorkReqSeconds ∷ OtherResults ∷ Results ∷ []
 
 -- The member is missing, or not of the wanted form.
-abbrev pub is_wanting : {A : Type 0} → (Data → Option A) → Option Data → Bool
-is_wanting reads found = is_none (option_and_then reads found)
+abbrev pub is_missing_or_bad : {A : Type 0} → (Data → Option A) → Option Data → Bool
+is_missing_or_bad reads found = is_none (option_and_then reads found)
 
 -- The member exists, but is not of the wanted form.
-abbrev pub is_spoiled : {A : Type 0} → (Data → Option A) → Option Data → Bool
-is_spoiled reads None = false
-is_spoiled reads (Some d) = is_none (reads d)
+abbrev pub is_bad : {A : Type 0} → (Data → Option A) → Option Data → Bool
+is_bad reads None = false
+is_bad reads (Some d) = is_none (reads d)
 
 -- The value of host_info.
 abbrev pub info_of : Data → Data
@@ -33,19 +33,19 @@ info_of d = unwrap_or (get (key_of HostInfo) d) null
 
 -- A member of this object is missing or faulty.
 abbrev pub is_faulty : Data → Member → Bool
-is_faulty d Authenticator = is_wanting word_in (get (key_of Authenticator) d)
-is_faulty d Hostid = is_spoiled number_in (get (key_of Hostid) d)
-is_faulty d RpcSeqno = is_wanting number_in (get (key_of RpcSeqno) d)
-is_faulty d HostInfo = is_wanting object_in (get (key_of HostInfo) d)
-is_faulty d HostCpid = is_wanting word_in (get (key_of HostCpid) (info_of d))
-is_faulty d PFpops = is_wanting speed_in (get (key_of PFpops) (info_of d))
-is_faulty d MNbytes = is_wanting size_in (get (key_of MNbytes) (info_of d))
-is_faulty d DFree = is_wanting size_in (get (key_of DFree) (info_of d))
-is_faulty d PlatformName = is_wanting word_in (get (key_of PlatformName) d)
-is_faulty d AltPlatforms = is_spoiled alternatives_in (get (key_of AltPlatforms) d)
-is_faulty d WorkReqSeconds = is_spoiled seconds_in (get (key_of WorkReqSeconds) d)
-is_faulty d OtherResults = is_spoiled listed_in (get (key_of OtherResults) d)
-is_faulty d Results = is_spoiled reports_in (get (key_of Results) d)
+is_faulty d Authenticator = is_missing_or_bad word_in (get (key_of Authenticator) d)
+is_faulty d Hostid = is_bad number_in (get (key_of Hostid) d)
+is_faulty d RpcSeqno = is_missing_or_bad number_in (get (key_of RpcSeqno) d)
+is_faulty d HostInfo = is_missing_or_bad object_in (get (key_of HostInfo) d)
+is_faulty d HostCpid = is_missing_or_bad word_in (get (key_of HostCpid) (info_of d))
+is_faulty d PFpops = is_missing_or_bad speed_in (get (key_of PFpops) (info_of d))
+is_faulty d MNbytes = is_missing_or_bad size_in (get (key_of MNbytes) (info_of d))
+is_faulty d DFree = is_missing_or_bad size_in (get (key_of DFree) (info_of d))
+is_faulty d PlatformName = is_missing_or_bad word_in (get (key_of PlatformName) d)
+is_faulty d AltPlatforms = is_bad alternatives_in (get (key_of AltPlatforms) d)
+is_faulty d WorkReqSeconds = is_bad seconds_in (get (key_of WorkReqSeconds) d)
+is_faulty d OtherResults = is_bad listed_in (get (key_of OtherResults) d)
+is_faulty d Results = is_bad reports_in (get (key_of Results) d)
 
 -- The refusal, if a reading gives one.
 abbrev pub refusal_of : {A : Type 0} → Result A Fault → Option Fault

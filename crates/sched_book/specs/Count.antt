@@ -38,14 +38,14 @@ report_place x = option_and_then (λ (r : Outcome). r.place) x.report
 abbrev pub is_judged : Instance → Bool
 is_judged x = is_some (report_place x)
 
-abbrev pub told_output : Option Outcome → List ℕ
-told_output None = []
-told_output (Some r) = r.output
+abbrev pub reported_output : Option Outcome → List ℕ
+reported_output None = []
+reported_output (Some r) = r.output
 
 -- the place of a judged report, and 0 of any other
-abbrev pub told_place : Option Outcome → ℕ
-told_place None = 0
-told_place (Some r) = unwrap_or r.place 0
+abbrev pub reported_place : Option Outcome → ℕ
+reported_place None = 0
+reported_place (Some r) = unwrap_or r.place 0
 
 -- a host has it: an owner, no report and no lapse
 abbrev pub is_held : Instance → Bool
@@ -59,10 +59,10 @@ abbrev pub report_of : List Instance → ℕ → Option Outcome
 report_of xs i = option_and_then (λ x. x.report) (slice_get xs i)
 
 abbrev pub output_of : List Instance → ℕ → List ℕ
-output_of xs i = told_output (report_of xs i)
+output_of xs i = reported_output (report_of xs i)
 
 abbrev pub place_of : List Instance → ℕ → ℕ
-place_of xs i = told_place (report_of xs i)
+place_of xs i = reported_place (report_of xs i)
 
 -- the numbers of the instances that pass; the first instance has the number n
 abbrev pub numbers_from : ℕ → (Instance → Bool) → List Instance → List ℕ
@@ -146,7 +146,7 @@ abbrev pub verdict_by : Agreement → List Instance → Option ℕ → Instance 
 verdict_by a xs None x = None
 verdict_by a xs (Some c) x =
     if tells_success x.report
-    then Some (if agree a (told_output x.report) (output_of xs c) then Valid else Invalid)
+    then Some (if agree a (reported_output x.report) (output_of xs c) then Valid else Invalid)
     else None
 
 -- a verdict exists only for a judged success, once the workunit has a canonical result

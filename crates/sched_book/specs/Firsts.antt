@@ -2,9 +2,9 @@
 use Rattle.std.specs.Prelude.{ℕ, Bool, ◌||◌, if◌then◌else◌, List, [], ◌∷◌}
 use Rattle.std.specs.Str.{bytes_eq}
 
-abbrev pub first_beyond : {X : Type 0} → (X → List ℕ) → (List ℕ → Bool) → List X → List X
-first_beyond text came [] = []
-first_beyond text came (x ∷ xs) =
+abbrev pub first_unseen : {X : Type 0} → (X → List ℕ) → (List ℕ → Bool) → List X → List X
+first_unseen text came [] = []
+first_unseen text came (x ∷ xs) =
     if came (text x)
-    then first_beyond text came xs
-    else x ∷ first_beyond text (λ other. bytes_eq other (text x) || came other) xs
+    then first_unseen text came xs
+    else x ∷ first_unseen text (λ other. bytes_eq other (text x) || came other) xs

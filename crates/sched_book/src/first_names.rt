@@ -3,7 +3,7 @@
 ghost use Rattle.std.specs.Prelude.{◌≡◌, ℕ, List, [], ◌∷◌, ◌++◌, map, IfOk, OnOk};
 ghost use Rattle.texts.specs.SeenSet.{has_text};
 ghost use Rattle.sched_book.specs.Reports.{first_of_each};
-ghost use Rattle.sched_book.specs.Firsts.{first_beyond};
+ghost use Rattle.sched_book.specs.Firsts.{first_unseen};
 
 use rpc_records::Report;
 use std::alloc::Global;
@@ -42,8 +42,8 @@ fn add_first<'a, T: Named>(
     item: &'a T,
 ) -> Result<(), Memory>
     ensures { OnOk result ((later : List T) →
-        map (λ x. x.now) firsts.new.items ++ first_beyond T.name_of (has_text seen.new) later
-        ≡ map (λ x. x.now) firsts.old.items ++ first_beyond T.name_of (has_text seen.old) (item.now ∷ later)) }
+        map (λ x. x.now) firsts.new.items ++ first_unseen T.name_of (has_text seen.new) later
+        ≡ map (λ x. x.now) firsts.old.items ++ first_unseen T.name_of (has_text seen.old) (item.now ∷ later)) }
 {
     if seen.is_first(item.name())? {
         firsts.push(item)?;

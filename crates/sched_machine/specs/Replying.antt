@@ -17,7 +17,7 @@ use Rattle.sched_machine.specs.declared.reply.Told.{Told}
 
 -- What a reply says of the jobs and the user of a call. The call found the world w; in the world v these jobs are its
 -- host's.
-pub record IsTold (w v : World) (ready : Ready) (jobs : List Place) (told : Told) : Type 0 where
+pub record AreReplyParts (w v : World) (ready : Ready) (jobs : List Place) (told : Told) : Type 0 where
   pub results : told.results ≡
       filter_map (job_at v ready.call.host true) ready.settled.resent ++ filter_map (job_at v ready.call.host false) jobs
   pub host_credit : told.host_credit ≡ host_credit w ready.call.number + credits_in ready.settled.scores ready.call.number
@@ -32,7 +32,7 @@ pub record IsGranted (w : World) (r : Request) (now : ℕ) (ready : Ready) (v : 
   pub ends : word ≡ end_word (after_settlement w ready.call.caller r now) (asking_of w ready.call.caller r now) jobs
   pub left : v ≡ after_grant w ready.call.caller r now jobs
   pub fits : Fits w changes
-  pub tells : IsTold w v ready jobs told
+  pub tells : AreReplyParts w v ready jobs told
 
 -- the reply, made of its parts
 abbrev pub reply_of : Ready → Told → EndWord → Request → ℕ → Reply

@@ -4,7 +4,7 @@ ghost use Rattle.std.specs.Prelude.{◌≡◌, true, Some, None, IfOk, IsErrOf};
 ghost use Rattle.sched_book.specs.Places.{account_place};
 ghost use Rattle.sched_book.specs.Step.{IsCaller};
 ghost use Rattle.sched_book.specs.Trusted.{Trusted};
-ghost use Rattle.sched_machine.specs.Admission.{names_host, TellsWrongNumber};
+ghost use Rattle.sched_machine.specs.Admission.{names_host, NamesWrongNumber};
 ghost use Rattle.sched_machine.specs.declared.admission.AdmissionError.TheVariants as error;
 
 use rpc_records::Request;
@@ -64,7 +64,7 @@ pub fn caller_of<D: Desk>(
     ensures bad_account { Trusted D.Units desk.old desk.new (IsErrOf result error.BadAccount →
         account_place (D.world desk.old) request.now.authenticator ≡ None) }
     ensures bad_host { Trusted D.Units desk.old desk.new (IsErrOf result error.BadHost →
-        TellsWrongNumber (D.world desk.old) request.now) }
+        NamesWrongNumber (D.world desk.old) request.now) }
 {
     let found = desk.account_by_key(alloc, request.authenticator.as_str())?;
     let Some(account) = found.map(|account| account.place) else {

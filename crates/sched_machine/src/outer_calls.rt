@@ -8,7 +8,7 @@ ghost use Rattle.sched_book.specs.Places.{account_place};
 ghost use Rattle.sched_book.specs.Sound.{Sound};
 ghost use Rattle.sched_book.specs.Step.{IsCaller, Step};
 ghost use Rattle.sched_book.specs.Trusted.{Trusted};
-ghost use Rattle.sched_machine.specs.Admission.{names_host, TellsWrongNumber};
+ghost use Rattle.sched_machine.specs.Admission.{names_host, NamesWrongNumber};
 ghost use Rattle.sched_machine.specs.Calling.{IsFull, MayBeHeard};
 ghost use Rattle.sched_machine.specs.Refusals.{admission_refusal, step_refusal};
 ghost use Rattle.sched_machine.specs.declared.outer_calls.Refused.TheVariants as refused;
@@ -87,7 +87,7 @@ pub fn admit<D: Desk>(alloc: Global, desk: &mut D, request: &Request) -> Result<
     ensures bad_account { Trusted D.Units desk.old desk.new (IsErrOf result refused.BadAccount →
         account_place (D.world desk.old) request.now.authenticator ≡ None) }
     ensures bad_host { Trusted D.Units desk.old desk.new (IsErrOf result refused.BadHost →
-        TellsWrongNumber (D.world desk.old) request.now) }
+        NamesWrongNumber (D.world desk.old) request.now) }
     ensures never_full { IsErrOf result refused.HostsFull → ⊥ }
 {
     Ok(caller_of(alloc, desk, request)?)

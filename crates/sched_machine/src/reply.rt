@@ -5,7 +5,7 @@ ghost use Rattle.sched_book.specs.Step.{IsCaller, granted, user_name};
 ghost use Rattle.sched_book.specs.Trusted.{Trusted};
 ghost use Rattle.job_choice.specs.Chosen.{places_of};
 ghost use Rattle.sched_machine.specs.Granting.{with_classes, AreRunBy, CanTake, FitWithHost};
-ghost use Rattle.sched_machine.specs.Replying.{IsTold, reply_of};
+ghost use Rattle.sched_machine.specs.Replying.{AreReplyParts, reply_of};
 
 use crate::jobs::{add_granted, resent_jobs};
 use crate::owners::give;
@@ -62,7 +62,7 @@ pub(crate) fn conclude<S: Draft>(
         FitWithHost (S.entry sheet.old) ready.now.call.number (S.delta sheet.new))) }
     ensures told { Trusted S.Units sheet.old sheet.new (IfOk result (λ told.
         IsCaller (S.entry sheet.old) ready.now.call.caller request.now → AreRunBy (S.entry sheet.old) ready.now.call.host jobs.now →
-        IsTold (S.entry sheet.old) (S.world sheet.new) ready.now (places_of jobs.now) told)) }
+        AreReplyParts (S.entry sheet.old) (S.world sheet.new) ready.now (places_of jobs.now) told)) }
 {
     let call = &ready.call;
     let settled = &ready.settled;

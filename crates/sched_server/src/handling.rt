@@ -71,7 +71,7 @@ impl<S> Service<S> {
     pub fn into_tables(self) -> S
         ensures { result ≡ store_of self }
     {
-        self.store
+        self.into_store()
     }
 }
 

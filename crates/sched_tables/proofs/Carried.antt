@@ -29,8 +29,8 @@ use Rattle.table_meaning.specs.declared.rows.StoredRow.TheVariants as stored
 use Rattle.table_meaning.specs.Rows.{RowKey, host_key, instance_key, kept_key, batch_key, key_of, same_key}
 use Rattle.table_meaning.specs.Worlds.{SlotCalls, contents_of}
 use Rattle.table_meaning.proofs.Keys.{one_key}
-use Rattle.table_worlds.proofs.KeysStand.{row_has_key}
-use Rattle.table_worlds.proofs.NothingGoes.{none_goes}
+use Rattle.table_worlds.proofs.KeysListed.{row_has_key}
+use Rattle.table_worlds.proofs.RowsRemain.{none_goes}
 use Rattle.table_worlds.specs.Keys.{row_key, row_in}
 use Rattle.table_worlds.specs.Readable.{IsReadable}
 use Rattle.table_worlds.specs.declared.keys.WorldKey.{WorldKey}

@@ -20,7 +20,7 @@ use Rattle.texts.specs.Words.{is_word}
 use Rattle.reply_register.specs.Keeping.{most_kept}
 use Rattle.sched_book.specs.Places.{host_at}
 use Rattle.stores.specs.Standing.{MayBeKept, last_seqno, most_import_bytes}
-use Rattle.table_reading.specs.Reading.{MayStandBeside, is_call_of, is_import}
+use Rattle.table_reading.specs.Reading.{MayBeKeptWith, is_call_of, is_import}
 use Rattle.reply_register.specs.Calls.{is_above_all}
 use Rattle.reply_register.specs.declared.kept.Kept.{Kept}
 use Rattle.sched_book.specs.Delta.{applied_one, applied}
@@ -38,7 +38,7 @@ use Rattle.table_meaning.proofs.Keys.{key_itself}
 use Rattle.sched_tables.specs.Commits.{Imports, Keeps, apps_with}
 use Rattle.sched_tables.specs.Entries.{IsRowOf, MakesWith, kept_batch, calls_of, batches_of}
 use Rattle.sched_tables.specs.Slots.{calls_in_slots, IsSlotFor, with_slot}
-use Rattle.sched_tables.specs.Held.{AreWellKept, AreBeside}
+use Rattle.sched_tables.specs.Held.{AreWellKept, AreInMemory}
 use Rattle.sched_tables.specs.DueFrom.{NothingIsDueBefore}
 use Rattle.sched_tables.specs.Remembering.{AreRemembered}
 use Rattle.sched_tables.specs.Views.{held_in}
@@ -166,8 +166,8 @@ kind_told Versions = refl
 kind_told Workunits = refl
 
 -- what is kept afterwards may be kept with the world, if what was kept before may
-pub beside_entry : (w : World) (e : Entry) (row : Option StoredRow) (calls : SlotCalls) (batches : Imports) (is : IsRowOf calls e row) → MayBeKept w e → MayStandBeside w calls batches
-    → MayStandBeside w (are_kept_then w e row calls batches is).calls' (are_kept_then w e row calls batches is).batches'
+pub beside_entry : (w : World) (e : Entry) (row : Option StoredRow) (calls : SlotCalls) (batches : Imports) (is : IsRowOf calls e row) → MayBeKept w e → MayBeKeptWith w calls batches
+    → MayBeKeptWith w (are_kept_then w e row calls batches is).calls' (are_kept_then w e row calls batches is).batches'
 unfolding are_kept_then
 beside_entry w (entry.Kept host k) row calls batches is may beside =
     record { calls_fit = λ id other. go id other (eqb host id) refl (eqb is.0 other) refl; imports_fit = beside.imports_fit }
@@ -270,8 +270,8 @@ module _ (old new : State) (w : World) (cs : List Change) (e : Entry) (kept : Ar
   }
 
   -- what is in memory agrees with the world, with the applications that the changes bring
-  pub beside_then : (calls : SlotCalls) (settings : Settings) (apps apps' : List App) (read read' : Remembered) (due_from due_from' : ℕ) → AreBeside w calls settings apps read due_from → apps' ≡ apps_with apps cs → AreRemembered (world_in new.now.trees) (calls_in new.now.trees) read' → NothingIsDueBefore (world_in new.now.trees) due_from'
-      → AreBeside (world_in new.now.trees) (calls_in new.now.trees) settings apps' read' due_from'
+  pub beside_then : (calls : SlotCalls) (settings : Settings) (apps apps' : List App) (read read' : Remembered) (due_from due_from' : ℕ) → AreInMemory w calls settings apps read due_from → apps' ≡ apps_with apps cs → AreRemembered (world_in new.now.trees) (calls_in new.now.trees) read' → NothingIsDueBefore (world_in new.now.trees) due_from'
+      → AreInMemory (world_in new.now.trees) (calls_in new.now.trees) settings apps' read' due_from'
   beside_then calls settings apps apps' read read' due_from due_from' beside brought rows marked = record {
     settings_are = beside.settings_are ∙ sym (all_settings_stay w cs) ∙ sym (ap (λ u. u.settings) world_then);
     apps_are = brought ∙ ap (λ l. apps_with l cs) beside.apps_are ∙ sym (apps_brought w cs) ∙ sym (ap (λ u. u.apps) world_then);

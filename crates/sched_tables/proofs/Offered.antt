@@ -153,10 +153,10 @@ module _ {T : Type 0} (takes : T → Candidate → Flow → T → Type 0) (w : W
       subst (NotesOn old) (sym same) (notes_none old),
     )
 
-    pub handed_all : (from : Place) (old new : Noting T) → OffersAll (OrSkips (IsCovered skip) Notes) old (unsent w from) new
+    pub passed_on_all : (from : Place) (old new : Noting T) → OffersAll (OrSkips (IsCovered skip) Notes) old (unsent w from) new
         → OffersAll (OrSkips (MaySkip w account) takes) old.taker.now (unsent w from) new.taker.now × NotesOn old new
-    handed_all from old new = all_on Noted Taken (λ n. n.taker.now) (IsUnsentOf w) NotesOn notes_none notes_on handed (unsent w from) old new (candidates_stand w from)
+    passed_on_all from old new = all_on Noted Taken (λ n. n.taker.now) (IsUnsentOf w) NotesOn notes_none notes_on handed (unsent w from) old new (candidates_stand w from)
 
-    pub handed_some : (from : Place) (old new : Noting T) → OffersSome (OrSkips (IsCovered skip) Notes) old (unsent w from) new
+    pub passed_on_some : (from : Place) (old new : Noting T) → OffersSome (OrSkips (IsCovered skip) Notes) old (unsent w from) new
         → OffersSome (OrSkips (MaySkip w account) takes) old.taker.now (unsent w from) new.taker.now × NotesOn old new
-    handed_some from old new = some_on Noted Taken (λ n. n.taker.now) (IsUnsentOf w) NotesOn notes_none notes_on handed (unsent w from) old new (candidates_stand w from)
+    passed_on_some from old new = some_on Noted Taken (λ n. n.taker.now) (IsUnsentOf w) NotesOn notes_none notes_on handed (unsent w from) old new (candidates_stand w from)

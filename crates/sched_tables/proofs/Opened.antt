@@ -13,7 +13,7 @@ use Rattle.table_meaning.specs.Worlds.{SlotCalls, HoldWorld}
 use Rattle.table_reading.specs.Reading.{WereKnown, ReadFrom}
 use Rattle.table_worlds.specs.StoredWorld.{world_in}
 use Rattle.table_worlds.proofs.StaysReadable.{sound_is_readable}
-use Rattle.sched_tables.specs.Held.{IsHonest, AreWellKept, AreBeside}
+use Rattle.sched_tables.specs.Held.{IsHonest, AreWellKept, AreInMemory}
 use Rattle.sched_tables.specs.DueFrom.{NothingIsDueBefore}
 use Rattle.sched_tables.specs.Remembering.{AreRemembered}
 use Rattle.sched_tables.specs.declared.remembered.Remembered.{Remembered}
@@ -49,7 +49,7 @@ module _ (taken read : State) (opens : HasCleanDisk taken → Opens taken) (know
     }
 
     pub opened_beside : (settings : Settings) (apps : List App) (rows : Remembered) (due_from : ℕ) → settings ≡ (world_in taken.now.trees).settings → apps ≡ (world_in taken.now.trees).apps → ((v : World) (calls : SlotCalls) → AreRemembered v calls rows)
-        → NothingIsDueBefore (world_in taken.now.trees) due_from → AreBeside (world_in read.now.trees) (calls_in read.now.trees) settings apps rows due_from
+        → NothingIsDueBefore (world_in taken.now.trees) due_from → AreInMemory (world_in read.now.trees) (calls_in read.now.trees) settings apps rows due_from
     opened_beside settings apps rows due_from of_world also nothing none = record {
       settings_are = of_world ∙ sym (ap (λ (v : World). v.settings) opened_world);
       apps_are = also ∙ sym (ap (λ (v : World). v.apps) opened_world);

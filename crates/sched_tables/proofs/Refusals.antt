@@ -24,11 +24,11 @@ use Rattle.table_meaning.specs.declared.tables.TableName.TheVariants as name
 use Rattle.table_meaning.specs.Holding.{AreKnown}
 use Rattle.table_meaning.specs.Rows.{RowKey, setting_key, whole, setting_value, columns_of, has_key, shown, tree_of}
 use Rattle.table_meaning.specs.Schema.{newest, schema_at, stored_schema}
-use Rattle.table_meaning.specs.Schemas.{AreEarlier, schema_said}
+use Rattle.table_meaning.specs.Schemas.{AreEarlier, schema_setting}
 use Rattle.table_meaning.proofs.Keys.{same_cell}
 use Rattle.table_meaning.proofs.RowsHeld.{found}
 use Rattle.table_desk.proofs.Found.{equal_texts}
-use Rattle.table_reading.specs.Reading.{HasBadTable, StandForNone, HasOtherSchema}
+use Rattle.table_reading.specs.Reading.{HasBadTable, RepresentNone, HasOtherSchema}
 use Rattle.table_rows.specs.declared.opening.OpenFault.{OpenFault}
 use Rattle.table_rows.specs.declared.opening.OpenFault.TheVariants as fault
 use Rattle.table_rows.specs.declared.opening.Refused.{Refused}
@@ -71,7 +71,7 @@ begins_with text raw own = first_of (equal Binary (column (shown name.Setting ra
     first_of false own = own
 
 -- if no setting names the newest schema, the tables do not say that they are of it
-not_said : (trees : Trees) → HasOtherSchema trees → schema_said trees ≡ Some (whole newest) → ⊥
+not_said : (trees : Trees) → HasOtherSchema trees → schema_setting trees ≡ Some (whole newest) → ⊥
 not_said trees other said = elim (found (has_key key) (trees (tree_of name.Setting))) [
   | inl none ↦ none-some (whole newest) (sym (ap (option_map (λ row. column (shown name.Setting row) 1)) none.0) ∙ of_shown (find (has_key key) (trees (tree_of name.Setting))) ∙ said)
   | inr one ↦
@@ -120,13 +120,13 @@ told_by_schema store db refused.Unavailable old other neither fits = tt
 
 -- a refusal for a fault in reading tables of the newest schema
 pub told_by_rows : {S : Type 0} (store : Ghosts S) (db : Database) (e : OpenFault) (conn : Held S) → ((n : ℕ) → e ≢ fault.OldSchema n) → (HasCleanDisk (state store conn) → AreKnown db)
-    → (HasCleanDisk (state store conn) → e ≡ fault.NotTables → HasOtherSchema db.trees) → (HasCleanDisk (state store conn) → e ≡ fault.BadRow → HasBadTable db.trees ⊎ StandForNone db.trees)
+    → (HasCleanDisk (state store conn) → e ≡ fault.NotTables → HasOtherSchema db.trees) → (HasCleanDisk (state store conn) → e ≡ fault.BadRow → HasBadTable db.trees ⊎ RepresentNone db.trees)
     → (r : Refused S) → r ≡ refusal_for e conn → IfSome (given_back r) (λ c. HasCleanDisk (state store c) → AreRefusedFor (fault_of r) db)
 told_by_rows {S} store db e conn not_old known other bad r is =
     subst (λ (r : Refused S). IfSome (given_back r) (λ c. HasCleanDisk (state store c) → AreRefusedFor (fault_of r) db)) (sym is) (cases e not_old other bad)
   where
     cases : (e : OpenFault) → ((n : ℕ) → e ≢ fault.OldSchema n) → (HasCleanDisk (state store conn) → e ≡ fault.NotTables → HasOtherSchema db.trees)
-        → (HasCleanDisk (state store conn) → e ≡ fault.BadRow → HasBadTable db.trees ⊎ StandForNone db.trees)
+        → (HasCleanDisk (state store conn) → e ≡ fault.BadRow → HasBadTable db.trees ⊎ RepresentNone db.trees)
         → IfSome (given_back (refusal_for e conn)) (λ c. HasCleanDisk (state store c) → AreRefusedFor (fault_of (refusal_for e conn)) db)
     cases fault.NotTables not_old other bad = λ clean. record { not_newest = λ newest. not_said db.trees (other clean refl) newest.said; not_earlier = none_earlier db (known clean) }
     cases (fault.OldSchema n) not_old other bad = absurd (not_old n refl)
@@ -146,11 +146,11 @@ given_same {S} P e conn holds r is = subst (λ (r : Refused S). IfSome (given_ba
 -- ---- a store that never fails
 
 -- the connection that a refusal gives back has a clean disk, so the refusal says why the tables are refused
-pub told_of_all : {S : Type 0} (store : Ghosts S) → NeverFails store → (r : Refused S) (db : Database) → IfSome (given_back r) (λ c. HasCleanDisk (state store c) → AreRefusedFor (fault_of r) db) → AreRefusedFor (fault_of r) db
-told_of_all store never (refused.NotTables c) db told = told (never c.store).1
-told_of_all store never (refused.OldSchema n c) db told = told (never c.store).1
-told_of_all store never (refused.BadRow c) db told = told (never c.store).1
-told_of_all store never refused.Unavailable db told = tt
+pub refused_for_all : {S : Type 0} (store : Ghosts S) → NeverFails store → (r : Refused S) (db : Database) → IfSome (given_back r) (λ c. HasCleanDisk (state store c) → AreRefusedFor (fault_of r) db) → AreRefusedFor (fault_of r) db
+refused_for_all store never (refused.NotTables c) db told = told (never c.store).1
+refused_for_all store never (refused.OldSchema n c) db told = told (never c.store).1
+refused_for_all store never (refused.BadRow c) db told = told (never c.store).1
+refused_for_all store never refused.Unavailable db told = tt
 
 -- ---- an empty database
 

@@ -20,7 +20,7 @@ use Rattle.table_meaning.specs.Kept.{calls_in, batches_in}
 use Rattle.table_meaning.specs.Rows.{setting_key}
 use Rattle.table_meaning.specs.Worlds.{SlotCalls, call_row, contents_of, HoldWorld}
 use Rattle.stores.specs.Standing.{MayBeKept, last_seqno}
-use Rattle.table_reading.specs.Reading.{AreUtf8, ReadFrom, MayStandBeside, is_call_of}
+use Rattle.table_reading.specs.Reading.{AreUtf8, ReadFrom, MayBeKeptWith, is_call_of}
 use Rattle.table_reading.proofs.Formatted.{have_formats}
 use Rattle.table_reading.proofs.HeldRows.{read_beside, formed, held_is_read, stands_for_one}
 use Rattle.table_reading.proofs.KeptRows.{held_by_rows}
@@ -29,7 +29,7 @@ use Rattle.table_rows.specs.declared.opening.OpenFault.TheVariants.{NotTables, O
 use Rattle.table_rows.proofs.Reopening.{one_database}
 use Rattle.table_worlds.specs.declared.keys.WorldKey.TheVariants.{Host}
 use Rattle.table_worlds.specs.StoredWorld.{world_in}
-use Rattle.table_worlds.proofs.NothingGoes.{none_goes}
+use Rattle.table_worlds.proofs.RowsRemain.{none_goes}
 use Rattle.table_worlds.proofs.StaysReadable.{sound_is_readable}
 use Rattle.table_worlds.proofs.WorldReadBack.{held_is_read_back}
 use Rattle.sched_tables.specs.Commits.{Imports}
@@ -105,7 +105,7 @@ host_stays w cs host stands = go (host_at (applied w cs) host) refl
     go None gone = absurd (none_there _ (host_at w host) (none_goes w cs (Host host) (ap (option_map _) gone)) stands)
     go (Some h) there = refl
 
-beside_changes : (w : World) (cs : List Change) (calls : SlotCalls) (batches : Imports) → MayStandBeside w calls batches → MayStandBeside (applied w cs) calls batches
+beside_changes : (w : World) (cs : List Change) (calls : SlotCalls) (batches : Imports) → MayBeKeptWith w calls batches → MayBeKeptWith (applied w cs) calls batches
 beside_changes w cs calls batches beside = record { calls_fit = λ host slot. go host slot (calls host slot) (beside.calls_fit host slot); imports_fit = beside.imports_fit }
   where
     go : (host slot : ℕ) (o : Option Kept) → IfSome o (λ k. IsTrue (is_call_of w (stored.Kept (call_row host slot k)))) → IfSome o (λ k. IsTrue (is_call_of (applied w cs) (stored.Kept (call_row host slot k))))

@@ -40,8 +40,8 @@ read_on store first mid last on later = (
 )
 
 -- an answer after another read is that of the world before both
-pub told_later : {S : Type 0} (store : Ghosts S) (first mid : Tables S) (after : Held S) (says : World → Type 0) → AreReadOn store first mid → Reads (state_of store mid) (state store after) → Asked store mid.conn after says
+pub answer_later : {S : Type 0} (store : Ghosts S) (first mid : Tables S) (after : Held S) (says : World → Type 0) → AreReadOn store first mid → Reads (state_of store mid) (state store after) → Asked store mid.conn after says
     → IsHonest (state store after) → AreKept store first → says (world_of store first)
-told_later store first mid after says on reads asked honest kept =
+answer_later store first mid after says on reads asked honest kept =
     let then = was_honest (state_of store mid) (state store after) reads honest in
     subst says (same_on store first mid on then kept) (told store mid after says asked honest (kept_on store first mid on then kept))

@@ -26,7 +26,7 @@ pub record AreWellKept (s : State) (w : World) : Type 0 where
 
 -- What is in memory agrees with the tables. The settings and the applications are the world's, what is remembered is what the tables
 -- hold, and nothing is due in the world before `due_from`.
-pub record AreBeside (w : World) (calls : SlotCalls) (settings : Settings) (apps : List App) (read : Remembered) (due_from : ℕ) : Type 0 where
+pub record AreInMemory (w : World) (calls : SlotCalls) (settings : Settings) (apps : List App) (read : Remembered) (due_from : ℕ) : Type 0 where
   pub settings_are : settings ≡ w.settings
   pub apps_are : apps ≡ w.apps
   pub rows_are : AreRemembered w calls read

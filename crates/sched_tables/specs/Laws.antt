@@ -11,7 +11,7 @@ use Rattle.table_meaning.specs.Schemas.{IsSchema, has_table}
 use Rattle.table_meaning.specs.Fills.{former_call}
 use Rattle.table_meaning.specs.Upgrades.{FitsSchema, HoldWorldAt, UpgradesWorld}
 use Rattle.table_meaning.specs.Worlds.{SlotCalls, HoldWorld}
-use Rattle.table_reading.specs.Reading.{AreUtf8, MayStandBeside}
+use Rattle.table_reading.specs.Reading.{AreUtf8, MayBeKeptWith}
 use Rattle.table_rows.specs.Utf8.{HasUtf8}
 use Rattle.sched_tables.specs.Commits.{Imports}
 use Rattle.sched_tables.specs.Reopening.{AreTaken, CanBeOpened}
@@ -28,7 +28,7 @@ ReopenedHolds {S} {R} before after =
 
 -- Tables can be opened again if they hold a sound world, with what may be kept with it, and their texts are in UTF-8.
 abbrev pub HeldCanBeOpened : Type 0
-HeldCanBeOpened = (db : Database) (w : World) (calls : SlotCalls) (batches : Imports) → Sound w → MayStandBeside w calls batches → HoldWorld db w calls batches → AreUtf8 db.trees → CanBeOpened db
+HeldCanBeOpened = (db : Database) (w : World) (calls : SlotCalls) (batches : Imports) → Sound w → MayBeKeptWith w calls batches → HoldWorld db w calls batches → AreUtf8 db.trees → CanBeOpened db
 
 -- An opening takes tables that can be opened again.
 abbrev pub OpenedAreTaken : Type 0
@@ -55,7 +55,7 @@ AreCallsUtf8 trees = (host : ℕ) → IfSome (former_call trees host) HasUtf8
 -- they can be opened.
 abbrev pub UpgradedOpen : Database → Database → Type 0
 UpgradedOpen old new =
-    (n : ℕ) → IsSchema n → (w : World) (calls : SlotCalls) (batches : Imports) → Sound w → FitsSchema n w → MayStandBeside w calls batches → HoldWorldAt n old w calls batches
+    (n : ℕ) → IsSchema n → (w : World) (calls : SlotCalls) (batches : Imports) → Sound w → FitsSchema n w → MayBeKeptWith w calls batches → HoldWorldAt n old w calls batches
     → AreUtf8At n old.trees → (n ≡ 1 → AreCallsUtf8 old.trees) → CanBeOpened new
 
 abbrev pub UpgradedCanBeOpened : Type 0

@@ -21,7 +21,7 @@ use Rattle.table_meaning.specs.Kept.{calls_in, batches_in}
 use Rattle.table_meaning.specs.Reads.{Reads}
 use Rattle.table_meaning.specs.Worlds.{BatchText, call_row}
 use Rattle.table_meaning.specs.declared.rows.StoredRow.TheVariants as stored
-use Rattle.table_reading.specs.Reading.{MayStandBeside, is_call_of, is_import}
+use Rattle.table_reading.specs.Reading.{MayBeKeptWith, is_call_of, is_import}
 use Rattle.table_reading.proofs.HeldRows.{read_beside}
 use Rattle.table_worlds.specs.StoredWorld.{world_in}
 use Rattle.sched_tables.specs.Entries.{kept_batch}
@@ -86,7 +86,7 @@ import_may w kind name (Some b) fits =
 pub held_may_stand : (db : Database) → CanBeOpened db → MayStand (held_in db.trees)
 held_may_stand db can =
     let w = world_in db.trees in
-    let beside : MayStandBeside w (calls_in db.trees) (batches_in db.trees) = read_beside db w can.rows.0 can.rows.1 can.rows.2 in
+    let beside : MayBeKeptWith w (calls_in db.trees) (batches_in db.trees) = read_beside db w can.rows.0 can.rows.1 can.rows.2 in
     record {
       sound = can.rows.2.sound;
       calls = λ host. all_ordered (λ k. MayBeKept w (entry.Kept host k)) [] _ (All-nil _)

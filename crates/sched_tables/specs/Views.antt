@@ -11,7 +11,7 @@ use Rattle.stores.specs.Held.{Held}
 use Rattle.table_meaning.specs.Kept.{calls_in}
 use Rattle.table_meaning.specs.Worlds.{SlotCalls}
 use Rattle.sched_tables.specs.Entries.{calls_of, batches_of}
-use Rattle.sched_tables.specs.Held.{IsHonest, AreWellKept, AreBeside}
+use Rattle.sched_tables.specs.Held.{IsHonest, AreWellKept, AreInMemory}
 use Rattle.sched_tables.specs.DueFrom.{NothingIsDueBefore}
 use Rattle.sched_tables.specs.Remembering.{AreRemembered}
 use Rattle.sched_tables.specs.declared.tables.Tables.{Tables}
@@ -35,7 +35,7 @@ held_of store t = held_in (state_of store t).now.trees
 
 -- they are well kept, and what is in memory agrees with their world
 abbrev pub AreKept : {S : Type 0} → Ghosts S → Tables S → Type 0
-AreKept store t = AreWellKept (state_of store t) (world_of store t) × AreBeside (world_of store t) (slots_of store t) t.settings t.apps t.remembered t.due_from
+AreKept store t = AreWellKept (state_of store t) (world_of store t) × AreInMemory (world_of store t) (slots_of store t) t.settings t.apps t.remembered t.due_from
 
 -- Tables after a read. What the connection shows is unchanged, and so are the settings and the applications. If the tables are honest and
 -- were well kept, what is remembered is what they held, and nothing is due in their world before `due_from`.

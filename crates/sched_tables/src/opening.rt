@@ -9,7 +9,7 @@ ghost use Rattle.sched_book.specs.Step.{empty_world};
 ghost use Rattle.stores.specs.Held.{Held, IsLeft, IsNew};
 ghost use Rattle.table_meaning.specs.Schema.{no_schema};
 ghost use Rattle.table_reading.specs.Reading.{ReadFrom};
-ghost use Rattle.table_rows.specs.Refusing.{fault_of, given_back, IsAtRest};
+ghost use Rattle.table_rows.specs.Refusing.{fault_of, given_back, HasNoTransaction};
 ghost use Rattle.sched_tables.specs.Held.{IsHonest, NeverFails};
 ghost use Rattle.sched_tables.specs.Refusals.{AreRefusedFor};
 ghost use Rattle.sched_tables.specs.Reopening.{Reopens};
@@ -73,7 +73,7 @@ impl<S: Alter + Drop> Tables<S> {
         ensures stop { IfOk result (λ t. HasCleanDisk (state_of S.Store t) → (h : Held) → MayBeFound (state_of S.Store t) h → IsLeft (held_of S.Store t) h) }
         ensures reopens { IfOk result (λ t. Reopens (state_of S.Store t)) }
         ensures refused { IfErr result (λ e. IfSome (given_back e) (λ c. HasCleanDisk (state S.Store c) → AreRefusedFor (fault_of e) (state S.Store conn).committed)) }
-        ensures back { IfErr result (λ e. IfSome (given_back e) (λ c. HasCleanDisk (state S.Store c) → IsAtRest (state S.Store conn).committed (state S.Store c))) }
+        ensures back { IfErr result (λ e. IfSome (given_back e) (λ c. HasCleanDisk (state S.Store c) → HasNoTransaction (state S.Store conn).committed (state S.Store c))) }
     {
         let mut conn = known(alloc, conn)?;
         let read = stored_world(alloc, &mut conn);

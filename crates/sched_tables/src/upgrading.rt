@@ -4,7 +4,7 @@ ghost use Rattle.std.specs.Prelude.{◌≡◌, ◌≢◌, ℕ, false, Some, IsTr
 ghost use Rattle.sqlite.specs.Held.{state};
 ghost use Rattle.sqlite.specs.State.{HasCleanDisk, Survives};
 ghost use Rattle.table_meaning.specs.Schema.{newest, schema_at, stored_schema};
-ghost use Rattle.table_meaning.specs.Schemas.{IsSchema, IsEarlier, AreKnownAt, AreEarlier, schema_said};
+ghost use Rattle.table_meaning.specs.Schemas.{IsSchema, IsEarlier, AreKnownAt, AreEarlier, schema_setting};
 ghost use Rattle.table_meaning.specs.Rows.{whole as sql_whole};
 ghost use Rattle.table_meaning.specs.Upgrades.{UpgradesWorld, IsLeftBehindWorld, StaysOrGoesWorld};
 
@@ -46,7 +46,7 @@ pub fn upgrade<S: Alter>(alloc: Global, conn: &mut Connection<S>) -> Result<u32,
     ensures number { IfOk result (λ n. n ≡ newest) }
     ensures of_schema { OnOk result ((n : ℕ) × IsSchema n × ((state S.Store conn.old).now.schema ≡ schema_at n)) }
     ensures upgrades { HasCleanDisk (state S.Store conn.new) → OnOk result (UpgradesWorld (state S.Store conn.old).now (state S.Store conn.new).committed) }
-    ensures said { HasCleanDisk (state S.Store conn.new) → OnOk result ((n : ℕ) → IsEarlier n → AreKnownAt n (state S.Store conn.old).now → schema_said (state S.Store conn.old).now.trees ≡ Some (sql_whole n)) }
+    ensures said { HasCleanDisk (state S.Store conn.new) → OnOk result ((n : ℕ) → IsEarlier n → AreKnownAt n (state S.Store conn.old).now → schema_setting (state S.Store conn.old).now.trees ≡ Some (sql_whole n)) }
     ensures newest { HasCleanDisk (state S.Store conn.new) → (state S.Store conn.old).now.schema ≡ stored_schema
         → OnOk result (((state S.Store conn.new).now ≡ (state S.Store conn.old).now) × ((state S.Store conn.new).committed ≡ (state S.Store conn.old).committed)) }
     ensures rest { HasCleanDisk (state S.Store conn.new) → OnOk result ((state S.Store conn.new).now ≡ (state S.Store conn.new).committed) }

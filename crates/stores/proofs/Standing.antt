@@ -6,7 +6,7 @@ use Rattle.std.proofs.lemmas.Bool.{eq-eqb}
 use Rattle.std.proofs.lemmas.List.Elements.{All-head}
 use Rattle.std.proofs.lemmas.Slice.Eq.{bytes_eq-Decides}
 use Rattle.sched_book.specs.declared.world.World.{World}
-use Rattle.stores.specs.Eras.{kept_beside, this_era}
+use Rattle.stores.specs.Eras.{kept_before_last, this_era}
 use Rattle.stores.specs.Held.{Calls, Batches, calls_with, batches_with}
 use Rattle.stores.specs.Kinds.{same_kind}
 use Rattle.stores.specs.Standing.{MayBeKept, MayStand}
@@ -24,8 +24,8 @@ kind_itself Workunits = refl
 -- if the result can be opened again, what the entry keeps may be kept
 pub may_be_kept : (w : World) (e : Entry) (calls : Calls) (batches : Batches) → MayStand (record { world = w; calls = calls_with e calls; batches = batches_with e batches }) → MayBeKept w e
 may_be_kept w (entry.Kept host k) calls batches stands =
-    let P : Bool → Type 0 = λ b. All (λ x. MayBeKept w (entry.Kept host x)) (cond b (k ∷ take (kept_beside this_era) (calls host)) (calls host)) in
-    All-head (λ x. MayBeKept w (entry.Kept host x)) k (take (kept_beside this_era) (calls host)) (subst P (eq-eqb host host refl) (stands.calls host))
+    let P : Bool → Type 0 = λ b. All (λ x. MayBeKept w (entry.Kept host x)) (cond b (k ∷ take (kept_before_last this_era) (calls host)) (calls host)) in
+    All-head (λ x. MayBeKept w (entry.Kept host x)) k (take (kept_before_last this_era) (calls host)) (subst P (eq-eqb host host refl) (stands.calls host))
 may_be_kept w (entry.Batch kind name b) calls batches stands =
     let P : Bool → Type 0 = λ s. IfSome (cond (s && bytes_eq name name) (Some b) (batches kind name)) (λ x. MayBeKept w (entry.Batch kind name x)) in
     let Q : Bool → Type 0 = λ t. IfSome (cond t (Some b) (batches kind name)) (λ x. MayBeKept w (entry.Batch kind name x)) in

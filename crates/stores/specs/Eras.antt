@@ -16,9 +16,9 @@ abbrev pub new_upgrade_points : ℕ → List ℕ
 new_upgrade_points era = replicate era 0
 
 -- how many calls of a host are kept in addition to its last: none before the first upgrade, three since
-abbrev pub kept_beside : ℕ → ℕ
-kept_beside zero = 0
-kept_beside (suc era) = 3
+abbrev pub kept_before_last : ℕ → ℕ
+kept_before_last zero = 0
+kept_before_last (suc era) = 3
 
 -- the first era in which versions have classes, and workunits may be marked
 abbrev pub era_of_classes : ℕ

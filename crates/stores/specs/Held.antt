@@ -9,7 +9,7 @@ use Rattle.sched_book.specs.Step.{empty_world}
 use Rattle.sched_book.specs.declared.delta.Change.{Change}
 use Rattle.sched_book.specs.declared.settings.Settings.{Settings}
 use Rattle.sched_book.specs.declared.world.World.{World}
-use Rattle.stores.specs.Eras.{kept_beside, this_era}
+use Rattle.stores.specs.Eras.{kept_before_last, this_era}
 use Rattle.stores.specs.Kinds.{same_kind}
 use Rattle.stores.specs.declared.batch.KeptBatch.{KeptBatch}
 use Rattle.stores.specs.declared.entry.Entry.{Entry}
@@ -36,7 +36,7 @@ put_at number calls kept n = if number == n then calls else kept n
 
 -- the kept calls, with this one in front of the latest of those at its host's number
 abbrev pub put_call : ℕ → ℕ → Kept → Calls → Calls
-put_call era host call kept = put_at host (call ∷ take (kept_beside era) (kept host)) kept
+put_call era host call kept = put_at host (call ∷ take (kept_before_last era) (kept host)) kept
 
 -- the kept calls once an entry is kept
 abbrev pub calls_with : Entry → Calls → Calls

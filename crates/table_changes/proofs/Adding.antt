@@ -11,7 +11,7 @@ use Rattle.table_meaning.proofs.Keys.{key_itself}
 use Rattle.table_worlds.specs.declared.keys.WorldKey.{WorldKey}
 use Rattle.table_worlds.specs.Keys.{row_key, row_in}
 use Rattle.table_worlds.specs.Changes.{IsChange, AreChanges}
-use Rattle.table_worlds.proofs.KeysStand.{row_has_key}
+use Rattle.table_worlds.proofs.KeysListed.{row_has_key}
 use Rattle.table_changes.specs.Added.{is_put, AreChangesAt, AreAdded}
 
 -- at a key, the world after has no row, or that of the world before

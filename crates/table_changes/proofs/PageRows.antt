@@ -31,7 +31,7 @@ use Rattle.table_worlds.specs.declared.totals.Total.{Total}
 use Rattle.table_worlds.specs.declared.keys.WorldKey.{WorldKey}
 use Rattle.table_worlds.specs.declared.keys.WorldKey.TheVariants.{Unit as UnitKey, Mark, Host, Instance}
 use Rattle.table_changes.specs.Added.{is_unit_among, is_mark_among, is_host_among, is_instance_among, AreAdded}
-use Rattle.table_changes.specs.Tallies.{no_total, tally, held_on, credit_on, total_on, GoesFrom}
+use Rattle.table_changes.specs.Tallies.{no_total, tally, held_on, credit_on, total_on, ReplacesShare}
 use Rattle.table_changes.specs.Touching.{AreTouched}
 use Rattle.table_changes.specs.declared.touched.Touched.{Touched}
 use Rattle.table_changes.proofs.Adding.{IsSettled, added_then, all_added}
@@ -191,7 +191,7 @@ host_changed w v id t o row stands counted is =
     after_is_change (row_in w (Host id)) (row_in v (Host id)) row
     (is ∙ ap (λ (u : Total). option_map (host_in u.held u.credit id) o) counted ∙ ap (option_map (host_in (length (held_by v id)) (host_credit v id) id)) stands)
 
-host_same : (w v : World) (id : ℕ) (share other : Total) → host_at v id ≡ host_at w id → GoesFrom w v id share other → share.held ≡ other.held → share.credit ≡ other.credit
+host_same : (w v : World) (id : ℕ) (share other : Total) → host_at v id ≡ host_at w id → ReplacesShare w v id share other → share.held ≡ other.held → share.credit ≡ other.credit
     → row_in w (Host id) ≡ row_in v (Host id)
 host_same w v id share other stands goes held credit =
     let holds : length (held_by w id) ≡ length (held_by v id) = let both = goes.held in omega (arith, both, held) in
@@ -200,7 +200,7 @@ host_same w v id share other stands goes held credit =
     ∙ ap (λ n. option_map (host_in (length (held_by v id)) n id) (host_at w id)) earns
     ∙ ap (option_map (host_in (length (held_by v id)) (host_credit v id) id)) (sym stands)
 
-pub host_stays : (w v : World) (id : ℕ) (share other : Total) → IsHostAt w v id None → GoesFrom w v id share other → share.held ≡ other.held → share.credit ≡ other.credit
+pub host_stays : (w v : World) (id : ℕ) (share other : Total) → IsHostAt w v id None → ReplacesShare w v id share other → share.held ≡ other.held → share.credit ≡ other.credit
     → IsChange (row_in w (Host id)) (row_in v (Host id)) None
 host_stays w v id share other here goes held credit = same_is_change _ _ (host_same w v id share other here goes held credit)
 
@@ -243,7 +243,7 @@ module _ (w v : World) (kept : ℕ → Option Leaf) (units : List ℕ) (host : �
   credit_now unit = by_leaf unit (λ o. at_place (credit_in w.apps host) v.units unit ≡ credit_on book_now host o)
       (λ k leaf. ap (λ o. unwrap_or (option_map (credit_in w.apps host) o) 0) leaf.here ∙ ap (credit_with k k.present) leaf.agreement)
 
-  goes_on : GoesFrom w v host (total_on book_before kept units host) (total_on book_now kept units host)
+  goes_on : ReplacesShare w v host (total_on book_before kept units host) (total_on book_now kept units host)
   goes_on = record {
     held =
         let before = places_counted (is_held_by host) 1 w.units in
@@ -272,13 +272,13 @@ pub apps_stay : (w : World) (p : Page) → IsPageOf w p → (applied w p.delta).
 apps_stay w p page = ap (λ u. u.apps) page.rest
 
 pub goes_from : (w : World) (p : Page) (t : Touched) (host : ℕ) (share other : Total) → IsPageOf w p → AreTouched p t
-    → share ≡ tally t.tallies.before host → other ≡ tally t.tallies.present host → GoesFrom w (applied w p.delta) host share other
+    → share ≡ tally t.tallies.before host → other ≡ tally t.tallies.present host → ReplacesShare w (applied w p.delta) host share other
 goes_from w p t host share other page touched before after =
     let goes = goes_on w (applied w p.delta) (get nat_cmp p.leaves) t.units host (apps_stay w p page) touched.units page.leaves in
     let first = before ∙ touched.tallies.before host in
     let second = after ∙ touched.tallies.present host in
-    subst (λ (s : Total). GoesFrom w (applied w p.delta) host s other) (sym first)
-    (subst (λ (o : Total). GoesFrom w (applied w p.delta) host (total_on book_before (get nat_cmp p.leaves) t.units host) o) (sym second) goes)
+    subst (λ (s : Total). ReplacesShare w (applied w p.delta) host s other) (sym first)
+    (subst (λ (o : Total). ReplacesShare w (applied w p.delta) host (total_on book_before (get nat_cmp p.leaves) t.units host) o) (sym second) goes)
 
 -- the keys that the page touches
 abbrev pub is_touched : Touched → WorldKey → Bool
@@ -313,10 +313,10 @@ unit_told w u p unit o row same found page told =
 
 pub host_told : (w u : World) (p : Page) (t : Touched) (host : ℕ) (share other : Total) (row : Option StoredRow) → u ≡ w → IsPageOf w p → AreTouched p t
     → share ≡ tally t.tallies.before host → other ≡ tally t.tallies.present host
-    → (IsPageOf u p → GoesFrom u (applied u p.delta) host share other → IsChange (row_in u (Host host)) (row_in (applied u p.delta) (Host host)) row)
+    → (IsPageOf u p → ReplacesShare u (applied u p.delta) host share other → IsChange (row_in u (Host host)) (row_in (applied u p.delta) (Host host)) row)
     → IsChange (row_in w (Host host)) (row_in (applied w p.delta) (Host host)) row
 host_told w u p t host share other row same page touched before after told =
-    subst (λ (x : World). IsPageOf x p → GoesFrom x (applied x p.delta) host share other → IsChange (row_in x (Host host)) (row_in (applied x p.delta) (Host host)) row) same told
+    subst (λ (x : World). IsPageOf x p → ReplacesShare x (applied x p.delta) host share other → IsChange (row_in x (Host host)) (row_in (applied x p.delta) (Host host)) row) same told
     page (goes_from w p t host share other page touched before after)
 
 -- the leaf at a place of a page

@@ -30,9 +30,9 @@ pub words_readable : (w : World) (cs : List Change) → list_all puts_words cs �
 words_readable w cs puts readable = stays_readable w cs readable (all_readable w cs puts)
 
 -- a fact that holds holds for any result
-pub told_anyhow : {X E : Type 0} (P : Type 0) (r : Result X E) → P → IfOk r (λ x. P)
-told_anyhow P (Ok x) is = is
-told_anyhow P (Err e) is = tt
+pub holds_anyway : {X E : Type 0} (P : Type 0) (r : Result X E) → P → IfOk r (λ x. P)
+holds_anyway P (Ok x) is = is
+holds_anyway P (Err e) is = tt
 
 -- the rows of a page are those of the changes that were put onto it
 pub of_page : {E : Type 0} (w u : World) (p : Page) (cs : List Change) (r : Result (List StoredRow) E) → u ≡ w → p.delta ≡ cs → IsPageOf w p

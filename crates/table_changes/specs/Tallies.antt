@@ -41,6 +41,6 @@ pub record AreTallies (kept : ℕ → Option Leaf) (units : List ℕ) (tallies :
   pub present : (host : ℕ) → tally tallies.present host ≡ total_on book_now kept units host
 
 -- From one world to another, what the host holds and its credit lose one share and gain the other.
-pub record GoesFrom (old new : World) (host : ℕ) (share other : Total) : Type 0 where
+pub record ReplacesShare (old new : World) (host : ℕ) (share other : Total) : Type 0 where
   pub held : length (held_by old host) + other.held ≡ length (held_by new host) + share.held
   pub credit : host_credit old host + other.credit ≡ host_credit new host + share.credit

@@ -13,7 +13,7 @@ ghost use Rattle.table_worlds.specs.Keys.{row_in};
 ghost use Rattle.table_worlds.specs.Totals.{total_of};
 ghost use Rattle.table_worlds.specs.declared.keys.WorldKey.TheVariants as key;
 ghost use Rattle.table_changes.specs.Added.{is_host_among, AreAdded};
-ghost use Rattle.table_changes.specs.Tallies.{GoesFrom};
+ghost use Rattle.table_changes.specs.Tallies.{ReplacesShare};
 ghost use Rattle.table_changes.specs.Touching.{AreTouched};
 
 use crate::tallies::tally;
@@ -49,7 +49,7 @@ fn total_after<D: Desk>(
     other: Total,
 ) -> Result<Total, Unavailable>
     ensures reads { D.reads desk.old desk.new }
-    ensures total { Trusted D.Units desk.old desk.new ((after : World) → GoesFrom (D.world desk.old) after host share other →
+    ensures total { Trusted D.Units desk.old desk.new ((after : World) → ReplacesShare (D.world desk.old) after host share other →
         IfOk result (λ total. total ≡ total_of after host)) }
 {
     let held = desk.held_count(host)?;
@@ -103,7 +103,7 @@ fn changed_host<D: Desk>(
 ) -> Result<Option<RowChange>, Unavailable>
     ensures reads { D.reads desk.old desk.new }
     ensures row { Trusted D.Units desk.old desk.new (IsPageOf (D.world desk.old) page.now
-        → GoesFrom (D.world desk.old) (applied (D.world desk.old) page.now.delta) host share other
+        → ReplacesShare (D.world desk.old) (applied (D.world desk.old) page.now.delta) host share other
         → IfOk result (IsChange (row_in (D.world desk.old) (key.Host host)) (row_in (applied (D.world desk.old) page.now.delta) (key.Host host)))) }
 {
     if page.host(host).is_none() && share.held == other.held && share.credit == other.credit {

@@ -1,6 +1,6 @@
 pub mod AppsPlaced
-pub mod ClassesTold
+pub mod ClassesDecoded
 pub mod Refusals
 pub mod RowsInOrder
-pub mod SettingsTold
+pub mod SettingsDecoded
 pub mod WorldDecoded

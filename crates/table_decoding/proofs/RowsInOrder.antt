@@ -11,7 +11,7 @@ use Rattle.table_meaning.specs.declared.rows.StoredRow.{StoredRow}
 use Rattle.table_worlds.specs.declared.keys.NumberedTable.TheVariants as table
 use Rattle.table_worlds.specs.declared.keys.WorldKey.{WorldKey}
 use Rattle.table_worlds.specs.declared.keys.WorldKey.TheVariants.{Account, App, Version, Class, Unit, Mark, Host}
-use Rattle.table_worlds.specs.Keys.{row_in, row_beside, numbered}
+use Rattle.table_worlds.specs.Keys.{row_in, other_row, numbered}
 use Rattle.table_worlds.proofs.ByPlace.{nth_next}
 use Rattle.table_worlds.proofs.UnitRowsRead.{take_one_more}
 use Rattle.table_decoding.specs.Decoding.{of_account, of_app, of_version, of_class, of_unit, of_mark, of_host}
@@ -55,17 +55,17 @@ numbered_rows row key f n (x ∷ xs) each =
     ∙ ap (λ l. f n x ∷ l) (numbered_rows row key f (n + 1) xs (λ i. let same : suc i + n ≡ i + (n + 1) = omega arith in subst (λ m. row (key m) ≡ option_map (f m) (slice_get xs i)) same (each (suc i))))
 
 module _ (w : World) where
-  pub account_rows : filter_map (row_beside w) (numbered table.Account (length w.accounts)) ≡ map_from 1 of_account w.accounts
-  account_rows = numbered_rows (row_beside w) Account of_account 1 w.accounts (λ i. ap (option_map (of_account (i + 1))) (nth_next w.accounts i))
+  pub account_rows : filter_map (other_row w) (numbered table.Account (length w.accounts)) ≡ map_from 1 of_account w.accounts
+  account_rows = numbered_rows (other_row w) Account of_account 1 w.accounts (λ i. ap (option_map (of_account (i + 1))) (nth_next w.accounts i))
 
-  pub app_rows : filter_map (row_beside w) (numbered table.App (length w.apps)) ≡ map_from 1 of_app w.apps
-  app_rows = numbered_rows (row_beside w) App of_app 1 w.apps (λ i. ap (option_map (of_app (i + 1))) (nth_next w.apps i))
+  pub app_rows : filter_map (other_row w) (numbered table.App (length w.apps)) ≡ map_from 1 of_app w.apps
+  app_rows = numbered_rows (other_row w) App of_app 1 w.apps (λ i. ap (option_map (of_app (i + 1))) (nth_next w.apps i))
 
-  pub version_rows : filter_map (row_beside w) (numbered table.Version (length w.versions)) ≡ map_from 1 (of_version w) w.versions
-  version_rows = numbered_rows (row_beside w) Version (of_version w) 1 w.versions (λ i. ap (option_map (of_version w (i + 1))) (nth_next w.versions i))
+  pub version_rows : filter_map (other_row w) (numbered table.Version (length w.versions)) ≡ map_from 1 (of_version w) w.versions
+  version_rows = numbered_rows (other_row w) Version (of_version w) 1 w.versions (λ i. ap (option_map (of_version w (i + 1))) (nth_next w.versions i))
 
-  pub class_rows : filter_map (row_beside w) (numbered table.Class (length w.versions)) ≡ map_from 1 of_class w.versions
-  class_rows = numbered_rows (row_beside w) Class of_class 1 w.versions (λ i. ap (option_map (of_class (i + 1))) (nth_next w.versions i))
+  pub class_rows : filter_map (other_row w) (numbered table.Class (length w.versions)) ≡ map_from 1 of_class w.versions
+  class_rows = numbered_rows (other_row w) Class of_class 1 w.versions (λ i. ap (option_map (of_class (i + 1))) (nth_next w.versions i))
 
   pub unit_rows : filter_map (row_in w) (numbered table.Unit (length w.units)) ≡ map_from 1 (of_unit w) w.units
   unit_rows = numbered_rows (row_in w) Unit (of_unit w) 1 w.units (λ i. ap (option_map (of_unit w (i + 1))) (nth_next w.units i))
@@ -73,5 +73,5 @@ module _ (w : World) where
   pub mark_rows : filter_map (row_in w) (numbered table.Mark (length w.units)) ≡ map_from 1 of_mark w.units
   mark_rows = numbered_rows (row_in w) Mark of_mark 1 w.units (λ i. ap (option_map (of_mark (i + 1))) (nth_next w.units i))
 
-  pub host_rows : filter_map (row_beside w) (numbered table.Host (length w.hosts)) ≡ map_from 1 (of_host (λ id. length (held_by w id)) (host_credit w)) w.hosts
-  host_rows = numbered_rows (row_beside w) Host (of_host (λ id. length (held_by w id)) (host_credit w)) 1 w.hosts (λ i. ap (option_map (of_host (λ id. length (held_by w id)) (host_credit w) (i + 1))) (nth_next w.hosts i))
+  pub host_rows : filter_map (other_row w) (numbered table.Host (length w.hosts)) ≡ map_from 1 (of_host (λ id. length (held_by w id)) (host_credit w)) w.hosts
+  host_rows = numbered_rows (other_row w) Host (of_host (λ id. length (held_by w id)) (host_credit w)) 1 w.hosts (λ i. ap (option_map (of_host (λ id. length (held_by w id)) (host_credit w) (i + 1))) (nth_next w.hosts i))

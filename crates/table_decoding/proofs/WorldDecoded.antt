@@ -10,10 +10,10 @@ use Rattle.sched_book.specs.declared.world.World.{World}
 use Rattle.std.specs.Prelude.{length}
 use Rattle.table_meaning.specs.declared.rows.StoredRow.{StoredRow}
 use Rattle.table_worlds.specs.declared.matching.TableRows.{TableRows}
-use Rattle.table_worlds.specs.RowsOf.{AreRowsBeside}
-use Rattle.table_decoding.specs.Decoding.{TellAll, of_account, of_app, of_version, of_class, of_host}
+use Rattle.table_worlds.specs.RowsOf.{AreOtherRows}
+use Rattle.table_decoding.specs.Decoding.{GiveSettings, of_account, of_app, of_version, of_class, of_host}
 use Rattle.table_decoding.proofs.RowsInOrder.{account_rows, app_rows, version_rows, class_rows, host_rows}
-use Rattle.table_decoding.proofs.SettingsTold.{all_told}
+use Rattle.table_decoding.proofs.SettingsDecoded.{all_told}
 
 -- a host whose quota is within the settings' quota is within the greatest quota
 pub hosts_limited : (w : World) → Sound w → All (IsHostInLimits most_quota) w.hosts
@@ -28,9 +28,9 @@ hosts_limited w sound = All-weaker (IsSoundHost (length w.accounts) w.settings.d
 }) w.hosts sound.rows.hosts
 
 -- the rows of each table, however they are passed on
-module _ (w : World) (rows : TableRows) (are : AreRowsBeside w rows) (these : List StoredRow) where
-  pub settings_told : these ≡ rows.settings → TellAll these w.settings
-  settings_told is = subst (λ l. TellAll l w.settings) (sym is) (all_told w.settings rows.settings are.settings)
+module _ (w : World) (rows : TableRows) (are : AreOtherRows w rows) (these : List StoredRow) where
+  pub settings_told : these ≡ rows.settings → GiveSettings these w.settings
+  settings_told is = subst (λ l. GiveSettings l w.settings) (sym is) (all_told w.settings rows.settings are.settings)
 
   pub accounts_told : these ≡ rows.accounts → these ≡ map_from 1 of_account w.accounts
   accounts_told is = is ∙ are.accounts ∙ account_rows w

@@ -42,7 +42,7 @@ pub record Tells (rows : List StoredRow) (name : List ℕ) (value : SettingValue
   pub alone : (r : StoredRow) (other : SettingValue) → Has rows r → told_of name r ≡ Some other → other ≡ value
 
 -- the rows give the values of these settings, and no others for them
-pub record TellAll (rows : List StoredRow) (s : Settings) : Type 0 where
+pub record GiveSettings (rows : List StoredRow) (s : Settings) : Type 0 where
   pub daily_result_quota : Tells rows (codes "daily_result_quota") (Number s.daily_result_quota)
   pub max_hosts : Tells rows (codes "max_hosts") (Number s.max_hosts)
   pub max_wus_in_progress : Tells rows (codes "max_wus_in_progress") (Number s.max_wus_in_progress)

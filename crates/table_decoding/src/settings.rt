@@ -6,7 +6,7 @@ ghost use Rattle.sqlite_rules.specs.Lists.{Has};
 ghost use Rattle.sched_book.specs.declared.settings.Settings.{Settings};
 ghost use Rattle.table_meaning.specs.declared.rows.SettingValue.{SettingValue};
 ghost use Rattle.table_meaning.specs.declared.rows.SettingValue.TheVariants as value;
-ghost use Rattle.table_decoding.specs.Decoding.{Gives, Tells, TellAll, schema_row, told_of};
+ghost use Rattle.table_decoding.specs.Decoding.{Gives, Tells, GiveSettings, schema_row, told_of};
 
 use crate::fault::RowFault;
 use sched_book::Settings;
@@ -28,7 +28,7 @@ fn is_schema(row: &StoredRow) -> bool
 }
 
 /// Whether a row names the schema of the stored tables.
-pub(crate) fn tells_schema(rows: &[StoredRow]) -> bool
+pub(crate) fn names_schema(rows: &[StoredRow]) -> bool
     ensures { IsTrue result ↔ Has rows.now schema_row }
 {
     for row in rows {
@@ -94,7 +94,7 @@ fn flag(rows: &[StoredRow], name: &str) -> Result<bool, RowFault>
 
 /// The settings that these rows give.
 pub(crate) fn settings(rows: &[StoredRow]) -> Result<Settings, RowFault>
-    ensures { (s : Settings) → TellAll rows.now s → Gives result s }
+    ensures { (s : Settings) → GiveSettings rows.now s → Gives result s }
 {
     Ok(Settings {
         daily_result_quota: number(rows, "daily_result_quota")?,

@@ -46,7 +46,7 @@ use Rattle.table_worlds.proofs.ReadBack.{account_back, unit_back, host_back, job
 use Rattle.table_desk.specs.Asked.{Tell}
 use Rattle.table_desk.specs.Columns.{counted_host_at}
 use Rattle.table_desk.specs.declared.hosts.CountedHost.{CountedHost}
-use Rattle.table_desk.proofs.Standing.{item_stands, none_stands, rows_of_list, first_placed}
+use Rattle.table_desk.proofs.Standing.{item_at_key, none_stands, rows_of_list, first_placed}
 use Rattle.texts.specs.Words.{IsWord}
 
 -- ---- texts and numbers that are shown
@@ -83,7 +83,7 @@ module _ (db : Database) (w : World) (tell : Tell db w) where
       → Some (columns_of (stored.UnitMark mark)) ≡ look_up db.trees (mark_key unit) → u ≡ unit_in apps (columns_of (stored.Unit row)) (columns_of (stored.UnitMark mark))
       → Some u ≡ workunit_at w unit
   unit_found apps same unit row mark u read marked told =
-      let item = item_stands (of_unit unit) (unit_at w unit) (columns_of (stored.Unit row)) (read ∙ tell.holds.rows (unit_key unit)) in
+      let item = item_at_key (of_unit unit) (unit_at w unit) (columns_of (stored.Unit row)) (read ∙ tell.holds.rows (unit_key unit)) in
       let has : has_app w.apps item.0.unit.app ≡ true = all_nth (λ (b : UnitBook). has_app w.apps b.unit.app ≡ true) w.units unit item.0 item.1 tell.readable.units in
       let rule = same_Some _ _ (marked ∙ tell.holds.rows (mark_key unit) ∙ ap (λ o. option_map columns_of (option_map (λ (b : UnitBook). stored.UnitMark (mark_row unit b)) o)) item.1) in
       ap Some (told ∙ ap₂ (unit_in apps) item.2 rule ∙ unit_back apps w same unit item.0 has) ∙ sym (ap (option_map (λ (b : UnitBook). b.unit)) item.1)
@@ -108,7 +108,7 @@ module _ (db : Database) (w : World) (tell : Tell db w) where
           → Some x ≡ option_and_then (λ (b : UnitBook). slice_get b.instances number) o
       cases None is = absurd (none-some _ (sym is))
       cases (Some b) is =
-          let item = item_stands (λ y. stored.Instance (instance_row w b unit number y)) (slice_get b.instances number) (columns_of (stored.Instance row)) is in
+          let item = item_at_key (λ y. stored.Instance (instance_row w b unit number y)) (slice_get b.instances number) (columns_of (stored.Instance row)) is in
           ap Some (told ∙ ap job_in item.2 ∙ job_back w b unit number item.0) ∙ sym item.1
 
   -- ---- a host
@@ -132,7 +132,7 @@ module _ (db : Database) (w : World) (tell : Tell db w) where
       → (h.row ≡ host_in (columns_of (stored.Host row))) × (h.held ≡ row.held) × (pos h.credit ≡ row.credit) → Some h ≡ counted_host_at w number
   unfolding counted_as integer
   host_counted number row h read told =
-      let item = item_stands (of_host number) (host_at w number) (columns_of (stored.Host row)) (read ∙ tell.holds.rows (host_key number)) in
+      let item = item_at_key (of_host number) (host_at w number) (columns_of (stored.Host row)) (read ∙ tell.holds.rows (host_key number)) in
       let words = all_nth (λ (g : HostRow). (1 ≤ length g.platforms) × All IsWord g.platforms) w.hosts number item.0 item.1 tell.readable.hosts in
       let same = told.0 ∙ ap host_in item.2 ∙ host_back (length (held_by w number)) (host_credit w number) number item.0 words in
       let held : h.held ≡ length (held_by w number) = told.1 ∙ ap (λ (r : Row). number_of (column r 8)) item.2 in

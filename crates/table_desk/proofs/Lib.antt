@@ -9,7 +9,7 @@ pub mod PagesOffered
 pub mod PlaceOrder
 pub mod PlacesAsked
 pub mod PlacesNone
-pub mod PlacesStand
+pub mod AllPlaces
 pub mod ReadLater
 pub mod Standing
 pub mod Uncovered

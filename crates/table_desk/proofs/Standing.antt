@@ -18,9 +18,9 @@ use Rattle.table_meaning.proofs.Listings.{IsByNumber, listed}
 -- ---- the row at a key
 
 -- if there is a row, it is that of an item
-pub item_stands : {X : Type 0} (row : X → StoredRow) (o : Option X) (columns : Row) → Some columns ≡ option_map columns_of (option_map row o) → (x : X) × (o ≡ Some x) × (columns ≡ columns_of (row x))
-item_stands row None columns is = absurd (none-some _ (sym is))
-item_stands row (Some x) columns is = (x, refl, same_Some _ _ is)
+pub item_at_key : {X : Type 0} (row : X → StoredRow) (o : Option X) (columns : Row) → Some columns ≡ option_map columns_of (option_map row o) → (x : X) × (o ≡ Some x) × (columns ≡ columns_of (row x))
+item_at_key row None columns is = absurd (none-some _ (sym is))
+item_at_key row (Some x) columns is = (x, refl, same_Some _ _ is)
 
 pub none_stands : {X : Type 0} (row : X → StoredRow) (o : Option X) → None ≡ option_map columns_of (option_map row o) → o ≡ None
 none_stands row None is = refl

@@ -39,7 +39,7 @@ use Rattle.table_meaning.proofs.PlacesTests.{equal_numbers}
 use Rattle.table_desk.specs.Asked.{Tell}
 use Rattle.table_desk.specs.Users.{some_had, HasAdded}
 use Rattle.table_desk.proofs.PlacesAsked.{owned_told}
-use Rattle.table_desk.proofs.PlacesStand.{all_places}
+use Rattle.table_desk.proofs.AllPlaces.{all_places}
 use Rattle.table_desk.proofs.Standing.{rows_of_list}
 
 apart : (m n : ℕ) → m < n → (m == n) ≡ false

@@ -36,9 +36,9 @@ use Rattle.table_meaning.specs.Worlds.{contents_of, instance_row, is_queued}
 use Rattle.table_meaning.proofs.PlacesTests.{equal_numbers, above_number, not_below_number}
 use Rattle.table_desk.specs.Asked.{Asked, Tell}
 use Rattle.table_desk.specs.FirstPage.{IsFirstPageOf}
-use Rattle.table_desk.specs.Pages.{candidate_at, candidates_at, behind, next_page, unsent_on, unsent_behind}
+use Rattle.table_desk.specs.Pages.{candidate_at, candidates_at, behind, next_page, unsent_on, unsent_after}
 use Rattle.table_desk.specs.declared.pages.PageRead.{PageRead}
-use Rattle.table_desk.proofs.PlacesStand.{all_places}
+use Rattle.table_desk.proofs.AllPlaces.{all_places}
 
 -- the places that wait to be given out, from one place on
 abbrev waits : World → Place → Place → Bool
@@ -305,12 +305,12 @@ module _ (w : World) (page : PageRead) (is : IsFirstPageOf w page) where
   page_waits : page.places ≡ take 8 (waiting w page.from)
   page_waits = is ∙ ap (take 8) (places_unsent w page.from)
 
-  pub unsent_of_all : (from : Place) → page.from ≡ from → (places : List Place) → places ≡ page.places → unsent w from ≡ candidates_at w places ++ unsent_behind w page
+  pub unsent_of_all : (from : Place) → page.from ≡ from → (places : List Place) → places ≡ page.places → unsent w from ≡ candidates_at w places ++ unsent_after w page
   unsent_of_all from same places are =
-      ap (unsent w) (sym same) ∙ parts w 7 page.from page.places page_waits ∙ ap (λ (ps : List Place). candidates_at w ps ++ unsent_behind w page) (sym are)
+      ap (unsent w) (sym same) ∙ parts w 7 page.from page.places page_waits ∙ ap (λ (ps : List Place). candidates_at w ps ++ unsent_after w page) (sym are)
 
-  pub unsent_of_rest : (at : ℕ) (first : Place) → slice_get page.places at ≡ Some first → (places : List Place) → places ≡ drop at page.places → unsent w first ≡ candidates_at w places ++ unsent_behind w page
-  unsent_of_rest at first stands places are = parts_from w 7 page.from page.places page_waits at first stands ∙ ap (λ (ps : List Place). candidates_at w ps ++ unsent_behind w page) (sym are)
+  pub unsent_of_rest : (at : ℕ) (first : Place) → slice_get page.places at ≡ Some first → (places : List Place) → places ≡ drop at page.places → unsent w first ≡ candidates_at w places ++ unsent_after w page
+  unsent_of_rest at first stands places are = parts_from w 7 page.from page.places page_waits at first stands ∙ ap (λ (ps : List Place). candidates_at w ps ++ unsent_after w page) (sym are)
 
 -- ---- pages that a read shows
 

@@ -31,5 +31,5 @@ unsent_on w None = []
 unsent_on w (Some from) = unsent w from
 
 -- the unsent instances after the first page, as it was read
-abbrev pub unsent_behind : World → PageRead → List Candidate
-unsent_behind w page = unsent_on w (next_page First page.places)
+abbrev pub unsent_after : World → PageRead → List Candidate
+unsent_after w page = unsent_on w (next_page First page.places)

@@ -10,7 +10,7 @@ ghost use Rattle.table_desk.specs.Asked.{Asked};
 ghost use Rattle.table_desk.specs.FirstPage.{IsFirstPageOf};
 ghost use Rattle.table_desk.specs.Skips.{IsCovered};
 ghost use Rattle.sched_book.specs.Offers.{OrSkips};
-ghost use Rattle.table_desk.specs.Pages.{candidate_at, candidates_at, unsent_on, unsent_behind};
+ghost use Rattle.table_desk.specs.Pages.{candidate_at, candidates_at, unsent_on, unsent_after};
 
 use crate::pages::{PageRead, next_page};
 use crate::skip::Skip;
@@ -157,8 +157,8 @@ fn offer_on<S: Alter, K: KnownUnits, T: Taker>(
     taker: &mut T,
 ) -> Result<(), Unavailable>
     ensures reads { Reads (state S.Store conn.old) (state S.Store conn.new) }
-    ensures all { Asked S.Store conn.old conn.new (λ w. apps.now ≡ w.apps → K.are_of w known.now → OnOk result (OffersAll (OrSkips (IsCovered skip.now) T.takes) taker.old (candidates_at w places.now ++ unsent_behind w page.now) taker.new)) }
-    ensures some { Asked S.Store conn.old conn.new (λ w. apps.now ≡ w.apps → K.are_of w known.now → OnErr result (OffersSome (OrSkips (IsCovered skip.now) T.takes) taker.old (candidates_at w places.now ++ unsent_behind w page.now) taker.new)) }
+    ensures all { Asked S.Store conn.old conn.new (λ w. apps.now ≡ w.apps → K.are_of w known.now → OnOk result (OffersAll (OrSkips (IsCovered skip.now) T.takes) taker.old (candidates_at w places.now ++ unsent_after w page.now) taker.new)) }
+    ensures some { Asked S.Store conn.old conn.new (λ w. apps.now ≡ w.apps → K.are_of w known.now → OnErr result (OffersSome (OrSkips (IsCovered skip.now) T.takes) taker.old (candidates_at w places.now ++ unsent_after w page.now) taker.new)) }
 {
     match offer_each(alloc, conn, apps, known, skip, places, taker)? {
         Flow::Stop => Ok(()),

@@ -8,7 +8,7 @@ ghost use Rattle.table_meaning.specs.Reads.{Reads};
 ghost use Rattle.table_meaning.specs.declared.tables.QueuePage.TheVariants.{First};
 ghost use Rattle.table_desk.specs.Asked.{Asked};
 ghost use Rattle.table_desk.specs.FirstPage.{IsFirstPageOf};
-ghost use Rattle.table_desk.specs.Pages.{candidates_at, next_page, unsent_behind};
+ghost use Rattle.table_desk.specs.Pages.{candidates_at, next_page, unsent_after};
 
 use sched_book::{Place, Unavailable};
 use sqlite::{Alter, Connection};
@@ -70,7 +70,7 @@ impl PageRead {
 
     /// Its places from this one on, if it was read from there on or has the place.
     pub(crate) fn places_from(&self, from: Place) -> Option<&[Place]>
-        ensures { (w : World) → IsFirstPageOf w self.now → IfSome result (λ places. unsent w from ≡ candidates_at w places.now ++ unsent_behind w self.now) }
+        ensures { (w : World) → IsFirstPageOf w self.now → IfSome result (λ places. unsent w from ≡ candidates_at w places.now ++ unsent_after w self.now) }
     {
         if self.from == from {
             return Some(self.places());

@@ -32,7 +32,7 @@ use Rattle.table_meaning.specs.Formats.{kinds_of}
 use Rattle.table_meaning.specs.Reads.{read_query}
 use Rattle.table_meaning.specs.ByKey.{key_query}
 use Rattle.table_meaning.specs.Upserts.{update_at, put_command}
-use Rattle.table_meaning.proofs.Columns.{key_by, count_of, written_out, behind_by, with_number, source_by, put_terms, set_terms}
+use Rattle.table_meaning.proofs.Columns.{key_by, count_of, written_out, columns_after_number, with_number, source_by, put_terms, set_terms}
 
 abbrev pub names_of : TableName → List (List ℕ)
 names_of t = names (layout_of t)
@@ -76,12 +76,12 @@ pub record Computed (t : TableName) : Type 0 where
   -- what happens to the columns of a row that is put
   pub values : (c : Row) → value_rows (stamped (table_by t) (written_out t c)) (count_of t + 1) (length (put_terms (key_by t) (count_of t)) / (count_of t + 1)) (put_terms (key_by t) (count_of t))
       ≡ source_by (key_by t) (written_out t c) ∷ []
-  pub meets : (c : Row) (id : ℤ) (x : Row) → conflicts (Some (key_places t)) stored_schema.indexes (table_by t) (Int id ∷ behind_by (key_by t) (written_out t c)) x
-      ≡ agree plain (key_places t) x (key_places t) (Int id ∷ behind_by (key_by t) (written_out t c))
+  pub meets : (c : Row) (id : ℤ) (x : Row) → conflicts (Some (key_places t)) stored_schema.indexes (table_by t) (Int id ∷ columns_after_number (key_by t) (written_out t c)) x
+      ≡ agree plain (key_places t) x (key_places t) (Int id ∷ columns_after_number (key_by t) (written_out t c))
   pub slot_is : (c : Row) (v : Value) (rest : Row) → column (written_out t c ++ v ∷ rest) (count_of t) ≡ v
   pub columns_are : (c : Row) (id : ℤ) (r : Row) (v : Value)
-      → eval_all (set_terms (key_by t) (count_of t)) ((written_out t c ++ v ∷ shown_by (table_by t) (Int id ∷ behind_by (key_by t) (written_out t c))) ∷ r ∷ []) ≡ behind_by (key_by t) (written_out t c)
-  pub shows : (c : Row) (id : ℤ) → shown t (Int id ∷ behind_by (key_by t) (written_out t c)) ≡ with_number (key_by t) id (written_out t c)
+      → eval_all (set_terms (key_by t) (count_of t)) ((written_out t c ++ v ∷ shown_by (table_by t) (Int id ∷ columns_after_number (key_by t) (written_out t c))) ∷ r ∷ []) ≡ columns_after_number (key_by t) (written_out t c)
+  pub shows : (c : Row) (id : ℤ) → shown t (Int id ∷ columns_after_number (key_by t) (written_out t c)) ≡ with_number (key_by t) id (written_out t c)
 
 pub or_false : (b : Bool) → (b || false) ≡ b
 or_false true = refl

@@ -22,9 +22,9 @@ abbrev pub written_out : TableName → Row → Row
 written_out t c = columns_in c (count_of t)
 
 -- what the tree has of a row after the row's number
-abbrev pub behind_by : Key → Row → Row
-behind_by numbered c = Null ∷ drop 1 c
-behind_by (by_first n) c = c
+abbrev pub columns_after_number : Key → Row → Row
+columns_after_number numbered c = Null ∷ drop 1 c
+columns_after_number (by_first n) c = c
 
 -- If the row's number is one of the columns, it is this number.
 abbrev pub IsNumberedBy : Key → Row → ℤ → Type 0
@@ -38,7 +38,7 @@ with_number (by_first n) id c = c
 
 -- what is put: the row's number if it is a column; if not, NULL, for which SQL chooses a free number
 abbrev pub source_by : Key → Row → Row
-source_by numbered c = column c 0 ∷ behind_by numbered c
+source_by numbered c = column c 0 ∷ columns_after_number numbered c
 source_by (by_first n) c = Null ∷ c
 
 -- If `count` columns are the parameters: the terms for the columns that UPDATE sets, for the row that is put, and for those that DO UPDATE sets.

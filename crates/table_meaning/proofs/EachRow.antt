@@ -106,8 +106,8 @@ instance_told row = record {
 }
 
 -- The row with these columns. Their number determines its table. If several tables have as many columns, it depends on which of them are texts.
-row_told : Row → StoredRow
-row_told row =
+row_of_columns : Row → StoredRow
+row_of_columns row =
     if length row == 2 then (if is_text (column row 0) then Setting (record { name = bytes_of (column row 0); value = setting_of (column row 1) })
     else VersionClass (record { version_id = number_of (column row 0); class = bytes_of (column row 1) }))
     else (if length row == 3 then (if is_text (column row 1) then (if is_text (column row 2) then Account (record { id = number_of (column row 0); auth = bytes_of (column row 1); name = bytes_of (column row 2) })
@@ -119,8 +119,8 @@ row_told row =
     else (if length row == 10 then (if is_text (column row 2) then Host (host_told row) else Instance (instance_told row))
     else Unit (unit_told row)))))
 
-is_told : (r : StoredRow) → row_told (columns_of r) ≡ r
-unfolding row_told
+is_told : (r : StoredRow) → row_of_columns (columns_of r) ≡ r
+unfolding row_of_columns
 is_told (Setting s) = λ i. Setting (record { name = s.name; value = setting_back s.value i })
 is_told (App a) =
     ap (λ b. cond b (Account (record { id = a.id; auth = a.name; name = bytes_of (or_null whole a.agreement) })) (App (record { id = a.id; name = a.name; agreement = if_any number_of (or_null whole a.agreement) }))) (no_text a.agreement)
@@ -143,7 +143,7 @@ is_told (UnitMark m) = λ i. UnitMark (record { unit_id = m.unit_id; marked = fl
 is_told _ = refl
 
 pub columns_told : (r s : StoredRow) → columns_of r ≡ columns_of s → r ≡ s
-columns_told r s same = sym (is_told r) ∙ ap row_told same ∙ is_told s
+columns_told r s same = sym (is_told r) ∙ ap row_of_columns same ∙ is_told s
 
 -- ---- the types of its columns, and its key
 

@@ -143,8 +143,8 @@ pub record OfFill (f : Fill) : Type 0 where
   pub shows : (params r : Row) → eval_all (fill_terms f) (params ∷ r ∷ []) ≡ source_by (key_by (target_of f)) (filled_columns f (map (column r) (places_in (source_of f))))
   -- the tables exist, and the filled one differs from the other two
   pub is_schema : IsSchema (schema_with f)
-  pub source_stands : has_tree (schema_with f) (source_of f).tree ≡ true
-  pub target_stands : has_table (schema_with f) (target_of f) ≡ true
+  pub source_exists : has_tree (schema_with f) (source_of f).tree ≡ true
+  pub target_exists : has_table (schema_with f) (target_of f) ≡ true
   pub calls_stand : has_tree (schema_with f) former_kept.tree ≡ true
   pub apart : (source_of f).tree ≢ tree_of (target_of f)
   pub calls_apart : former_kept.tree ≢ tree_of (target_of f)
@@ -159,9 +159,9 @@ pub record OfFill (f : Fill) : Type 0 where
 pub of_fill : (f : Fill) → OfFill f
 unfolding understood everything
 of_fill f = elim f as OfFill [
-  | Calls ↦ record { next = refl; plain_next = (refl, refl); unlisted = refl; fills = refl; plain_text = (refl, refl); listed = refl; own = λ trees. refl; unstamped = λ n. refl; shows = λ params r. refl; is_schema = (omega arith, omega arith); source_stands = refl; target_stands = refl; calls_stand = refl; apart = λ same. absurd (omega (arith, same)); calls_apart = λ same. absurd (omega (arith, same)); from_key = λ n. refl; row_key = λ n c. refl; row_table = λ n c. refl; rows_are = λ calls contents trees rows kept n. (kept refl).kept n }
-  | Classes ↦ record { next = refl; plain_next = (refl, refl); unlisted = refl; fills = refl; plain_text = (refl, refl); listed = refl; own = λ trees. refl; unstamped = λ n. refl; shows = λ params r. refl; is_schema = (omega arith, omega arith); source_stands = refl; target_stands = refl; calls_stand = refl; apart = λ same. absurd (omega (arith, same)); calls_apart = λ same. absurd (omega (arith, same)); from_key = λ n. refl; row_key = λ n c. refl; row_table = λ n c. refl; rows_are = λ calls contents trees rows kept n. rows (version_key n) refl }
-  | Marks ↦ record { next = refl; plain_next = (refl, refl); unlisted = refl; fills = refl; plain_text = (refl, refl); listed = refl; own = λ trees. refl; unstamped = λ n. refl; shows = λ params r. refl; is_schema = (omega arith, omega arith); source_stands = refl; target_stands = refl; calls_stand = refl; apart = λ same. absurd (omega (arith, same)); calls_apart = λ same. absurd (omega (arith, same)); from_key = λ n. refl; row_key = λ n c. refl; row_table = λ n c. refl; rows_are = λ calls contents trees rows kept n. rows (unit_key n) refl }
+  | Calls ↦ record { next = refl; plain_next = (refl, refl); unlisted = refl; fills = refl; plain_text = (refl, refl); listed = refl; own = λ trees. refl; unstamped = λ n. refl; shows = λ params r. refl; is_schema = (omega arith, omega arith); source_exists = refl; target_exists = refl; calls_stand = refl; apart = λ same. absurd (omega (arith, same)); calls_apart = λ same. absurd (omega (arith, same)); from_key = λ n. refl; row_key = λ n c. refl; row_table = λ n c. refl; rows_are = λ calls contents trees rows kept n. (kept refl).kept n }
+  | Classes ↦ record { next = refl; plain_next = (refl, refl); unlisted = refl; fills = refl; plain_text = (refl, refl); listed = refl; own = λ trees. refl; unstamped = λ n. refl; shows = λ params r. refl; is_schema = (omega arith, omega arith); source_exists = refl; target_exists = refl; calls_stand = refl; apart = λ same. absurd (omega (arith, same)); calls_apart = λ same. absurd (omega (arith, same)); from_key = λ n. refl; row_key = λ n c. refl; row_table = λ n c. refl; rows_are = λ calls contents trees rows kept n. rows (version_key n) refl }
+  | Marks ↦ record { next = refl; plain_next = (refl, refl); unlisted = refl; fills = refl; plain_text = (refl, refl); listed = refl; own = λ trees. refl; unstamped = λ n. refl; shows = λ params r. refl; is_schema = (omega arith, omega arith); source_exists = refl; target_exists = refl; calls_stand = refl; apart = λ same. absurd (omega (arith, same)); calls_apart = λ same. absurd (omega (arith, same)); from_key = λ n. refl; row_key = λ n c. refl; row_table = λ n c. refl; rows_are = λ calls contents trees rows kept n. rows (unit_key n) refl }
 ]
 
 -- a key is filled from one number

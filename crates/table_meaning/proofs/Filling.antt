@@ -202,7 +202,7 @@ module _ (f : Fill) (n : ℕ) (old new : State) (count : ℕ) (h : Executes (fil
   still_kept : AllByRecursion (λ s. s.tree ≢ tree_of t → new.now.trees s.tree ≡ trees s.tree) (schema_at m).tables → Keeps l new.now.trees rows
   still_kept others =
       let it = of_fill f in
-      keeps_rows l trees new.now.trees rows (at_tree m (λ tree. tree ≢ tree_of t → new.now.trees tree ≡ trees tree) others l.tree it.source_stands it.apart) filled.kept
+      keeps_rows l trees new.now.trees rows (at_tree m (λ tree. tree ≢ tree_of t → new.now.trees tree ≡ trees tree) others l.tree it.source_exists it.apart) filled.kept
 
   -- and so do all rows, except those of the filled table
   others_stay : AllByRecursion (λ s. s.tree ≢ tree_of t → new.now.trees s.tree ≡ trees s.tree) (schema_at m).tables → OthersStay f start.trees new.now.trees
@@ -235,7 +235,7 @@ module _ (f : Fill) (n : ℕ) (old new : State) (count : ℕ) (h : Executes (fil
         let here : has_key key x ≡ true = agree_back plain (slots_of key) (key_places u) (key_columns key) x
         (sym (agree_from plain (key_places u) (slots_of key) (key_places u) raw (key_columns key) x (row_key_shown row raw shows)) ∙ agree_back plain (key_places u) (key_places u) x raw same) in
         let low : nat_lt n n ≡ false = grind arith in
-        let stands : has_table m u ≡ true = ap (has_table m) ((of_fill f).row_table n c) ∙ (of_fill f).target_stands in
+        let stands : has_table m u ≡ true = ap (has_table m) ((of_fill f).row_table n c) ∙ (of_fill f).target_exists in
         let empty : with_filled f contents (below n rows) key ≡ None =
         ap (with_filled f contents (below n rows)) ((of_fill f).row_key n c) ∙ ap (λ o. unwrap_or (option_map (λ k. option_map (filled_row f k) (below n rows k)) o) (contents (filled_key f n))) ((of_fill f).from_key n)
         ∙ ap (λ b. option_map (filled_row f n) (cond b (rows n) None)) low in
@@ -251,7 +251,7 @@ module _ (f : Fill) (n : ℕ) (old new : State) (count : ℕ) (h : Executes (fil
         let at = (of_fill f).row_table n c in
         let applies = subst (λ rs. Applies (schema_at m) Enforced trees (edit_of trees (table_by t) [] Chosen 0 rs) new.now.trees) one ran.4 in
         let applied = subst (λ v. Applies (schema_at m) Enforced trees (edit_of trees (table_by v) [] Chosen 0 (source_by (key_by v) (columns_of row) ∷ [])) new.now.trees) (sym at) applies in
-        let stands : has_table m u ≡ true = ap (has_table m) at ∙ (of_fill f).target_stands in
+        let stands : has_table m u ≡ true = ap (has_table m) at ∙ (of_fill f).target_exists in
         let shaped = at_tree m (λ tree. IsShaped TableTree (trees tree)) filled.holds.known.ordered (tree_of u) stands in
         let puts = one_inserted m u (columns_of row) (facts u (columns_of row) (typed row)) trees shaped new.now.trees applied is_free in
         record {

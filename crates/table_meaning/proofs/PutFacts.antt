@@ -22,7 +22,7 @@ use Rattle.table_meaning.specs.Layouts.{Key, numbered, by_first, layout_of, plac
 use Rattle.table_meaning.specs.Schema.{newest, table_by}
 use Rattle.table_meaning.specs.Formats.{kinds_of}
 use Rattle.table_meaning.proofs.ByComputing.{BeginsBy, computed}
-use Rattle.table_meaning.proofs.Columns.{key_by, count_of, key_shown, written_out, behind_by, IsNumberedBy, with_number, source_by}
+use Rattle.table_meaning.proofs.Columns.{key_by, count_of, key_shown, written_out, columns_after_number, IsNumberedBy, with_number, source_by}
 use Rattle.table_meaning.proofs.FormatLemmas.{whole_row}
 use Rattle.table_meaning.proofs.PutRows.{agree_from}
 use Rattle.table_meaning.proofs.Putting.{PutsAt, Facts}
@@ -31,11 +31,11 @@ use Rattle.table_meaning.proofs.Typed.{have_types, long, first_number, cast_null
 -- ---- by the two cases of a key
 
 -- the row that is put has the row's number, or gets one
-begins_by : (key : Key) (kinds : List Kind) (table : Table) (c : Row) → BeginsBy key kinds → have_types kinds c ≡ true → ((id : ℤ) → cast_row table (Int id ∷ behind_by key c) ≡ Int id ∷ behind_by key c)
-    → (xs : List Row) → (id : ℤ) × IsNumberedBy key c id × (with_rowid Chosen xs (cast_row table (source_by key c)) ≡ Int id ∷ behind_by key c)
+begins_by : (key : Key) (kinds : List Kind) (table : Table) (c : Row) → BeginsBy key kinds → have_types kinds c ≡ true → ((id : ℤ) → cast_row table (Int id ∷ columns_after_number key c) ≡ Int id ∷ columns_after_number key c)
+    → (xs : List Row) → (id : ℤ) × IsNumberedBy key c id × (with_rowid Chosen xs (cast_row table (source_by key c)) ≡ Int id ∷ columns_after_number key c)
 begins_by numbered kinds table c starts typed fixed xs =
     let first = first_number starts.0 c (subst (λ ks. have_types ks c ≡ true) starts.1 typed) in
-    (first.0, first.1, ap (with_rowid Chosen xs) (ap (λ v. cast_row table (v ∷ behind_by numbered c)) first.1 ∙ fixed first.0))
+    (first.0, first.1, ap (with_rowid Chosen xs) (ap (λ v. cast_row table (v ∷ columns_after_number numbered c)) first.1 ∙ fixed first.0))
 begins_by (by_first n) kinds table c starts typed fixed xs = (next_rowid xs, tt, ap (with_rowid Chosen xs) (ap₂ ◌∷◌ (cast_null number) (ap (drop 1) (fixed (pos 0)))))
 
 -- columns with the number that they already have are unchanged
@@ -45,10 +45,10 @@ with_its_number numbered (v ∷ c) id is = ap (λ u. u ∷ c) (sym is)
 with_its_number (by_first n) c id is = refl
 
 -- a row that has the key of the columns has it under its own number
-keys_by : (key : Key) (count : ℕ) (c r : Row) (id other : ℤ) → ((i : ℤ) → map (column (Int i ∷ behind_by key c)) (take (key_width key) (places_by key count)) ≡ take (key_width key) (with_number key i c))
-    → rowid r ≡ Int id → IsNumberedBy key c other → agree plain (take (key_width key) (places_by key count)) r (take (key_width key) (places_by key count)) (Int other ∷ behind_by key c) ≡ true
+keys_by : (key : Key) (count : ℕ) (c r : Row) (id other : ℤ) → ((i : ℤ) → map (column (Int i ∷ columns_after_number key c)) (take (key_width key) (places_by key count)) ≡ take (key_width key) (with_number key i c))
+    → rowid r ≡ Int id → IsNumberedBy key c other → agree plain (take (key_width key) (places_by key count)) r (take (key_width key) (places_by key count)) (Int other ∷ columns_after_number key c) ≡ true
     → IsNumberedBy key c id
-    × (agree plain (take (key_width key) (places_by key count)) (Int id ∷ behind_by key c) (take (key_width key) (places_by key count)) (Int other ∷ behind_by key c) ≡ true)
+    × (agree plain (take (key_width key) (places_by key count)) (Int id ∷ columns_after_number key c) (take (key_width key) (places_by key count)) (Int other ∷ columns_after_number key c) ≡ true)
 unfolding first_key
 keys_by numbered count c r id other shows is named h =
     let same : (equal Binary (Int id) (Int other) && true) ≡ true = subst (λ v. (equal Binary v (Int other) && true) ≡ true) is h in
@@ -82,7 +82,7 @@ module _ (n : ℕ) (t : TableName) (at : PutsAt n t) (c : Row) where
         meets = at.meets c;
         slot_is = it.slot_is c;
         columns_are = it.columns_are c;
-        keys = λ r id other. keys_by (key_by t) (count_of t) (written_out t c) r id other (λ i. key_shown t (Int i ∷ behind_by (key_by t) (written_out t c)) _ (it.shows c i));
+        keys = λ r id other. keys_by (key_by t) (count_of t) (written_out t c) r id other (λ i. key_shown t (Int i ∷ columns_after_number (key_by t) (written_out t c)) _ (it.shows c i));
         shows = λ id is. it.shows c id ∙ with_its_number (key_by t) (written_out t c) id is;
       }
 

@@ -35,7 +35,7 @@ use Rattle.table_meaning.specs.Rows.{tree_of, key_places, shown}
 use Rattle.table_meaning.specs.Holding.{AreApart}
 use Rattle.table_meaning.specs.Schemas.{IsSchema}
 use Rattle.table_meaning.specs.Upserts.{update_at, put_command}
-use Rattle.table_meaning.proofs.Columns.{key_by, count_of, written_out, behind_by, IsNumberedBy, source_by, put_terms, set_terms}
+use Rattle.table_meaning.proofs.Columns.{key_by, count_of, written_out, columns_after_number, IsNumberedBy, source_by, put_terms, set_terms}
 use Rattle.table_meaning.proofs.PutRows.{Puts, added, replaced}
 use Rattle.table_meaning.proofs.Statements.{no_acts, Settles, settles, row_found}
 
@@ -43,7 +43,7 @@ use Rattle.table_meaning.proofs.Statements.{no_acts, Settles, settles, row_found
 module _ (t : TableName) (c : Row) where
   -- what a row of the tree has after its number
   abbrev pub behind : Row
-  behind = behind_by (key_by t) c
+  behind = columns_after_number (key_by t) c
 
   abbrev pub IsNumbered : ℤ → Type 0
   IsNumbered = IsNumberedBy (key_by t) c
@@ -53,8 +53,8 @@ pub record PutsAt (n : ℕ) (t : TableName) : Type 0 where
   pub is : command_of (understood (schema_at n) (put_text t)) ≡ put_command (place_of t) (put_terms (key_by t) (count_of t)) (count_of t + 1) (update_at (key_places t) (tree_of t) (count_of t) (set_terms (key_by t) (count_of t)))
   pub plain_text : IsPlain (understood (schema_at n) (put_text t))
   pub listed : slice_get (schema_at n).tables (place_of t) ≡ Some (table_by t)
-  pub meets : (c : Row) (id : ℤ) (x : Row) → conflicts (Some (key_places t)) (schema_at n).indexes (table_by t) (Int id ∷ behind_by (key_by t) (written_out t c)) x
-      ≡ agree plain (key_places t) x (key_places t) (Int id ∷ behind_by (key_by t) (written_out t c))
+  pub meets : (c : Row) (id : ℤ) (x : Row) → conflicts (Some (key_places t)) (schema_at n).indexes (table_by t) (Int id ∷ columns_after_number (key_by t) (written_out t c)) x
+      ≡ agree plain (key_places t) x (key_places t) (Int id ∷ columns_after_number (key_by t) (written_out t c))
 
 module _ (n : ℕ) (t : TableName) (c : Row) where
   -- The tree has the columns under some number, and lost only the row that had the key. The other trees are as before.

@@ -12,7 +12,7 @@ use Rattle.sqlite.specs.Values.{bound_value}
 use Rattle.table_meaning.specs.Kinds.{Kind, number, integer, words, flag, octets, optional, either}
 use Rattle.table_meaning.specs.Layouts.{Column, Key, numbered, by_first, Layout, kinds}
 use Rattle.table_meaning.specs.Schema.{type_of, sql_column, sql_columns, sql_table}
-use Rattle.table_meaning.proofs.Columns.{behind_by}
+use Rattle.table_meaning.proofs.Columns.{columns_after_number}
 
 -- the value has the type of the kind, in any range
 abbrev pub has_type : Kind → Value → Bool
@@ -77,10 +77,10 @@ cast_columns key at (c ∷ columns) [] h = refl
 cast_columns key at (c ∷ columns) (v ∷ row) h = let parts = and_parts _ _ h in ap₂ ◌∷◌ (cast_typed c.kind v parts.0) (cast_columns key (at + 1) columns row parts.1)
 
 -- so a table leaves a row of the tree as it is
-pub cast_behind : (l : Layout) (row : Row) → have_types (kinds l) row ≡ true → (id : ℤ) → cast_row (sql_table l) (Int id ∷ behind_by l.key row) ≡ Int id ∷ behind_by l.key row
+pub cast_behind : (l : Layout) (row : Row) → have_types (kinds l) row ≡ true → (id : ℤ) → cast_row (sql_table l) (Int id ∷ columns_after_number l.key row) ≡ Int id ∷ columns_after_number l.key row
 cast_behind l row h id = ap₂ ◌∷◌ (cast_int id) (by l.key l.columns row h)
   where
-    by : (key : Key) (columns : List Column) (row : Row) → have_types (map (λ c. c.kind) columns) row ≡ true → cast_all (sql_columns key columns) (behind_by key row) ≡ behind_by key row
+    by : (key : Key) (columns : List Column) (row : Row) → have_types (map (λ c. c.kind) columns) row ≡ true → cast_all (sql_columns key columns) (columns_after_number key row) ≡ columns_after_number key row
     by numbered [] row h = refl
     by numbered (c ∷ columns) [] h = absurd (true≢false (sym h))
     by numbered (c ∷ columns) (v ∷ row) h = ap₂ ◌∷◌ (cast_null c.kind) (cast_columns numbered 1 columns row (and_parts _ _ h).1)

@@ -37,7 +37,7 @@ use Rattle.table_meaning.specs.Rows.{tree_of, key_places}
 use Rattle.table_meaning.specs.ByKey.{key_tests}
 use Rattle.table_meaning.specs.Holding.{AreApart}
 use Rattle.table_meaning.specs.Upserts.{keyed_query, update_command}
-use Rattle.table_meaning.proofs.Columns.{key_by, count_of, written_out, behind_by, given_terms, key_shown}
+use Rattle.table_meaning.proofs.Columns.{key_by, count_of, written_out, columns_after_number, given_terms, key_shown}
 use Rattle.table_meaning.proofs.EachTable.{of_each}
 use Rattle.table_meaning.proofs.PutRows.{agree_from, only_passing}
 use Rattle.table_meaning.proofs.Putting.{behind, IsNumbered, PutsColumns, Facts, over_one}
@@ -126,7 +126,7 @@ module _ (t : TableName) (c : Row) (f : Facts newest t c) (it : ChangesRow t) (w
       let row = Int first.0 ∷ behind t c in
       let single = λ (x : Row) (has : Has rows x) (too : passes x ≡ true). alone x r has there (agree_chain plain places places places x row r (agreeing x too) (agree_back plain places places r row (agreeing r h))) in
       let one = only_passing places rows r (id_in (rowid r)) shaped there (int_is (rowid r) (all_has _ rows r shaped.1 there)) passes h single in
-      let columns_are : eval_all columns (c ∷ r ∷ []) ≡ behind t c = subst (λ w. eval_all columns (w ∷ r ∷ []) ≡ behind_by (key_by t) w) whole (it.columns_are c r) in
+      let columns_are : eval_all columns (c ∷ r ∷ []) ≡ behind t c = subst (λ w. eval_all columns (w ∷ r ∷ []) ≡ columns_after_number (key_by t) w) whole (it.columns_are c r) in
       let line = one_shown db (tree_of t) (key_tests 0 places) columns c (f.own db) asked answer r one ∙ ap (λ m. (rowid r ∷ rowid r ∷ m) ∷ []) columns_are in
       let some : count ≡ 1 = counted ∙ ap (λ all. length (change_of db (table_by t) all).news) line in
       inr (omega (arith, some), over_one newest t c f db shaped alone next first.0 first.1 r there (agreeing r h) asked line applies)

@@ -23,7 +23,7 @@ use Rattle.table_meaning.specs.Schemas.{IsSchema, IsEarlier, has_table}
 use Rattle.table_meaning.specs.Holding.{Contents, Hold, with_row}
 use Rattle.table_meaning.specs.Worlds.{BatchText, SlotCalls, version_row, unit_row, call_row, class_row, mark_row, is_marked, contents_of, HoldWorld}
 use Rattle.table_meaning.specs.Fills.{platform_class, no_mark}
-use Rattle.table_meaning.specs.Upgrades.{schema_row_of, next_contents, MakesNext, Goes, Upgrades, IsLeftBehind, StaysOrGoes, HoldWorldAt, FitsSchema, CarriesWorld, UpgradesWorld, IsLeftBehindWorld, StaysOrGoesWorld}
+use Rattle.table_meaning.specs.Upgrades.{schema_row_of, next_contents, MakesNext, Goes, Upgrades, IsLeftBehind, StaysOrUpgrades, HoldWorldAt, FitsSchema, CarriesWorld, UpgradesWorld, IsLeftBehindWorld, StaysOrGoesWorld}
 use Rattle.table_meaning.proofs.Keys.{one_key}
 use Rattle.table_meaning.proofs.SchemaTables.{hold_at_same, hold_newest}
 
@@ -124,6 +124,6 @@ upgrades_world old new upgrades n is w calls batches fits holds =
 pub left_world : (old new : Database) → IsLeftBehind old new → IsLeftBehindWorld old new
 left_world old new (n, is, schema, (k, within, goes)) = (n, n + suc k, is, omega arith, within, schema, goes_world n (suc k) is within old new goes)
 
-pub refused_world : (old new : State) → StaysOrGoes old new → StaysOrGoesWorld old new
+pub refused_world : (old new : State) → StaysOrUpgrades old new → StaysOrGoesWorld old new
 refused_world old new (inl stays) = inl stays
 refused_world old new (inr left) = inr (left_world old.now new.committed left.0, left.1)

@@ -19,7 +19,7 @@ use Rattle.table_meaning.specs.Rows.{tree_of, whole, columns_of, RowKey, table_a
 use Rattle.table_meaning.specs.Holding.{Contents}
 use Rattle.table_meaning.specs.Schemas.{IsSchema, IsEarlier, has_tree, only_at, HoldAt}
 use Rattle.table_meaning.specs.Making.{IsLeft, rows_at}
-use Rattle.table_meaning.specs.Fills.{fills_of, source_of, target_of, schema_with, filled_row, filled_from, numbered_row, Keeps, with_filled, FillsEach, HostCalls, KeepCalls, brought, with_brought}
+use Rattle.table_meaning.specs.Fills.{fills_of, source_of, target_of, schema_with, filled_row, filled_from, numbered_row, Keeps, with_filled, FillsEach, HostCalls, KeepCalls, brought, with_inserted}
 use Rattle.table_meaning.specs.Upgrades.{schema_row_of, PutsSchema, MakesNext, Goes, Upgrades}
 use Rattle.table_meaning.proofs.EachSchema.{LeadsTo, AreDistinct, taken_from, HaveNumbers, of_schema, of_step, of_fill, are_fit, is_brought}
 use Rattle.table_meaning.proofs.Filling.{begun, key_target, calls_stay}
@@ -56,7 +56,7 @@ module _ (calls : HostCalls) (contents : Contents) where
   -- the source has its rows, each with its number
   are_kept : (f : Fill) (db : Database) → HoldAt (schema_with f) db contents → (schema_with f ≡ 2 → KeepCalls db.trees calls) → Keeps (source_of f) db.trees (taken_from calls contents f)
   are_kept f db holds kept = record {
-    ordered = at_tree (schema_with f) (λ tree. IsShaped TableTree (db.trees tree)) holds.known.ordered (source_of f).tree (of_fill f).source_stands;
+    ordered = at_tree (schema_with f) (λ tree. IsShaped TableTree (db.trees tree)) holds.known.ordered (source_of f).tree (of_fill f).source_exists;
     kept = (of_fill f).rows_are calls contents db.trees holds.rows kept;
   }
 
@@ -65,7 +65,7 @@ module _ (calls : HostCalls) (contents : Contents) where
 
   -- The filled rows are what the fill inserts, and no other row is filled.
   all_brought : (f : Fill) → HaveNumbers calls contents f → ((key : RowKey) → (tree_of (table_at key) == tree_of (target_of f)) ≡ true → contents key ≡ None) → (key : RowKey)
-      → with_filled f contents (taken_from calls contents f) key ≡ with_brought calls contents f key
+      → with_filled f contents (taken_from calls contents f) key ≡ with_inserted calls contents f key
   all_brought f numbers none key = elim (cases_Bool (tree_of (table_at key) == tree_of (target_of f))) [
     | inl here ↦ is_brought calls contents f numbers key here (none key here) ∙ sym (ap (λ b. cond b (brought f calls contents key) (contents key)) here)
     | inr other ↦ elsewhere (filled_from f key) refl other ∙ sym (ap (λ b. cond b (brought f calls contents key) (contents key)) other)
@@ -85,17 +85,17 @@ IsEmptyFor contents f = (key : RowKey) → (tree_of (table_at key) == tree_of (t
 module _ (n : ℕ) (calls : HostCalls) where
   -- a fill leaves the tables empty that the other fills fill
   still_empty : (f : Fill) (contents : Contents) (more : List Fill) → AllByRecursion (λ g. (tree_of (target_of g) == tree_of (target_of f)) ≡ false) more → AllByRecursion (IsEmptyFor contents) more
-      → AllByRecursion (IsEmptyFor (with_brought calls contents f)) more
+      → AllByRecursion (IsEmptyFor (with_inserted calls contents f)) more
   still_empty f contents [] apart empty = tt
   still_empty f contents (g ∷ more) apart empty = (here, still_empty f contents more apart.1 empty.1)
     where
-      here : IsEmptyFor (with_brought calls contents f) g
+      here : IsEmptyFor (with_inserted calls contents f) g
       here key at =
           let other : (tree_of (table_at key) == tree_of (target_of f)) ≡ false = ap (λ tree. tree == tree_of (target_of f)) (eqb-true _ _ at) ∙ apart.0 in
           ap (λ b. cond b (brought f calls contents key) (contents key)) other ∙ empty.0 key at
 
   each_filled : (fs : List Fill) → AllByRecursion (LeadsTo n) fs → AreDistinct fs → (old new : Database) (contents : Contents) → HoldAt (n + 1) old contents → AllByRecursion (IsEmptyFor contents) fs
-      → (n ≡ 1 → KeepCalls old.trees calls) → FillsEach fs old new → HoldAt (n + 1) new (fold (with_brought calls) contents fs)
+      → (n ≡ 1 → KeepCalls old.trees calls) → FillsEach fs old new → HoldAt (n + 1) new (fold (with_inserted calls) contents fs)
   each_filled [] lead apart old new contents holds empty kept fills = subst (λ db. HoldAt (n + 1) db contents) (sym fills) holds
   each_filled (f ∷ more) lead apart old new contents holds empty kept fills =
       let at : schema_with f ≡ n + 1 = lead.0.0 in
@@ -106,7 +106,7 @@ module _ (n : ℕ) (calls : HostCalls) where
       let numbers = have_numbers calls contents f old.trees source in
       let all = fills.1 old contents rows (are_fit calls contents f numbers) (begun f old contents rows here none source) in
       let then = hold_at_same (n + 1) fills.0 _ _ (λ key _. all_brought calls contents f numbers empty.0 key) (subst (λ m. HoldAt m fills.0 (with_filled f contents rows)) at all.holds) in
-      each_filled more lead.1 apart.1 fills.0 new (with_brought calls contents f) then (still_empty f contents more apart.0 empty.1) (λ one. calls_stay f old.trees fills.0.trees all.others calls (kept one)) fills.2
+      each_filled more lead.1 apart.1 fills.0 new (with_inserted calls contents f) then (still_empty f contents more apart.0 empty.1) (λ one. calls_stay f old.trees fills.0.trees all.others calls (kept one)) fills.2
 
 -- ---- a step
 

@@ -156,8 +156,8 @@ brought Marks calls contents (mark_key id) = option_map (λ _. no_mark id) (cont
 brought _ _ _ _ = None
 
 -- these contents, except that the filled table has what the fill inserts
-abbrev pub with_brought : HostCalls → Contents → Fill → Contents
-with_brought calls contents f key = if tree_of (table_at key) == tree_of (target_of f) then brought f calls contents key else contents key
+abbrev pub with_inserted : HostCalls → Contents → Fill → Contents
+with_inserted calls contents f key = if tree_of (table_at key) == tree_of (target_of f) then brought f calls contents key else contents key
 
 -- ---- in the middle of a fill
 

@@ -213,6 +213,6 @@ abbrev pub of_key : {X : Type 0} → Layout → List X → List X
 of_key l = take (key_width l.key)
 
 -- the items for the columns after the row's number, of a list with one item for each column
-abbrev pub behind_number : {X : Type 0} → Key → List X → List X
-behind_number numbered all = drop 1 all
-behind_number (by_first n) all = all
+abbrev pub after_number : {X : Type 0} → Key → List X → List X
+after_number numbered all = drop 1 all
+after_number (by_first n) all = all

@@ -52,14 +52,14 @@ abbrev pub schema_text : List ℕ
 schema_text = codes "SELECT value FROM setting WHERE name = ?1 ORDER BY rowid"
 
 -- the value of the setting `schema`
-abbrev pub schema_said : Trees → Option Value
-schema_said trees = option_map (λ row. column row 1) (look_up trees (setting_key (codes "schema")))
+abbrev pub schema_setting : Trees → Option Value
+schema_setting trees = option_map (λ row. column row 1) (look_up trees (setting_key (codes "schema")))
 
 -- The tables are those of an earlier schema, and say so.
 pub record AreEarlier (n : ℕ) (db : Database) : Type 0 where
   pub earlier : IsEarlier n
   pub known : AreKnownAt n db
-  pub said : schema_said db.trees ≡ Some (whole n)
+  pub said : schema_setting db.trees ≡ Some (whole n)
 
 -- ---- from one schema to another
 

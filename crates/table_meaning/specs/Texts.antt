@@ -7,7 +7,7 @@ use Rattle.sqlite_schema.specs.declared.schema.Table.{Table}
 use Rattle.sqlite_schema.specs.declared.schema.Index.{Index}
 use Rattle.table_meaning.specs.declared.tables.TableName.{TableName}
 use Rattle.table_meaning.specs.declared.tables.TableName.TheVariants.{Unit, Host, Instance}
-use Rattle.table_meaning.specs.Layouts.{Column, Layout, layout_of, names, key_width, of_key, behind_number}
+use Rattle.table_meaning.specs.Layouts.{Column, Layout, layout_of, names, key_width, of_key, after_number}
 use Rattle.table_meaning.specs.Schema.{type_of, is_by_number, is_needed, sql_table, table_by, Indexing, index_by, Part, a_table, a_former, an_index, parts_at, newest}
 
 -- ---- lists of words
@@ -134,19 +134,19 @@ abbrev pub put_text : TableName → List ℕ
 put_text t =
     let l = layout_of t in
     codes "INSERT INTO " ++ l.name ++ codes " " ++ in_parentheses (names l) ++ codes " VALUES " ++ in_parentheses (map parameter (range_with_len 1 (length l.columns)))
-    ++ codes " ON CONFLICT " ++ in_parentheses (key_names l) ++ codes " DO UPDATE SET " ++ listed (map set_text (behind_number l.key (names l)))
+    ++ codes " ON CONFLICT " ++ in_parentheses (key_names l) ++ codes " DO UPDATE SET " ++ listed (map set_text (after_number l.key (names l)))
 
 -- changes the row that has the key: all its columns are replaced
 abbrev pub update_text : TableName → List ℕ
-update_text t = let l = layout_of t in codes "UPDATE " ++ l.name ++ codes " SET " ++ listed (map is_parameter (behind_number l.key (enumerate_from 1 (names l)))) ++ key_test l
+update_text t = let l = layout_of t in codes "UPDATE " ++ l.name ++ codes " SET " ++ listed (map is_parameter (after_number l.key (enumerate_from 1 (names l)))) ++ key_test l
 
 -- the tables whose rows mostly exist before they are put
-abbrev pub mostly_stand : TableName → Bool
-mostly_stand Unit = true
-mostly_stand Host = true
-mostly_stand Instance = true
-mostly_stand _ = false
+abbrev pub mostly_exist : TableName → Bool
+mostly_exist Unit = true
+mostly_exist Host = true
+mostly_exist Instance = true
+mostly_exist _ = false
 
 -- the text that is tried before a row of such a table is put
 abbrev pub update_first : TableName → Option (List ℕ)
-update_first t = if mostly_stand t then Some (update_text t) else None
+update_first t = if mostly_exist t then Some (update_text t) else None

@@ -12,7 +12,7 @@ use Rattle.table_meaning.specs.Schema.{newest, schema_at}
 use Rattle.table_meaning.specs.Holding.{Contents, with_row}
 use Rattle.table_meaning.specs.Worlds.{BatchText, SlotCalls, contents_of, HoldWorld}
 use Rattle.table_meaning.specs.Schemas.{IsSchema, HoldAt, only_at}
-use Rattle.table_meaning.specs.Fills.{fills_of, HostCalls, KeepCalls, with_brought}
+use Rattle.table_meaning.specs.Fills.{fills_of, HostCalls, KeepCalls, with_inserted}
 
 -- the row that names the schema of the tables
 abbrev pub schema_row_of : ℕ → StoredRow
@@ -33,7 +33,7 @@ pub record HoldAllAt (n : ℕ) (db : Database) (contents : Contents) (calls : Ho
 
 -- What tables of the next schema hold, from what those of a schema hold. A table that the next one adds and that no fill fills is empty.
 abbrev pub next_contents : ℕ → HostCalls → Contents → Contents
-next_contents n calls contents = with_row (fold (with_brought calls) (only_at n contents) (fills_of n)) (schema_row_of (n + 1))
+next_contents n calls contents = with_row (fold (with_inserted calls) (only_at n contents) (fills_of n)) (schema_row_of (n + 1))
 
 -- one step, from tables of the schema of a number to those of the next
 abbrev pub MakesNext : ℕ → Database → Database → Type 0
@@ -56,11 +56,11 @@ abbrev pub IsLeftBehind : Database → Database → Type 0
 IsLeftBehind old new = (n : ℕ) × IsSchema n × (old.schema ≡ schema_at n) × IsLeftFrom n old new
 
 -- What a refusal leaves: everything is as it was, or the tables have a later schema, and that is committed.
-abbrev pub StopsWithin : ℕ → State → State → Type 0
-StopsWithin n old new = ((new.now ≡ old.now) × (new.committed ≡ old.committed)) ⊎ (IsLeftFrom n old.now new.committed × (new.now ≡ new.committed))
+abbrev pub StopsBetween : ℕ → State → State → Type 0
+StopsBetween n old new = ((new.now ≡ old.now) × (new.committed ≡ old.committed)) ⊎ (IsLeftFrom n old.now new.committed × (new.now ≡ new.committed))
 
-abbrev pub StaysOrGoes : State → State → Type 0
-StaysOrGoes old new = ((new.now ≡ old.now) × (new.committed ≡ old.committed)) ⊎ (IsLeftBehind old.now new.committed × (new.now ≡ new.committed))
+abbrev pub StaysOrUpgrades : State → State → Type 0
+StaysOrUpgrades old new = ((new.now ≡ old.now) × (new.committed ≡ old.committed)) ⊎ (IsLeftBehind old.now new.committed × (new.now ≡ new.committed))
 
 -- ---- the same for worlds
 

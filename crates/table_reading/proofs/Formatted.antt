@@ -48,7 +48,7 @@ use Rattle.table_worlds.proofs.ByPlace.{all_nth, all_got}
 use Rattle.table_worlds.proofs.RowsHold.{setting_listed}
 use Rattle.table_reading.proofs.HeldRows.{HaveFormats, HaveTexts}
 use Rattle.stores.specs.Standing.{last_seqno, most_import_bytes}
-use Rattle.table_reading.specs.Reading.{MayStandBeside, is_call_of, is_import}
+use Rattle.table_reading.specs.Reading.{MayBeKeptWith, is_call_of, is_import}
 
 -- ---- values
 
@@ -246,7 +246,7 @@ import_format kind text b fits texts =
     let named = and_parts (is_word text) (nat_le (length b.0) most_import_bytes) parts.1 in
     (refl, ((kind, refl, texts.0), (of_word text named.0, ((b.0, refl), ((b.1, refl, texts.1.1.1.0), tt)))))
 
-pub have_formats : (w : World) (calls : SlotCalls) (batches : List ℕ → List ℕ → Option BatchText) → Sound w → MayStandBeside w calls batches → HaveTexts (contents_of w calls batches) → HaveFormats (contents_of w calls batches)
+pub have_formats : (w : World) (calls : SlotCalls) (batches : List ℕ → List ℕ → Option BatchText) → Sound w → MayBeKeptWith w calls batches → HaveTexts (contents_of w calls batches) → HaveFormats (contents_of w calls batches)
 have_formats w calls batches sound beside texts (setting_key text) = go (contents_of w calls batches (setting_key text)) refl
   where
     go : (o : Option StoredRow) → contents_of w calls batches (setting_key text) ≡ o → IfSome o (λ r. IsStored name.Setting (columns_of r))

@@ -25,7 +25,7 @@ use Rattle.table_meaning.proofs.RowsKeyed.{rows_told, rows_stand}
 use Rattle.table_rows.specs.Utf8.{HasUtf8}
 use Rattle.table_worlds.proofs.RowsAre.{rows_of_world}
 use Rattle.table_reading.proofs.KeptRows.{import_row, call_table, import_table, call_shown, import_shown}
-use Rattle.table_reading.specs.Reading.{AllRows, AreAllRead, StandFor, ReadFrom, StandForNone, HasBadTable, HasOtherSchema, MayStandBeside, is_call_of, is_import}
+use Rattle.table_reading.specs.Reading.{AllRows, AreAllRead, Represent, ReadFrom, RepresentNone, HasBadTable, HasOtherSchema, MayBeKeptWith, is_call_of, is_import}
 
 -- a row made of an item, if there is one, passes if that of each item does
 made_passes : {X : Type 0} (P : StoredRow → Type 0) (f : X → StoredRow) (o : Option X) (r : StoredRow) → option_map f o ≡ Some r → IfSome o (λ x. P (f x)) → P r
@@ -34,7 +34,7 @@ made_passes P f (Some x) r is fits = subst P (same_Some (f x) r is) fits
 
 -- ---- calls and imports in rows that represent a world may be kept with it
 
-module _ (db : Database) (w : World) (all : AllRows) (read : AreAllRead db.trees all) (stand : StandFor w all) where
+module _ (db : Database) (w : World) (all : AllRows) (read : AreAllRead db.trees all) (stand : Represent w all) where
   call_fits : (host slot : ℕ) (o : Option Row) → look_up db.trees (kept_key host slot) ≡ o → IfSome (option_map call_of o) (λ k. IsTrue (is_call_of w (stored.Kept (call_row host slot k))))
   call_fits host slot None is = tt
   call_fits host slot (Some row) is =
@@ -52,7 +52,7 @@ module _ (db : Database) (w : World) (all : AllRows) (read : AreAllRead db.trees
       let one = columns_told s.0 (import_row kind text (columns_of s.0)) (import_shown kind text s.0 passes s.3) in
       subst (λ (r : Row). is_import (import_row kind text r) ≡ true) (sym s.2) (sym (ap is_import one) ∙ passes)
 
-  pub read_beside : MayStandBeside w (calls_in db.trees) (batches_in db.trees)
+  pub read_beside : MayBeKeptWith w (calls_in db.trees) (batches_in db.trees)
   read_beside = record {
     calls_fit = λ host slot. call_fits host slot (look_up db.trees (kept_key host slot)) refl;
     imports_fit = λ kind text. import_fits kind text (look_up db.trees (batch_key kind text)) refl;
@@ -82,7 +82,7 @@ formed db contents holds formats bad =
     of_some P None r is fits = absurd (none-some r is)
     of_some P (Some s) r is fits = subst P (same_Some s r is) fits
 
-module _ (db : Database) (w : World) (calls : SlotCalls) (batches : List ℕ → List ℕ → Option BatchText) (holds : HoldWorld db w calls batches) (sound : Sound w) (beside : MayStandBeside w calls batches) where
+module _ (db : Database) (w : World) (calls : SlotCalls) (batches : List ℕ → List ℕ → Option BatchText) (holds : HoldWorld db w calls batches) (sound : Sound w) (beside : MayBeKeptWith w calls batches) where
   abbrev contents : Contents
   contents = contents_of w calls batches
 
@@ -105,7 +105,7 @@ module _ (db : Database) (w : World) (calls : SlotCalls) (batches : List ℕ →
       go _ at r is = cc
 
   -- any rows that are read from them represent the world
-  pub each_stands : (all : AllRows) → AreAllRead db.trees all → StandFor w all
+  pub each_stands : (all : AllRows) → AreAllRead db.trees all → Represent w all
   each_stands all read = record {
     sound = sound;
     rows = rows_of_world db w calls batches holds all.world read.world;
@@ -149,8 +149,8 @@ module _ (db : Database) (w : World) (calls : SlotCalls) (batches : List ℕ →
       } in
       (all, read, each_stands all read)
 
-  pub stands_for_one : ¬ StandForNone db.trees
+  pub stands_for_one : ¬ RepresentNone db.trees
   stands_for_one none = none.2 w (each_stands none.0 none.1)
 
-  pub tells_schema : ¬ HasOtherSchema db.trees
-  tells_schema other = other.2 ((each_stands other.0 other.1).rows.settings.1 _ (inl refl))
+  pub names_schema : ¬ HasOtherSchema db.trees
+  names_schema other = other.2 ((each_stands other.0 other.1).rows.settings.1 _ (inl refl))

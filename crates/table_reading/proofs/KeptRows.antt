@@ -15,7 +15,7 @@ use Rattle.table_meaning.specs.Rows.{kept_key, batch_key, table_at, columns_of, 
 use Rattle.table_meaning.specs.Worlds.{call_row, contents_of, HoldWorld}
 use Rattle.table_meaning.proofs.RowsHeld.{held_row, keyed_by}
 use Rattle.table_worlds.proofs.RowsHold.{world_held, world_keyed}
-use Rattle.table_reading.specs.Reading.{AllRows, AreAllRead, StandFor, is_call_of, is_import}
+use Rattle.table_reading.specs.Reading.{AllRows, AreAllRead, Represent, is_call_of, is_import}
 
 -- ---- a row that passes is of its table
 
@@ -73,7 +73,7 @@ module _ (trees : Trees) (w : World) where
           let passes = test_has is_import batches s.0 fit s.1 in
           subst (λ (r : Row). Some r ≡ Some (columns_of (import_row kind text r))) (sym s.2) (ap Some (import_shown kind text s.0 passes s.3))
 
-pub held_by_rows : (db : Database) (w : World) (all : AllRows) → AreKnown db → AreAllRead db.trees all → StandFor w all → HoldWorld db w (calls_in db.trees) (batches_in db.trees)
+pub held_by_rows : (db : Database) (w : World) (all : AllRows) → AreKnown db → AreAllRead db.trees all → Represent w all → HoldWorld db w (calls_in db.trees) (batches_in db.trees)
 held_by_rows db w all known read stand = record {
   known = known;
   rows = world_held db.trees w all.world read.world stand.rows (calls_in db.trees) (batches_in db.trees) (calls_stand db.trees w all.calls read.calls stand.calls) (imports_stand db.trees w all.batches read.batches stand.batches);

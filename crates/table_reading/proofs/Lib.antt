@@ -8,4 +8,4 @@ pub mod ReadsOn
 pub mod RowsTaken
 pub mod StoredWorlds
 pub mod UnitsTested
-pub mod WorldStands
+pub mod WorldRepresented

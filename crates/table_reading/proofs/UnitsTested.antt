@@ -30,7 +30,7 @@ use Rattle.table_worlds.specs.declared.unit_rows.UnitRows.{UnitRows}
 use Rattle.table_worlds.proofs.ColumnsBack.{one_unit, one_mark, one_instance}
 use Rattle.table_worlds.proofs.ReadBack.{unit_back, job_back}
 use Rattle.table_worlds.proofs.TotalsCounted.{unit_more, no_unit_left, all_counted}
-use Rattle.table_reading.specs.Testing.{AreInstancesFound, AreFound, HasGap, StandsAt, AreTested, has_name}
+use Rattle.table_reading.specs.Testing.{AreInstancesFound, AreFound, HasGap, PassesAt, AreTested, has_name}
 use Rattle.texts.specs.declared.seen_set.SeenSet.{SeenSet}
 use Rattle.sqlite.proofs.StateLemmas.{is_cached as stands_within}
 
@@ -79,7 +79,7 @@ module _ (trees : Trees) (id n : ℕ) where
       let mark = one_mark rows.mark others.mark (one_row _ _ _ found.mark_at also.mark_at) in
       λ i. record { unit = unit i; mark = mark i; instances = instances i }
 
-  module _ (w : World) (b : UnitBook) (stands : StandsAt trees w id n b) where
+  module _ (w : World) (b : UnitBook) (stands : PassesAt trees w id n b) where
     -- so each of its keys has a row
     pub has_no_gap : HasGap trees id n → ⊥
     has_no_gap (inl (inl none)) = none-some _ (sym none ∙ stands.found.unit_at)
@@ -105,7 +105,7 @@ book_back w id b sound rows are =
     let instances = ap (λ (r : UnitRows). map (λ (i : StoredInstance). job_in (columns_of (stored.Instance i))) r.instances) are ∙ jobs_back w b id 1 b.instances in
     λ i. record { unit = unit i; instances = instances i }
 
-pub one_standing : (trees : Trees) (w : World) (id n : ℕ) (b c : UnitBook) → StandsAt trees w id n b → StandsAt trees w id n c → b ≡ c
+pub one_standing : (trees : Trees) (w : World) (id n : ℕ) (b c : UnitBook) → PassesAt trees w id n b → PassesAt trees w id n c → b ≡ c
 one_standing trees w id n b c stands also =
     let rows = rows_of_unit w id b in
     sym (book_back w id b stands.sound rows refl) ∙ book_back w id c also.sound rows (one_found trees id n rows (rows_of_unit w id c) stands.found also.found)
@@ -149,7 +149,7 @@ counted_from w books n before after count none made =
 
 module _ (trees : Trees) (w : World) (counts : List ℕ) where
   -- one more, whose name no workunit before it has
-  pub tested_more : (i n : ℕ) (books : List UnitBook) (b : UnitBook) (names : SeenSet (List ℕ)) → AreTested trees w counts i books → slice_get counts i ≡ Some n → StandsAt trees w (i + 1) n b
+  pub tested_more : (i n : ℕ) (books : List UnitBook) (b : UnitBook) (names : SeenSet (List ℕ)) → AreTested trees w counts i books → slice_get counts i ≡ Some n → PassesAt trees w (i + 1) n b
       → AreNames names books → has_name names b.unit.name ≡ false → AreTested trees w counts (i + 1) (books ++ b ∷ [])
   tested_more i n books b names tested count stands are new = record {
     all = length_push books b ∙ ap (λ m. m + 1) tested.all;
@@ -158,7 +158,7 @@ module _ (trees : Trees) (w : World) (counts : List ℕ) where
       | inr last ↦
           let at : j ≡ i = last.0 ∙ tested.all in
           let same : n ≡ m = ap (λ o. unwrap_or o n) (sym count ∙ ap (slice_get counts) (sym at) ∙ counted) in
-          subst (λ k. StandsAt trees w (k + 1) m c) (sym at) (subst (λ k. StandsAt trees w (i + 1) k c) same (subst (λ (a : UnitBook). StandsAt trees w (i + 1) n a) last.1 stands))
+          subst (λ k. PassesAt trees w (k + 1) m c) (sym at) (subst (λ k. PassesAt trees w (i + 1) k c) same (subst (λ (a : UnitBook). PassesAt trees w (i + 1) n a) last.1 stands))
     ];
     names = all_pairs_push (λ (a c : UnitBook). a.unit.name ≢ c.unit.name) books b tested.names
         (λ k d lt same. true≢false (sym (list_any_at (λ (a : UnitBook). bytes_eq b.unit.name a.unit.name) books k d lt ((bytes_eq-Decides b.unit.name (get_or books k d).unit.name).1 (sym same))) ∙ sym (are b.unit.name) ∙ new));
@@ -166,7 +166,7 @@ module _ (trees : Trees) (w : World) (counts : List ℕ) where
 
   module _ (others : List UnitBook) (stand : AreTested trees w counts (length counts) others) where
     -- the workunit at an index passes
-    pub stands_next : (i n : ℕ) → slice_get counts i ≡ Some n → (b : UnitBook) × (slice_get others i ≡ Some b) × StandsAt trees w (i + 1) n b
+    pub stands_next : (i n : ℕ) → slice_get counts i ≡ Some n → (b : UnitBook) × (slice_get others i ≡ Some b) × PassesAt trees w (i + 1) n b
     stands_next i n count =
         let within = slice_get_within counts i n count in
         let b = stands_within others i (omega (arith, within, stand.all)) in

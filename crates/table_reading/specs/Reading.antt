@@ -21,7 +21,7 @@ use Rattle.table_meaning.specs.Rows.{RowKey, table_of, columns_of, rows_in, look
 use Rattle.table_meaning.specs.Worlds.{BatchText, SlotCalls, call_row}
 use Rattle.table_decoding.specs.Decoding.{schema_row}
 use Rattle.table_rows.specs.Utf8.{HasUtf8}
-use Rattle.table_worlds.specs.RowsOf.{WorldRows, AreRowsOf, AreRead, rows_beside}
+use Rattle.table_worlds.specs.RowsOf.{WorldRows, AreRowsOf, AreRead, other_rows}
 use Rattle.table_reading.specs.Counting.{noted, none_noted}
 use Rattle.table_reading.specs.declared.rows.Reading.{Reading}
 
@@ -70,7 +70,7 @@ later_host n (stored.Kept k) = max n k.host_id
 later_host n other = n
 
 abbrev pub reading_of : AllRows → Reading
-reading_of all = record { rows = rows_beside all.world; units = fold noted (fold noted (fold noted none_noted all.world.units) all.world.marks) all.world.instances; are_calls = list_all is_call all.calls; last_host = fold later_host 0 all.calls; are_imports = list_all is_import all.batches }
+reading_of all = record { rows = other_rows all.world; units = fold noted (fold noted (fold noted none_noted all.world.units) all.world.marks) all.world.instances; are_calls = list_all is_call all.calls; last_host = fold later_host 0 all.calls; are_imports = list_all is_import all.batches }
 
 abbrev pub no_rows : AllRows
 no_rows = record { world = record { settings = []; accounts = []; apps = []; versions = []; classes = []; units = []; marks = []; hosts = []; instances = [] }; calls = []; batches = [] }
@@ -92,14 +92,14 @@ with_row r (stored.Batch b) = record r { are_imports = r.are_imports && is_impor
 -- ---- worlds that rows represent
 
 -- These rows are those of a sound world, and of calls and imports that may be kept with it.
-pub record StandFor (w : World) (all : AllRows) : Type 0 where
+pub record Represent (w : World) (all : AllRows) : Type 0 where
   pub sound : Sound w
   pub rows : AreRowsOf w all.world
   pub calls : IsTrue (list_all (is_call_of w) all.calls)
   pub batches : IsTrue (list_all is_import all.batches)
 
 -- These calls and imports may be kept with a world.
-pub record MayStandBeside (w : World) (calls : SlotCalls) (batches : List ℕ → List ℕ → Option BatchText) : Type 0 where
+pub record MayBeKeptWith (w : World) (calls : SlotCalls) (batches : List ℕ → List ℕ → Option BatchText) : Type 0 where
   pub calls_fit : (host slot : ℕ) → IfSome (calls host slot) (λ k. IsTrue (is_call_of w (stored.Kept (call_row host slot k))))
   pub imports_fit : (kind text : List ℕ) → IfSome (batches kind text) (λ b. IsTrue (is_import (stored.Batch (record { kind = kind; name = text; text = b.0; answer = b.1 }))))
 
@@ -109,11 +109,11 @@ AreUtf8 trees = (key : RowKey) → IfSome (look_up trees key) HasUtf8
 
 -- Rows that were read from the tables represent the world.
 abbrev pub ReadFrom : Trees → World → Type 0
-ReadFrom trees w = (all : AllRows) × AreAllRead trees all × StandFor w all
+ReadFrom trees w = (all : AllRows) × AreAllRead trees all × Represent w all
 
 -- Rows that were read from the tables represent no world.
-abbrev pub StandForNone : Trees → Type 0
-StandForNone trees = (all : AllRows) × AreAllRead trees all × ((w : World) → ¬ StandFor w all)
+abbrev pub RepresentNone : Trees → Type 0
+RepresentNone trees = (all : AllRows) × AreAllRead trees all × ((w : World) → ¬ Represent w all)
 
 -- some row of some table does not have the format of that table
 abbrev pub HasBadTable : Trees → Type 0

@@ -35,7 +35,7 @@ abbrev pub HasGap : Trees → ℕ → ℕ → Type 0
 HasGap trees id n = LacksRow trees id ⊎ ((k : ℕ) × (k < n) × (look_up trees (instance_key id k) ≡ None))
 
 -- A workunit is sound with the hosts and applications of a world, and its rows are at their keys.
-pub record StandsAt (trees : Trees) (w : World) (id n : ℕ) (b : UnitBook) : Type 0 where
+pub record PassesAt (trees : Trees) (w : World) (id n : ℕ) (b : UnitBook) : Type 0 where
   pub sound : IsSoundUnit w.hosts w.apps b
   pub found : AreFound trees id n (rows_of_unit w id b)
 
@@ -46,7 +46,7 @@ has_name names name = has_seen bytes_eq names name
 -- Each of the first `most` workunits passes, and no two have the same name.
 pub record AreTested (trees : Trees) (w : World) (counts : List ℕ) (most : ℕ) (books : List UnitBook) : Type 0 where
   pub all : length books ≡ most
-  pub each : (i n : ℕ) (b : UnitBook) → slice_get counts i ≡ Some n → slice_get books i ≡ Some b → StandsAt trees w (i + 1) n b
+  pub each : (i n : ℕ) (b : UnitBook) → slice_get counts i ≡ Some n → slice_get books i ≡ Some b → PassesAt trees w (i + 1) n b
   pub names : AllPairs (λ a b. a.unit.name ≢ b.unit.name) books
 
 -- A world without its workunits is sound. The workunits are numbered in turn and not too many, each has a mark, and the calls and imports may be kept with the world.

@@ -11,4 +11,4 @@ mod world;
 pub use counts::UnitCounts;
 pub use due::lowered_to;
 pub use rows::Reading;
-pub use world::{KeptBeside, stored_world};
+pub use world::{InMemory, stored_world};

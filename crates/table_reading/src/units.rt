@@ -15,7 +15,7 @@ ghost use Rattle.table_worlds.specs.RowsOf.{rows_of_unit};
 ghost use Rattle.table_worlds.specs.Totals.{with_unit, with_units};
 ghost use Rattle.table_reading.specs.Deadlines.{lowered_to_each, lowered_to_units};
 ghost use Rattle.table_reading.specs.Reading.{WereKnown};
-ghost use Rattle.table_reading.specs.Testing.{AreInstancesFound, AreFound, LacksRow, HasGap, StandsAt, AreTested, has_name};
+ghost use Rattle.table_reading.specs.Testing.{AreInstancesFound, AreFound, LacksRow, HasGap, PassesAt, AreTested, has_name};
 
 use crate::due::lowered_to_each;
 use sched_book::{UnitBook, World};
@@ -215,11 +215,11 @@ fn test_unit<S: Alter>(
     due_from: &mut u64,
 ) -> Result<(), OpenFault>
     ensures reads { Reads (state S.Store conn.old) (state S.Store conn.new) }
-    ensures stands { WereKnown (state S.Store conn.old) (state S.Store conn.new) → OnOk result ((b : Book) × StandsAt (state S.Store conn.old).now.trees world.now id count b
+    ensures stands { WereKnown (state S.Store conn.old) (state S.Store conn.new) → OnOk result ((b : Book) × PassesAt (state S.Store conn.old).now.trees world.now id count b
         × (has_name names.old b.unit.name ≡ false) × ((other : List ℕ) → has_name names.new other ≡ (bytes_eq other b.unit.name || has_name names.old other))
         × (totals.new ≡ map_from 1 (with_unit world.now.apps b) totals.old) × (due_from.new ≡ lowered_to_each due_from.old b.instances)) }
     ensures bad { WereKnown (state S.Store conn.old) (state S.Store conn.new)
-        → IfErr result (λ e. e ≡ OpenFault.BadRow → (b : Book) → StandsAt (state S.Store conn.old).now.trees world.now id count b → IsTrue (has_name names.old b.unit.name)) }
+        → IfErr result (λ e. e ≡ OpenFault.BadRow → (b : Book) → PassesAt (state S.Store conn.old).now.trees world.now id count b → IsTrue (has_name names.old b.unit.name)) }
 {
     let rows = unit_rows(alloc, conn, id, count)?;
     test_rows(alloc, world, id, &rows, names, totals, due_from)

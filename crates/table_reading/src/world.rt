@@ -10,10 +10,10 @@ ghost use Rattle.sched_book.specs.declared.world.World.{World as Known};
 ghost use Rattle.table_meaning.specs.Kept.{calls_in, batches_in};
 ghost use Rattle.table_meaning.specs.Reads.{Reads};
 ghost use Rattle.table_meaning.specs.Worlds.{HoldWorld};
-ghost use Rattle.table_worlds.specs.RowsOf.{having, without_units, AreRowsBeside};
+ghost use Rattle.table_worlds.specs.RowsOf.{having, without_units, AreOtherRows};
 ghost use Rattle.table_worlds.specs.StoredWorld.{world_in};
 ghost use Rattle.table_decoding.specs.Decoding.{schema_row};
-ghost use Rattle.table_reading.specs.Reading.{AllRows, AreAllRead, AreTyped, AreUtf8, reading_of, WereKnown, ReadFrom, StandFor, StandForNone, HasBadTable, HasOtherSchema};
+ghost use Rattle.table_reading.specs.Reading.{AllRows, AreAllRead, AreTyped, AreUtf8, reading_of, WereKnown, ReadFrom, Represent, RepresentNone, HasBadTable, HasOtherSchema};
 ghost use Rattle.table_reading.specs.Testing.{AreTested, IsFit};
 
 use crate::due::LAST_DEADLINE;
@@ -26,13 +26,13 @@ use sqlite::{Alter, Connection};
 use std::alloc::Global;
 use table_decoding::{RowFault, decoded_world};
 use table_rows::OpenFault;
-use table_worlds::{are_rows_beside, no_totals};
+use table_worlds::{are_other_rows, no_totals};
 use texts::Listed;
 use world_soundness::is_sound;
 
 /// The parts of the world that stay in memory, next to the tables.
 #[derive(Drop)]
-pub struct KeptBeside {
+pub struct InMemory {
     pub settings: Settings,
     pub apps: Listed<App>,
     /// No held instance has its deadline before this moment, in seconds since 1970-01-01T00:00:00Z.
@@ -66,10 +66,10 @@ fn test_rows<S: Alter>(
 ) -> Result<u64, OpenFault>
     ensures reads { Reads (state S.Store conn.old) (state S.Store conn.new) }
     ensures stand { WereKnown (state S.Store conn.old) (state S.Store conn.new) → IfOk result (λ due_from. (books : List Book)
-        × AreTested (state S.Store conn.old).now.trees world.now reading.now.units.counts (length reading.now.units.counts) books × AreRowsBeside (having world.now books) reading.now.rows
+        × AreTested (state S.Store conn.old).now.trees world.now reading.now.units.counts (length reading.now.units.counts) books × AreOtherRows (having world.now books) reading.now.rows
         × (overdue (having world.now books) due_from ≡ [])) }
     ensures bad { WereKnown (state S.Store conn.old) (state S.Store conn.new) → IfErr result (λ e. e ≡ OpenFault.BadRow → (books : List Book)
-        → AreTested (state S.Store conn.old).now.trees world.now reading.now.units.counts (length reading.now.units.counts) books → ¬ AreRowsBeside (having world.now books) reading.now.rows) }
+        → AreTested (state S.Store conn.old).now.trees world.now reading.now.units.counts (length reading.now.units.counts) books → ¬ AreOtherRows (having world.now books) reading.now.rows) }
 {
     let mut totals = no_totals(alloc, world.hosts.len())?;
     let mut due_from = LAST_DEADLINE;
@@ -81,7 +81,7 @@ fn test_rows<S: Alter>(
         totals.as_mut_slice(),
         &mut due_from,
     )?;
-    if are_rows_beside(alloc, world, totals.as_slice(), &reading.rows)? {
+    if are_other_rows(alloc, world, totals.as_slice(), &reading.rows)? {
         Ok(due_from)
     } else {
         Err(OpenFault::BadRow)
@@ -98,9 +98,9 @@ fn test_world<S: Alter>(
 ) -> Result<u64, OpenFault>
     ensures reads { Reads (state S.Store conn.old) (state S.Store conn.new) }
     ensures stands { WereKnown (state S.Store conn.old) (state S.Store conn.new) → (all : AllRows) → AreAllRead (state S.Store conn.old).now.trees all → AreTyped all
-        → reading.now ≡ reading_of all → IfOk result (λ due_from. (books : List Book) × StandFor (having world.now books) all × (overdue (having world.now books) due_from ≡ [])) }
+        → reading.now ≡ reading_of all → IfOk result (λ due_from. (books : List Book) × Represent (having world.now books) all × (overdue (having world.now books) due_from ≡ [])) }
     ensures bad { WereKnown (state S.Store conn.old) (state S.Store conn.new) → (all : AllRows) → AreAllRead (state S.Store conn.old).now.trees all → AreTyped all
-        → reading.now ≡ reading_of all → world.now.units ≡ [] → IfErr result (λ e. e ≡ OpenFault.BadRow → (books : List Book) → ¬ StandFor (having world.now books) all) }
+        → reading.now ≡ reading_of all → world.now.units ≡ [] → IfErr result (λ e. e ≡ OpenFault.BadRow → (books : List Book) → ¬ Represent (having world.now books) all) }
 {
     if !is_fit(alloc, world, reading)? {
         return Err(OpenFault::BadRow);
@@ -109,10 +109,10 @@ fn test_world<S: Alter>(
 }
 
 /// The world of the other tables' rows, without its workunits.
-fn world_beside(alloc: Global, reading: &Reading) -> Result<World, OpenFault>
-    ensures told { (w : Known) → Sound w → AreRowsBeside w reading.now.rows → IfOk result (λ d. d ≡ without_units w) }
+fn world_without_units(alloc: Global, reading: &Reading) -> Result<World, OpenFault>
+    ensures told { (w : Known) → Sound w → AreOtherRows w reading.now.rows → IfOk result (λ d. d ≡ without_units w) }
     ensures alone { IfOk result (λ d. d.units ≡ []) }
-    ensures refused { (w : Known) → Sound w → AreRowsBeside w reading.now.rows → IfErr result (λ e. e ≡ OpenFault.Unavailable) }
+    ensures refused { (w : Known) → Sound w → AreOtherRows w reading.now.rows → IfErr result (λ e. e ≡ OpenFault.Unavailable) }
     ensures other_schema { IfErr result (λ e. e ≡ OpenFault.NotTables → ¬ Has reading.now.rows.settings schema_row) }
     ensures never_old { IfErr result (λ e. (n : ℕ) → e ≢ OpenFault.OldSchema n) }
 {
@@ -134,7 +134,7 @@ fn world_beside(alloc: Global, reading: &Reading) -> Result<World, OpenFault>
 pub fn stored_world<S: Alter>(
     alloc: Global,
     conn: &mut Connection<S>,
-) -> Result<KeptBeside, OpenFault>
+) -> Result<InMemory, OpenFault>
     ensures reads { Reads (state S.Store conn.old) (state S.Store conn.new) }
     ensures stands { WereKnown (state S.Store conn.old) (state S.Store conn.new)
         → OnOk result (ReadFrom (state S.Store conn.old).now.trees (world_in (state S.Store conn.old).now.trees)) }
@@ -147,7 +147,7 @@ pub fn stored_world<S: Alter>(
     ensures other_schema { WereKnown (state S.Store conn.old) (state S.Store conn.new)
         → IfErr result (λ e. e ≡ OpenFault.NotTables → HasOtherSchema (state S.Store conn.old).now.trees) }
     ensures bad { WereKnown (state S.Store conn.old) (state S.Store conn.new)
-        → IfErr result (λ e. e ≡ OpenFault.BadRow → HasBadTable (state S.Store conn.old).now.trees ⊎ StandForNone (state S.Store conn.old).now.trees) }
+        → IfErr result (λ e. e ≡ OpenFault.BadRow → HasBadTable (state S.Store conn.old).now.trees ⊎ RepresentNone (state S.Store conn.old).now.trees) }
     ensures never_old { IfErr result (λ e. (n : ℕ) → e ≢ OpenFault.OldSchema n) }
 {
     let reading = match read_all(alloc, conn) {
@@ -157,9 +157,9 @@ pub fn stored_world<S: Alter>(
             return Err(OpenFault::Unavailable);
         }
     };
-    let world = world_beside(alloc, &reading)?;
+    let world = world_without_units(alloc, &reading)?;
     match test_world(alloc, conn, &world, &reading) {
-        Ok(due_from) => Ok(KeptBeside {
+        Ok(due_from) => Ok(InMemory {
             settings: world.settings,
             apps: world.apps,
             due_from,

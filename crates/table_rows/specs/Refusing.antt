@@ -31,7 +31,7 @@ given_back (BadRow conn) = Some conn
 given_back Unavailable = None
 
 -- The connection is open with no open transaction, and this is what it shows and what was committed.
-pub record IsAtRest (db : Database) (s : State) : Type 0 where
+pub record HasNoTransaction (db : Database) (s : State) : Type 0 where
   pub is_open : IsTrue s.is_open
   pub idle : s.in_transaction ≡ false
   pub now : s.now ≡ db

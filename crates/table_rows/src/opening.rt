@@ -9,7 +9,7 @@ ghost use Rattle.sqlite.specs.State.{HasCleanDisk, IsLive, Opens};
 ghost use Rattle.table_meaning.specs.Schema.{stored_schema};
 ghost use Rattle.table_meaning.specs.Schemas.{IsEarlier, AreKnownAt, AreEarlier};
 ghost use Rattle.table_meaning.specs.Holding.{AreKnown};
-ghost use Rattle.table_rows.specs.Refusing.{given_back, refusal_for, IsAtRest};
+ghost use Rattle.table_rows.specs.Refusing.{given_back, refusal_for, HasNoTransaction};
 ghost use Rattle.table_rows.specs.declared.opening.Refused.TheVariants as refused;
 
 use crate::connection::test_open;
@@ -155,7 +155,7 @@ fn refusal<S: Alter + Drop>(conn: Connection<S>, schema: u32) -> Refused<S>
         → HasCleanDisk (state S.Store conn) × (AreKnownAt schema (state S.Store conn).now → (n ≡ schema) × AreEarlier n (state S.Store conn).now) }
     ensures other { (c : Held S) → result ≡ refused.NotTables c → HasCleanDisk (state S.Store c) → HasCleanDisk (state S.Store conn) × ¬ AreEarlier schema (state S.Store conn).now }
     ensures fits { (c : Held S) → result ≢ refused.BadRow c }
-    ensures back { IfSome (given_back result) (λ c. HasCleanDisk (state S.Store c) → HasCleanDisk (state S.Store conn) × (Opens (state S.Store conn) → IsAtRest (state S.Store conn).committed (state S.Store c))) }
+    ensures back { IfSome (given_back result) (λ c. HasCleanDisk (state S.Store c) → HasCleanDisk (state S.Store conn) × (Opens (state S.Store conn) → HasNoTransaction (state S.Store conn).committed (state S.Store c))) }
 {
     let mut conn = conn;
     let Ok(is_said) = says_schema(&mut conn, schema) else {
@@ -185,7 +185,7 @@ pub fn known<S: Alter + Drop>(
     ensures other { IfErr result (λ e. (c : Held S) → e ≡ refused.NotTables c → HasCleanDisk (state S.Store c) → (state S.Store conn).committed.schema ≢ stored_schema) }
     ensures neither { IfErr result (λ e. (c : Held S) → e ≡ refused.NotTables c → HasCleanDisk (state S.Store c) → (n : ℕ) → ¬ AreEarlier n (state S.Store conn).committed) }
     ensures fits { IfErr result (λ e. (c : Held S) → e ≢ refused.BadRow c) }
-    ensures back { IfErr result (λ e. IfSome (given_back e) (λ c. HasCleanDisk (state S.Store c) → IsAtRest (state S.Store conn).committed (state S.Store c))) }
+    ensures back { IfErr result (λ e. IfSome (given_back e) (λ c. HasCleanDisk (state S.Store c) → HasNoTransaction (state S.Store conn).committed (state S.Store c))) }
 {
     let Some(conn) = reopened(alloc, conn) else {
         return Err(Refused::Unavailable);

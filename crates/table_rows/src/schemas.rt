@@ -6,7 +6,7 @@ ghost use Rattle.sqlite_value.specs.Order.{column};
 ghost use Rattle.sqlite.specs.Held.{state};
 ghost use Rattle.sqlite.specs.State.{HasCleanDisk};
 ghost use Rattle.table_meaning.specs.Schema.{schema_at};
-ghost use Rattle.table_meaning.specs.Schemas.{IsSchema, AreKnownAt, schema_said};
+ghost use Rattle.table_meaning.specs.Schemas.{IsSchema, AreKnownAt, schema_setting};
 ghost use Rattle.table_meaning.specs.Rows.{whole as sql_whole};
 ghost use Rattle.table_meaning.specs.Reads.{Reads};
 
@@ -76,7 +76,7 @@ fn begins_with(rows: &[Row], number: u32) -> bool
 pub fn says_schema<S: Alter>(conn: &mut Connection<S>, schema: u32) -> Result<bool, Error>
     ensures reads { Reads (state S.Store conn.old) (state S.Store conn.new) }
     ensures said { HasCleanDisk (state S.Store conn.new) → IsSchema schema → AreKnownAt schema (state S.Store conn.old).now
-        → IfOk result (λ said. Decides said (schema_said (state S.Store conn.old).now.trees ≡ Some (sql_whole schema))) }
+        → IfOk result (λ said. Decides said (schema_setting (state S.Store conn.old).now.trees ≡ Some (sql_whole schema))) }
 {
     let rows = shown_by(
         conn,

@@ -6,7 +6,7 @@ use Rattle.sqlite.proofs.StateLemmas.{survives_then, survives_weaker}
 use Rattle.table_meaning.specs.Schema.{newest, schema_at}
 use Rattle.table_meaning.specs.Schemas.{IsSchema, IsEarlier}
 use Rattle.table_meaning.specs.Reads.{Reads}
-use Rattle.table_meaning.specs.Upgrades.{MakesNext, Goes, IsLeftFrom, IsLeftBehind, StopsWithin}
+use Rattle.table_meaning.specs.Upgrades.{MakesNext, Goes, IsLeftFrom, IsLeftBehind, StopsBetween}
 use Rattle.table_meaning.proofs.StepLemmas.{survives_itself}
 use Rattle.table_meaning.proofs.Listings.{here_or_later}
 use Rattle.table_upgrades.specs.Frames.{IsCommitted, OutsideTransaction}
@@ -24,7 +24,7 @@ step_stopped n old mid new made one two = survives_then old mid new _ _ _ (λ _ 
 -- ---- several steps
 
 -- Tables of a schema have become those of another one, each step committed.
-pub record HasGone (n next : ℕ) (old now : State) : Type 0 where
+pub record HasTakenSteps (n next : ℕ) (old now : State) : Type 0 where
   pub from : n ≤ next
   pub within : next ≤ newest
   pub survives : Survives old now (λ trees. IsTrue old.is_open × (db : Database) × IsLeftFrom n old.now db × (trees ≡ db.trees))
@@ -33,7 +33,7 @@ pub record HasGone (n next : ℕ) (old now : State) : Type 0 where
   pub first : next ≡ n → HasCleanDisk now → now.committed ≡ old.committed
   pub later : n < next → HasCleanDisk now → IsCommitted now
 
-pub gone_nowhere : (n : ℕ) → IsEarlier n → (old : State) → HasGone n n old old
+pub gone_nowhere : (n : ℕ) → IsEarlier n → (old : State) → HasTakenSteps n n old old
 gone_nowhere n earlier old = record {
   from = omega arith;
   within = omega (arith, earlier.1);
@@ -44,7 +44,7 @@ gone_nowhere n earlier old = record {
   later = λ less. absurd (omega (arith, less));
 }
 
-module _ (n next : ℕ) (old mid new : State) (gone : HasGone n next old mid) (less : next < newest)
+module _ (n next : ℕ) (old mid new : State) (gone : HasTakenSteps n next old mid) (less : next < newest)
     (step : Survives mid new (λ trees. IsTrue mid.is_open × (db : Database) × MakesNext next mid.now db × (trees ≡ db.trees))) where
   -- the next step was made
   one_more : HasCleanDisk mid → (db : Database) → MakesNext next mid.now db → Goes n (suc (next - n)) old.now db
@@ -56,7 +56,7 @@ module _ (n next : ℕ) (old mid new : State) (gone : HasGone n next old mid) (l
       let early : HasCleanDisk mid = omega (arith, step.clean) in
       (gone.outside.was_open early it.0, it.1, (next - n, omega (arith, gone.from, less), one_more early it.1 it.2), it.3)) gone.survives step
 
-  pub gone_further : OutsideTransaction mid new → (HasCleanDisk new → MakesNext next mid.now new.committed) → (HasCleanDisk new → IsCommitted new) → HasGone n (next + 1) old new
+  pub gone_further : OutsideTransaction mid new → (HasCleanDisk new → MakesNext next mid.now new.committed) → (HasCleanDisk new → IsCommitted new) → HasTakenSteps n (next + 1) old new
   gone_further outside makes committed = record {
     from = omega (arith, gone.from);
     within = omega (arith, less);
@@ -73,7 +73,7 @@ module _ (n next : ℕ) (old mid new : State) (gone : HasGone n next old mid) (l
       early clean = omega (arith, step.clean)
 
   -- the next step was refused
-  pub gone_no_further : HasCleanDisk new → (new.now ≡ mid.now) × (new.committed ≡ mid.committed) → StopsWithin n old new
+  pub gone_no_further : HasCleanDisk new → (new.now ≡ mid.now) × (new.committed ≡ mid.committed) → StopsBetween n old new
   gone_no_further clean same = elim (here_or_later n next gone.from) [
     | inl at ↦
         let none : next - n ≡ 0 = omega (arith, at) in
@@ -89,7 +89,7 @@ module _ (n next : ℕ) (old mid new : State) (gone : HasGone n next old mid) (l
       early = omega (arith, step.clean)
 
 -- the last step was made
-pub gone_all : (n next : ℕ) → IsEarlier n → (old now : State) → HasGone n next old now → newest ≤ next → HasCleanDisk now → Goes n (newest - n) old.now now.committed × IsCommitted now
+pub gone_all : (n next : ℕ) → IsEarlier n → (old now : State) → HasTakenSteps n next old now → newest ≤ next → HasCleanDisk now → Goes n (newest - n) old.now now.committed × IsCommitted now
 gone_all n next earlier old now gone past clean =
     let last : next ≡ newest = omega (arith, past, gone.within) in
     let committed = gone.later (omega (arith, past, earlier.1)) clean in

@@ -4,9 +4,9 @@ ghost use Rattle.std.specs.Prelude.{◌≡◌, ◌≢◌, ◌+◌, ◌-◌, ℕ,
 ghost use Rattle.sqlite.specs.Held.{state};
 ghost use Rattle.sqlite.specs.State.{HasCleanDisk, KeepsCommit, Survives};
 ghost use Rattle.table_meaning.specs.Schema.{newest, schema_at, stored_schema};
-ghost use Rattle.table_meaning.specs.Schemas.{IsSchema, IsEarlier, AreKnownAt, AreEarlier, schema_said};
+ghost use Rattle.table_meaning.specs.Schemas.{IsSchema, IsEarlier, AreKnownAt, AreEarlier, schema_setting};
 ghost use Rattle.table_meaning.specs.Rows.{whole as sql_whole};
-ghost use Rattle.table_meaning.specs.Upgrades.{PutsSchema, MakesNext, Goes, IsLeftFrom, StopsWithin, Upgrades, IsLeftBehind, StaysOrGoes};
+ghost use Rattle.table_meaning.specs.Upgrades.{PutsSchema, MakesNext, Goes, IsLeftFrom, StopsBetween, Upgrades, IsLeftBehind, StaysOrUpgrades};
 ghost use Rattle.table_rows.specs.Refusing.{SparesSchema};
 ghost use Rattle.table_upgrades.specs.Frames.{IsCommitted, OutsideTransaction, StaysWithin, WithinTransaction};
 
@@ -91,7 +91,7 @@ fn upgrade_from<S: Alter>(
     ensures outside { OutsideTransaction (state S.Store conn.old) (state S.Store conn.new) }
     ensures committed { HasCleanDisk (state S.Store conn.new) → OnOk result (IsCommitted (state S.Store conn.new)) }
     ensures goes { HasCleanDisk (state S.Store conn.new) → OnOk result (Goes schema (newest - schema) (state S.Store conn.old).now (state S.Store conn.new).committed) }
-    ensures neither { HasCleanDisk (state S.Store conn.new) → IsTrue (state S.Store conn.new).is_open → OnErr result (StopsWithin schema (state S.Store conn.old) (state S.Store conn.new)) }
+    ensures neither { HasCleanDisk (state S.Store conn.new) → IsTrue (state S.Store conn.new).is_open → OnErr result (StopsBetween schema (state S.Store conn.old) (state S.Store conn.new)) }
     ensures crash { Survives (state S.Store conn.old) (state S.Store conn.new)
         (λ trees. IsTrue (state S.Store conn.old).is_open × (db : _) × IsLeftFrom schema (state S.Store conn.old).now db × (trees ≡ db.trees)) }
     ensures fault { IfErr result SparesSchema }
@@ -113,13 +113,13 @@ pub fn upgrade<S: Alter>(alloc: Global, conn: &mut Connection<S>) -> Result<u32,
     ensures number { IfOk result (λ n. n ≡ newest) }
     ensures of_schema { OnOk result ((n : ℕ) × IsSchema n × ((state S.Store conn.old).now.schema ≡ schema_at n)) }
     ensures upgrades { HasCleanDisk (state S.Store conn.new) → OnOk result (Upgrades (state S.Store conn.old).now (state S.Store conn.new).committed) }
-    ensures said { HasCleanDisk (state S.Store conn.new) → OnOk result ((n : ℕ) → IsEarlier n → AreKnownAt n (state S.Store conn.old).now → schema_said (state S.Store conn.old).now.trees ≡ Some (sql_whole n)) }
+    ensures said { HasCleanDisk (state S.Store conn.new) → OnOk result ((n : ℕ) → IsEarlier n → AreKnownAt n (state S.Store conn.old).now → schema_setting (state S.Store conn.old).now.trees ≡ Some (sql_whole n)) }
     ensures newest { HasCleanDisk (state S.Store conn.new) → (state S.Store conn.old).now.schema ≡ stored_schema
         → OnOk result (((state S.Store conn.new).now ≡ (state S.Store conn.old).now) × ((state S.Store conn.new).committed ≡ (state S.Store conn.old).committed)) }
     ensures taken { HasCleanDisk (state S.Store conn.new) → IfErr result (λ e. e ≡ OpenFault.NotTables
         → ((state S.Store conn.old).now.schema ≢ stored_schema) × ((n : ℕ) → ¬ AreEarlier n (state S.Store conn.old).now)) }
     ensures never_old { IfErr result (λ e. (n : ℕ) → e ≢ OpenFault.OldSchema n) }
-    ensures neither { HasCleanDisk (state S.Store conn.new) → IsTrue (state S.Store conn.new).is_open → OnErr result (StaysOrGoes (state S.Store conn.old) (state S.Store conn.new)) }
+    ensures neither { HasCleanDisk (state S.Store conn.new) → IsTrue (state S.Store conn.new).is_open → OnErr result (StaysOrUpgrades (state S.Store conn.old) (state S.Store conn.new)) }
     ensures crash { Survives (state S.Store conn.old) (state S.Store conn.new)
         (λ trees. IsTrue (state S.Store conn.old).is_open × (db : _) × IsLeftBehind (state S.Store conn.old).now db × (trees ≡ db.trees)) }
 {

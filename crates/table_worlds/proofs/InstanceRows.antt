@@ -15,7 +15,7 @@ use Rattle.table_meaning.specs.Worlds.{instance_row}
 use Rattle.sched_book.proofs.PlacesOf.{nth-suc}
 use Rattle.table_worlds.specs.declared.keys.WorldKey.TheVariants.{Instance}
 use Rattle.table_worlds.specs.Keys.{row_in}
-use Rattle.table_worlds.proofs.KeysStand.{instance_listed}
+use Rattle.table_worlds.proofs.KeysListed.{instance_listed}
 use Rattle.table_worlds.proofs.RowsHold.{kept_by, given_by}
 
 abbrev place : ℕ → ℕ → Place

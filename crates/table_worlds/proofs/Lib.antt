@@ -5,10 +5,10 @@ pub mod ColumnsBack
 pub mod HostTotals
 pub mod InstanceRows
 pub mod JoinedWords
-pub mod KeysStand
+pub mod KeysListed
 pub mod Members
 pub mod NewWorld
-pub mod NothingGoes
+pub mod RowsRemain
 pub mod OneWorld
 pub mod ReadBack
 pub mod RowsAre
@@ -16,7 +16,7 @@ pub mod RowsFound
 pub mod RowsHold
 pub mod SameRows
 pub mod StaysReadable
-pub mod TablesBeside
+pub mod OtherTables
 pub mod TotalsCounted
 pub mod UnitRowsRead
 pub mod WorldReadBack

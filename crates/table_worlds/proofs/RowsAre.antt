@@ -26,7 +26,7 @@ use Rattle.table_worlds.specs.declared.keys.NumberedTable.TheVariants as table
 use Rattle.table_worlds.specs.declared.keys.WorldKey.TheVariants.{Instance}
 use Rattle.table_worlds.specs.Keys.{row_key, row_in, keyed, numbered}
 use Rattle.table_worlds.specs.RowsOf.{setting_rows, HaveSame, WorldRows, AreRowsOf, AreRead}
-use Rattle.table_worlds.proofs.KeysStand.{instance_listed, no_row}
+use Rattle.table_worlds.proofs.KeysListed.{instance_listed, no_row}
 use Rattle.table_worlds.proofs.NewWorld.{each_stands}
 use Rattle.table_worlds.proofs.RowsHold.{kept_by, given_by, table_name, setting_listed, table_of_setting}
 

@@ -29,7 +29,7 @@ use Rattle.table_worlds.specs.declared.keys.WorldKey.{WorldKey}
 use Rattle.table_worlds.specs.declared.keys.WorldKey.TheVariants.{Instance}
 use Rattle.table_worlds.specs.Keys.{row_key, row_in, keyed, numbered}
 use Rattle.table_worlds.specs.RowsOf.{setting_rows, HaveSame, WorldRows, AreRowsOf, AreRead}
-use Rattle.table_worlds.proofs.KeysStand.{by_number, instance_listed, no_row, row_has_key}
+use Rattle.table_worlds.proofs.KeysListed.{by_number, instance_listed, no_row, row_has_key}
 use Rattle.table_worlds.proofs.NewWorld.{each_stands, others_none}
 
 -- ---- lists of the results of a function

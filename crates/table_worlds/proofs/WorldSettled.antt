@@ -18,8 +18,8 @@ use Rattle.table_worlds.specs.declared.keys.WorldKey.{WorldKey}
 use Rattle.table_worlds.specs.declared.keys.WorldKey.TheVariants.{Account, App, Version, Class, Unit, Mark, Host, Instance}
 use Rattle.table_worlds.specs.Keys.{row_key, row_in}
 use Rattle.table_worlds.specs.Changes.{AreChanges}
-use Rattle.table_worlds.proofs.KeysStand.{row_has_key}
-use Rattle.table_worlds.proofs.NothingGoes.{none_goes}
+use Rattle.table_worlds.proofs.KeysListed.{row_has_key}
+use Rattle.table_worlds.proofs.RowsRemain.{none_goes}
 
 -- the row that tables hold at a key of a world is the world's row, for any calls and imports that they keep
 at_world_key : (w : World) (calls : SlotCalls) (batches : List ℕ → List ℕ → Option BatchText) (key : WorldKey) → contents_of w calls batches (row_key key) ≡ row_in w key

@@ -25,15 +25,15 @@ abbrev pub row_in : World → WorldKey → Option StoredRow
 row_in w key = contents_of w (λ _ _. None) (λ _ _. None) (row_key key)
 
 -- the row at a key of any table except those of workunits, their marks and instances
-abbrev pub row_beside : World → WorldKey → Option StoredRow
-row_beside w (Account id) = row_in w (Account id)
-row_beside w (App id) = row_in w (App id)
-row_beside w (Version id) = row_in w (Version id)
-row_beside w (Class id) = row_in w (Class id)
-row_beside w (Unit id) = None
-row_beside w (Mark id) = None
-row_beside w (Host id) = row_in w (Host id)
-row_beside w (Instance p) = None
+abbrev pub other_row : World → WorldKey → Option StoredRow
+other_row w (Account id) = row_in w (Account id)
+other_row w (App id) = row_in w (App id)
+other_row w (Version id) = row_in w (Version id)
+other_row w (Class id) = row_in w (Class id)
+other_row w (Unit id) = None
+other_row w (Mark id) = None
+other_row w (Host id) = row_in w (Host id)
+other_row w (Instance p) = None
 
 -- the key of the row of a number
 abbrev pub keyed : NumberedTable → ℕ → WorldKey

@@ -17,7 +17,7 @@ use Rattle.table_worlds.specs.declared.unit_rows.UnitRows.{UnitRows}
 use Rattle.table_worlds.specs.declared.keys.NumberedTable.{NumberedTable}
 use Rattle.table_worlds.specs.declared.keys.NumberedTable.TheVariants as table
 use Rattle.table_worlds.specs.declared.keys.WorldKey.TheVariants.{Instance}
-use Rattle.table_worlds.specs.Keys.{row_in, row_beside, numbered}
+use Rattle.table_worlds.specs.Keys.{row_in, other_row, numbered}
 
 -- the names of the settings
 abbrev pub setting_names : List (List ℕ)
@@ -85,17 +85,17 @@ abbrev pub without_units : World → World
 without_units w = having w []
 
 -- the rows of all tables except those
-abbrev pub rows_beside : WorldRows → TableRows
-rows_beside rows = record { settings = rows.settings; accounts = rows.accounts; apps = rows.apps; versions = rows.versions; classes = rows.classes; hosts = rows.hosts }
+abbrev pub other_rows : WorldRows → TableRows
+other_rows rows = record { settings = rows.settings; accounts = rows.accounts; apps = rows.apps; versions = rows.versions; classes = rows.classes; hosts = rows.hosts }
 
 -- These are the rows of a world, except those of workunits, their marks and instances. Those of settings are in any order.
-pub record AreRowsBeside (w : World) (rows : TableRows) : Type 0 where
+pub record AreOtherRows (w : World) (rows : TableRows) : Type 0 where
   pub settings : HaveSame rows.settings (setting_rows w.settings)
-  pub accounts : rows.accounts ≡ filter_map (row_beside w) (numbered table.Account (length w.accounts))
-  pub apps : rows.apps ≡ filter_map (row_beside w) (numbered table.App (length w.apps))
-  pub versions : rows.versions ≡ filter_map (row_beside w) (numbered table.Version (length w.versions))
-  pub classes : rows.classes ≡ filter_map (row_beside w) (numbered table.Class (length w.versions))
-  pub hosts : rows.hosts ≡ filter_map (row_beside w) (numbered table.Host (length w.hosts))
+  pub accounts : rows.accounts ≡ filter_map (other_row w) (numbered table.Account (length w.accounts))
+  pub apps : rows.apps ≡ filter_map (other_row w) (numbered table.App (length w.apps))
+  pub versions : rows.versions ≡ filter_map (other_row w) (numbered table.Version (length w.versions))
+  pub classes : rows.classes ≡ filter_map (other_row w) (numbered table.Class (length w.versions))
+  pub hosts : rows.hosts ≡ filter_map (other_row w) (numbered table.Host (length w.hosts))
 
 -- the rows of a table that were read, and how many a world has; none for workunits and their marks
 abbrev pub rows_of_table : TableRows → NumberedTable → List StoredRow
@@ -117,8 +117,8 @@ count_beside w table.Mark = 0
 count_beside w table.Host = length w.hosts
 
 -- these are the rows of a table of a world
-abbrev pub IsTableBeside : World → TableRows → NumberedTable → Type 0
-IsTableBeside w rows t = rows_of_table rows t ≡ filter_map (row_beside w) (numbered t (count_beside w t))
+abbrev pub IsOtherTable : World → TableRows → NumberedTable → Type 0
+IsOtherTable w rows t = rows_of_table rows t ≡ filter_map (other_row w) (numbered t (count_beside w t))
 
 -- the rows of a workunit of a number: its row, its mark, and its instances in order, for the applications of this world
 abbrev pub rows_of_unit : World → ℕ → UnitBook → UnitRows

@@ -10,7 +10,7 @@ pub mod totals;
 pub mod unit_rows;
 
 pub use keys::WorldKey;
-pub use matching::{TableRows, are_rows_beside};
+pub use matching::{TableRows, are_other_rows};
 pub use rows::{
     account_row, app_row, class_row, host_row, instance_row, mark_row, unit_row, version_row,
 };

@@ -5,8 +5,8 @@ ghost use Rattle.std.specs.Bool.{Decides};
 ghost use Rattle.std.specs.List.{cons_option};
 ghost use Rattle.sqlite_rules.specs.Lists.{Has};
 ghost use Rattle.sched_book.specs.declared.instance.UnitBook.{UnitBook as Book};
-ghost use Rattle.table_worlds.specs.Keys.{row_beside};
-ghost use Rattle.table_worlds.specs.RowsOf.{setting_rows as specified_settings, having, HaveSame, rows_of_table, count_beside, IsTableBeside, AreRowsBeside};
+ghost use Rattle.table_worlds.specs.Keys.{other_row};
+ghost use Rattle.table_worlds.specs.RowsOf.{setting_rows as specified_settings, having, HaveSame, rows_of_table, count_beside, IsOtherTable, AreOtherRows};
 ghost use Rattle.table_worlds.specs.Totals.{totals_of as specified_totals};
 
 use crate::keys::{NumberedTable, WorldKey, push_numbered};
@@ -47,7 +47,7 @@ impl TableRows {
 }
 
 /// The tables whose keys are numbers, except those of workunits and their marks.
-const TABLES_BESIDE: [NumberedTable; 5] = [
+const OTHER_TABLES: [NumberedTable; 5] = [
     NumberedTable::Account,
     NumberedTable::App,
     NumberedTable::Version,
@@ -128,7 +128,7 @@ fn are_rows_at(
     keys: &[WorldKey],
     rows: &[StoredRow],
 ) -> Result<bool, Unavailable>
-    ensures { (books : List Book) → totals.now ≡ specified_totals (having world.now books) → IfOk result (λ same. Decides same (rows.now ≡ filter_map (row_beside (having world.now books)) keys.now)) }
+    ensures { (books : List Book) → totals.now ≡ specified_totals (having world.now books) → IfOk result (λ same. Decides same (rows.now ≡ filter_map (other_row (having world.now books)) keys.now)) }
 {
     let mut left = rows;
     for key in keys {
@@ -162,7 +162,7 @@ fn is_table(
     table: NumberedTable,
     rows: &TableRows,
 ) -> Result<bool, Unavailable>
-    ensures { (books : List Book) → totals.now ≡ specified_totals (having world.now books) → IfOk result (λ same. Decides same (IsTableBeside (having world.now books) rows.now table)) }
+    ensures { (books : List Book) → totals.now ≡ specified_totals (having world.now books) → IfOk result (λ same. Decides same (IsOtherTable (having world.now books) rows.now table)) }
 {
     let mut keys = Listed::new(alloc);
     push_numbered(&mut keys, table, count_of(world, table))?;
@@ -178,7 +178,7 @@ fn are_tables(
     rows: &TableRows,
 ) -> Result<bool, Unavailable>
     ensures { (books : List Book) → totals.now ≡ specified_totals (having world.now books)
-        → IfOk result (λ same. Decides same ((t : NumberedTable) → Has tables.now t → IsTableBeside (having world.now books) rows.now t)) }
+        → IfOk result (λ same. Decides same ((t : NumberedTable) → Has tables.now t → IsOtherTable (having world.now books) rows.now t)) }
 {
     for table in tables {
         if !is_table(alloc, world, totals, *table, rows)? {
@@ -190,15 +190,15 @@ fn are_tables(
 
 /// Whether these are the rows of a world whose hosts have these totals, for any workunits. `Unavailable` if out of
 /// memory, or if a table can't hold a number of the world.
-pub fn are_rows_beside(
+pub fn are_other_rows(
     alloc: Global,
     world: &World,
     totals: &[Total],
     rows: &TableRows,
 ) -> Result<bool, Unavailable>
-    ensures { (books : List Book) → totals.now ≡ specified_totals (having world.now books) → IfOk result (λ same. Decides same (AreRowsBeside (having world.now books) rows.now)) }
+    ensures { (books : List Book) → totals.now ≡ specified_totals (having world.now books) → IfOk result (λ same. Decides same (AreOtherRows (having world.now books) rows.now)) }
 {
     let settings = are_setting_rows(alloc, &world.settings, rows.settings.as_slice())?;
-    let tables = are_tables(alloc, world, totals, &TABLES_BESIDE, rows)?;
+    let tables = are_tables(alloc, world, totals, &OTHER_TABLES, rows)?;
     Ok(settings && tables)
 }

@@ -8,7 +8,7 @@ ghost use Rattle.sched_book.specs.declared.instance.UnitBook.{UnitBook};
 ghost use Rattle.sched_book.specs.declared.rows.ClassRule.{ClassRule as Rule};
 ghost use Rattle.sched_book.specs.declared.world.World.{World};
 ghost use Rattle.table_meaning.specs.Worlds.{agreement_limit, joined, app_place, is_queued, is_marked, account_row, app_row, version_row, class_row, unit_row, mark_row, host_row, instance_row};
-ghost use Rattle.table_worlds.specs.Keys.{row_in, row_beside};
+ghost use Rattle.table_worlds.specs.Keys.{row_in, other_row};
 ghost use Rattle.table_worlds.specs.RowsOf.{having};
 ghost use Rattle.table_worlds.specs.declared.keys.WorldKey.TheVariants as key;
 ghost use Rattle.table_worlds.specs.Totals.{totals_of};
@@ -295,7 +295,7 @@ pub(crate) fn row_at(
     totals: &[Total],
     key: WorldKey,
 ) -> Result<Option<StoredRow>, Unavailable>
-    ensures { (books : List UnitBook) → totals.now ≡ totals_of (having world.now books) → IfOk result (λ row. row ≡ row_beside (having world.now books) key) }
+    ensures { (books : List UnitBook) → totals.now ≡ totals_of (having world.now books) → IfOk result (λ row. row ≡ other_row (having world.now books) key) }
 {
     match key {
         WorldKey::Account(id) => match nth(world.accounts.as_slice(), id) {

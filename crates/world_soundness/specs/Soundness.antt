@@ -27,7 +27,7 @@ pub record AreRowsWell (w : World) : Type 0 where
   pub hosts : All (IsSoundHost (length w.accounts) w.settings.daily_result_quota) w.hosts
 
 -- names, authenticators and keys occur once
-pub record StandKeysOnce (w : World) : Type 0 where
+pub record KeysOccurOnce (w : World) : Type 0 where
   pub accounts : AllPairs (λ a b. a.authenticator ≢ b.authenticator) w.accounts
   pub apps : AllPairs (λ a b. a.name ≢ b.name) w.apps
   pub versions : AllPairs (λ a b. IsTrue (same_version a b) → ⊥) w.versions

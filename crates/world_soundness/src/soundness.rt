@@ -2,7 +2,7 @@
 
 ghost use Rattle.std.specs.Prelude.{◌↔◌, IsTrue, IfOk, All};
 ghost use Rattle.sched_book.specs.Sound.{IsSoundUnit, IsSoundHost, IsSoundVersion, Sound};
-ghost use Rattle.world_soundness.specs.Soundness.{FitsItsTables, AreRowsWell, StandKeysOnce};
+ghost use Rattle.world_soundness.specs.Soundness.{FitsItsTables, AreRowsWell, KeysOccurOnce};
 
 use crate::in_limits::{
     are_settings_in_limits, is_account_in_limits, is_app_in_limits, is_host_in_limits,
@@ -78,7 +78,7 @@ fn are_rows_well(world: &World) -> bool
 
 /// Whether names, authenticators and keys occur once.
 fn stand_keys_once(alloc: Global, world: &World) -> Result<bool, Memory>
-    ensures { IfOk result (λ once. IsTrue once ↔ StandKeysOnce world.now) }
+    ensures { IfOk result (λ once. IsTrue once ↔ KeysOccurOnce world.now) }
 {
     let accounts = stand_once(alloc, world.accounts.as_slice())?;
     let apps = stand_once(alloc, world.apps.as_slice())?;

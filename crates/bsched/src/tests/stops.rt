@@ -156,7 +156,7 @@ impl Deed for Create {
 }
 
 /// The queries that print the tables, row by row.
-const ROWS_TOLD: &[&str] = &[
+const ROW_QUERIES: &[&str] = &[
     "SELECT name || ' ' || value FROM setting ORDER BY name",
     "SELECT id || ' ' || auth || ' ' || name FROM account ORDER BY id",
     "SELECT id || ' ' || name || ' ' || coalesce(agreement, '-') FROM app ORDER BY id",
@@ -174,7 +174,7 @@ const ROWS_TOLD: &[&str] = &[
 /// All rows of the tables, a line each.
 fn rows_told<S: Alter>(alloc: Global, conn: &mut Connection<S>) -> Result<String, Fail> {
     let mut told = String::new(alloc);
-    for sql in ROWS_TOLD {
+    for sql in ROW_QUERIES {
         for row in &conn.query_all(sql, &[])? {
             let line: String = row.get(0)?;
             told.push_str(line.as_str())?;
@@ -186,9 +186,9 @@ fn rows_told<S: Alter>(alloc: Global, conn: &mut Connection<S>) -> Result<String
 
 /// Shows all rows of the tables.
 #[derive(Clone, Copy)]
-pub struct TellRows;
+pub struct ShowRows;
 
-impl Deed for TellRows {
+impl Deed for ShowRows {
     type Shown = String;
 
     fn over<S: Alter + Leaves + Drop>(
@@ -280,12 +280,12 @@ struct Unstopped {
 
 fn whole(alloc: Global, mut image: Image, arrivals: &[Arrival]) -> Result<Unstopped, Fail> {
     let mut answers = Vec::new(alloc);
-    let mut rows = vec![in alloc; done_in(alloc, &image, LASTING, TellRows)?]?;
+    let mut rows = vec![in alloc; done_in(alloc, &image, LASTING, ShowRows)?]?;
     for arrival in arrivals.chunks(1) {
         let (answer, left) = done_in(alloc, &image, LASTING, Serve { arrivals: arrival })?;
         image = left.unwrap_or(image);
         answers.extend(answer)?;
-        rows.push(done_in(alloc, &image, LASTING, TellRows)?)?;
+        rows.push(done_in(alloc, &image, LASTING, ShowRows)?)?;
     }
     Ok(Unstopped { answers, rows })
 }
@@ -323,7 +323,7 @@ fn goes_on(
     whole: &Unstopped,
 ) -> Result<bool, Fail> {
     let done = answers.len();
-    let rows = done_in(alloc, left, LASTING, TellRows)?;
+    let rows = done_in(alloc, left, LASTING, ShowRows)?;
     let was_in = whole.rows.get(done + 1) == Some(&rows);
     if !was_in && whole.rows.get(done) != Some(&rows) {
         return Ok(false);
@@ -337,7 +337,7 @@ fn goes_on(
         },
     )?;
     answers.extend(more)?;
-    let rows = done_in(alloc, end.as_ref().unwrap_or(left), LASTING, TellRows)?;
+    let rows = done_in(alloc, end.as_ref().unwrap_or(left), LASTING, ShowRows)?;
     Ok(
         whole.rows.last() == Some(&rows)
             && are_answers(&answers, &whole.answers, was_in.then_some(done)),

@@ -176,7 +176,7 @@ impl Seen<'_> {
     ) -> Result<bool, Fail> {
         match self {
             Seen::Made => Ok(refused_to_make(alloc, conn)?.is_none()),
-            Seen::Told { line, told } => is_told_over(alloc, conn, line, told),
+            Seen::Told { line, told } => answers_over(alloc, conn, line, told),
         }
     }
 }
@@ -194,7 +194,7 @@ impl Visit for Seen<'_> {
 }
 
 /// Whether a line over the tables of a database gets this answer.
-fn is_told_over<S: Alter + Drop>(
+fn answers_over<S: Alter + Drop>(
     alloc: Global,
     conn: Connection<S>,
     line: &str,

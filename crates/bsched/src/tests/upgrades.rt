@@ -1,6 +1,6 @@
 //! Tables of the earlier schemas, which are upgraded to the newest one.
 
-use super::stops::{Deed, Fuses, Image, LASTING, Leaves, MOST_CALLS, TellRows, done_in, empty};
+use super::stops::{Deed, Fuses, Image, LASTING, Leaves, MOST_CALLS, ShowRows, done_in, empty};
 use super::stored::{WORKUNITS, filled_with, run};
 use super::{CALL_START, PROJECT, replayed_over};
 use sched_tables::{OpenFault, SCHEMA_1, Tables, upgrade};
@@ -317,7 +317,7 @@ impl Deed for TellSchema {
 fn schema_left(alloc: Global, left: &Image, rows: &str) -> Result<Option<u32>, Fail> {
     let schema = done_in(alloc, left, LASTING, TellSchema)?;
     let (ended, image) = done_in(alloc, left, LASTING, Upgrade)?;
-    if ended == Ok(3) && done_in(alloc, &image, LASTING, TellRows)?.as_str() == rows {
+    if ended == Ok(3) && done_in(alloc, &image, LASTING, ShowRows)?.as_str() == rows {
         return Ok(schema);
     }
     Ok(None)
@@ -328,7 +328,7 @@ fn schema_left(alloc: Global, left: &Image, rows: &str) -> Result<Option<u32>, F
 fn schemas_left(alloc: Global, in_log: bool) -> Result<Option<Vec<u32>>, Fail> {
     let image = done_in(alloc, &empty(alloc), LASTING, MakeFirst)?;
     let (_, whole) = done_in(alloc, &image, LASTING, Upgrade)?;
-    let rows = done_in(alloc, &whole, LASTING, TellRows)?;
+    let rows = done_in(alloc, &whole, LASTING, ShowRows)?;
     let mut schemas = Vec::new(alloc);
     for calls in 0..MOST_CALLS {
         let (ended, left) = done_in(alloc, &image, Fuses::behind(calls, in_log), Upgrade)?;

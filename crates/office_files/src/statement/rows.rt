@@ -49,7 +49,7 @@ fn write_states<'a, W: Write + Drop>(
     credit: &'a str,
 ) -> Result<(), Unavailable>
     ensures { (before : List ℕ) → HasWritten W.contents writer.old before
-        → OnOk result (HasWritten W.contents writer.new (before ++ row_text default_writer (spec.fields_beside line.now sent.now deadline.now credit.now))) }
+        → OnOk result (HasWritten W.contents writer.new (before ++ row_text default_writer (spec.fields_with line.now sent.now deadline.now credit.now))) }
 {
     let server_state = number_text(alloc, line.server_state)?;
     let outcome = number_text(alloc, line.outcome)?;

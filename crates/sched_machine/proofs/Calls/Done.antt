@@ -29,7 +29,7 @@ use Rattle.quorum_credit.proofs.FitReports.{limited_from_sound}
 use Rattle.quorum_credit.proofs.SettledAll.{units_in_limits}
 use Rattle.sched_machine.specs.Granting.{with_classes, AreRunBy, CanTake, FitWithHost}
 use Rattle.sched_machine.specs.Prepared.{IsReady}
-use Rattle.sched_machine.specs.Replying.{IsTold, IsGranted, reply_of}
+use Rattle.sched_machine.specs.Replying.{AreReplyParts, IsGranted, reply_of}
 use Rattle.sched_machine.specs.Totals.{user_credits_in}
 use Rattle.sched_machine.specs.declared.preparing.Ready.{Ready}
 use Rattle.sched_machine.specs.declared.reply.Told.{Told}
@@ -58,7 +58,7 @@ module _ (w v : World) (r : Request) (now : ℕ) (ready : Ready) (changes : List
       → word ≡ end_word (after_settlement w ready.call.caller r now) (asking_of w ready.call.caller r now) jobs
       → u ≡ with_classes (granted v ready.call.number now (places_of chosen)) chosen
       → v ≡ applied w changes → (CanTake w chosen → FitWithHost w ready.call.number changes → FitWithHost w ready.call.number after)
-      → IsTold w u ready jobs told
+      → AreReplyParts w u ready jobs told
       → IsGranted w r now ready u after told word
   granted_is u after chosen jobs told word runs places grant ends given here fits said = record {
     jobs = jobs;

@@ -8,7 +8,7 @@ use Rattle.std.proofs.lemmas.List.Elements.{All-head, All-tail}
 use Rattle.std.proofs.lemmas.List.Sums.{sum_by-cons}
 use Rattle.rpc_records.specs.Ranges.{IsInRange}
 use Rattle.rpc_records.specs.declared.request.Request.{Request}
-use Rattle.sched_book.specs.Count.{agree, tells_success, told_place, told_output, is_judged, has_failed, is_valid, canonical, verdict, verdict_by}
+use Rattle.sched_book.specs.Count.{agree, tells_success, reported_place, reported_output, is_judged, has_failed, is_valid, canonical, verdict, verdict_by}
 use Rattle.sched_book.specs.Fits.{is_eligible}
 use Rattle.sched_book.specs.Grant.{IsGrant}
 use Rattle.sched_book.specs.Limits.{last_moment}
@@ -35,7 +35,7 @@ use Rattle.sched_book.proofs.Recording.{instance_at-with_changed}
 use Rattle.sched_book.proofs.Rising.{pairs_head, pairs_tail}
 use Rattle.sched_book.proofs.Settling.{slice_get-enumerate_from}
 use Rattle.job_choice.proofs.Candidates.{stood}
-use Rattle.quorum_credit.specs.CreditKept.{UnitGoesOn, CreditGoesOn}
+use Rattle.quorum_credit.specs.CreditKept.{UnitContinues, CreditContinues}
 use Rattle.quorum_credit.specs.Scores.{credits_in}
 use Rattle.quorum_credit.specs.Settling.{AreScores}
 use Rattle.quorum_credit.specs.declared.scores.Score.{Score}
@@ -120,28 +120,28 @@ module _ (old new : World) (sound : Sound old) (became : WorldBecame old new) wh
         host_stays x y (given x.owner refl) became_y.owned,
       )
 
-  credit_goes_on : CreditGoesOn old new
+  credit_goes_on : CreditContinues old new
   credit_goes_on = record {
     each = λ unit b stood. cases unit b stood (unit_at new unit) refl (subst (λ o. UnitBecameAt old.apps o (unit_at new unit)) stood (became.units unit));
   }
     where
       cases : (unit : ℕ) (b : UnitBook) → unit_at old unit ≡ Some b → (o : Option UnitBook) → unit_at new unit ≡ o → UnitBecameAt old.apps (Some b) o
-          → (c : UnitBook) × (unit_at new unit ≡ Some c) × UnitGoesOn old new b c
+          → (c : UnitBook) × (unit_at new unit ≡ Some c) × UnitContinues old new b c
       cases unit b stood None stands never = absurd never
       cases unit b stood (Some c) stands is = (c, stands, record { row = is.row; valid = valid_stays unit b c stood stands is })
 
 -- each report's place is at most the sum of all
-place_low : (xs : List Instance) (i : ℕ) (x : Instance) → slice_get xs i ≡ Some x → told_place x.report ≤ sum_by (λ (x : Instance). told_place x.report) xs
+place_low : (xs : List Instance) (i : ℕ) (x : Instance) → slice_get xs i ≡ Some x → reported_place x.report ≤ sum_by (λ (x : Instance). reported_place x.report) xs
 place_low [] i x stands = absurd cc
 place_low (y ∷ ys) zero x stands =
-    let same : told_place y.report ≡ told_place x.report = ap (λ (z : Instance). told_place z.report) (let is : y ≡ x = cc in is) in
-    let all : sum_by (λ (x : Instance). told_place x.report) (y ∷ ys) ≡ told_place y.report + sum_by (λ (x : Instance). told_place x.report) ys =
-    sum_by-cons (λ (x : Instance). told_place x.report) y ys in
+    let same : reported_place y.report ≡ reported_place x.report = ap (λ (z : Instance). reported_place z.report) (let is : y ≡ x = cc in is) in
+    let all : sum_by (λ (x : Instance). reported_place x.report) (y ∷ ys) ≡ reported_place y.report + sum_by (λ (x : Instance). reported_place x.report) ys =
+    sum_by-cons (λ (x : Instance). reported_place x.report) y ys in
     omega arith
 place_low (y ∷ ys) (suc i) x stands =
-    let rest : told_place x.report ≤ sum_by (λ (x : Instance). told_place x.report) ys = place_low ys i x stands in
-    let all : sum_by (λ (x : Instance). told_place x.report) (y ∷ ys) ≡ told_place y.report + sum_by (λ (x : Instance). told_place x.report) ys =
-    sum_by-cons (λ (x : Instance). told_place x.report) y ys in
+    let rest : reported_place x.report ≤ sum_by (λ (x : Instance). reported_place x.report) ys = place_low ys i x stands in
+    let all : sum_by (λ (x : Instance). reported_place x.report) (y ∷ ys) ≡ reported_place y.report + sum_by (λ (x : Instance). reported_place x.report) ys =
+    sum_by-cons (λ (x : Instance). reported_place x.report) y ys in
     omega arith
 
 -- One instance of a list, which has no owner and no report, is given to a host: the verdicts stay the same.
@@ -151,7 +151,7 @@ module _ (o : Owner) (xs : List Instance) (n : ℕ)
   ys = modify_at (with_owner o) xs n
 
   abbrev most : ℕ
-  most = sum_by (λ (x : Instance). told_place x.report) xs
+  most = sum_by (λ (x : Instance). reported_place x.report) xs
 
   became_given : AllBecame most true xs ys
   became_given i =
@@ -173,7 +173,7 @@ module _ (o : Owner) (xs : List Instance) (n : ℕ)
       cases : (q : Option ℕ) → canonical a u xs ≡ q → verdict_by a ys q x ≡ verdict_by a xs q x
       cases None is = refl
       cases (Some c) is =
-          ap (λ q. cond (tells_success x.report) (Some (cond (agree a (told_output x.report) (told_output q)) Valid Invalid)) None)
+          ap (λ q. cond (tells_success x.report) (Some (cond (agree a (reported_output x.report) (reported_output q)) Valid Invalid)) None)
           (canonical_same a u true xs ys on c is)
 
 -- an instance without owner and report

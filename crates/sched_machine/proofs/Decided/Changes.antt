@@ -3,7 +3,7 @@ use Rattle.std.proofs.Common.{◌≡◌, ℕ, suc, ◌<◌, ◌≤◌, inl, inr,
 use Rattle.std.proofs.Math.Bool.{and-false}
 use Rattle.std.specs.Prelude.{◌&&◌, ◌||◌, ◌==◌, map, count_by, is_some, is_none, option_map, option_and_then, unwrap_or, replicate, slice_get}
 use Rattle.rpc_records.specs.declared.request.Report.{Report}
-use Rattle.sched_book.specs.Count.{tells_success, is_judged, told_place, is_live, is_held, is_open, has_failed, need, status}
+use Rattle.sched_book.specs.Count.{tells_success, is_judged, reported_place, is_live, is_held, is_open, has_failed, need, status}
 use Rattle.sched_book.specs.Classes.{imported}
 use Rattle.sched_book.specs.Lost.{with_lapse}
 use Rattle.sched_book.specs.Places.{nth, instance_at, agreement_by, book_status, status_at, option_any}
@@ -45,7 +45,7 @@ UnitsBecame apps bs cs = (k : ℕ) → UnitBecameAt apps (nth bs k) (nth cs k)
 late_kept : (n : ℕ) (failed : Bool) (y z : Instance) → z.report ≡ y.report → IsLate n failed y → IsLate n failed z
 late_kept n failed y z same late judged =
     let late_y = late (ap (λ r. is_some (option_and_then (λ (t : Outcome). t.place) r)) (sym same) ∙ judged) in
-    (subst (λ r. n < told_place r) (sym same) late_y.0, late_y.1)
+    (subst (λ r. n < reported_place r) (sym same) late_y.0, late_y.1)
 
 -- an instance without owner is live
 free_live : (y : Instance) → is_none y.owner ≡ true → is_live y ≡ true
@@ -113,17 +113,17 @@ module _ (n : ℕ) (failed : Bool) where
       late (Some m) later judged = later m refl
 
   -- an instance that exists still exists, and there is no new one
-  abbrev pub GoesOn : Option Instance → Option Instance → Type 0
-  GoesOn o q = BecameAt n failed o q × (is_some q ≡ is_some o)
+  abbrev pub Extends : Option Instance → Option Instance → Type 0
+  Extends o q = BecameAt n failed o q × (is_some q ≡ is_some o)
 
-  pub goes_self : (o : Option Instance) → GoesOn o o
+  pub goes_self : (o : Option Instance) → Extends o o
   goes_self o = (became_self o, refl)
 
-  pub goes_given : (o : Owner) (x : Instance) → x.owner ≡ None → GoesOn (Some x) (Some (with_owner o x))
+  pub goes_given : (o : Owner) (x : Instance) → x.owner ≡ None → Extends (Some x) (Some (with_owner o x))
   goes_given o x free = (owner_became o x free, refl)
 
 -- so through the changes of a call before settlement, and of a tick
-pub goes_on : (w : World) (c : Call) (p : Place) → Lasts w c p (GoesOn (judged_at w p.unit) (has_failed (status_at w p.unit)))
+pub goes_on : (w : World) (c : Call) (p : Place) → Lasts w c p (Extends (judged_at w p.unit) (has_failed (status_at w p.unit)))
 goes_on w c p =
     let n : ℕ = judged_at w p.unit in
     let failed : Bool = has_failed (status_at w p.unit) in
@@ -155,7 +155,7 @@ same_length (x ∷ xs) (y ∷ ys) same = ap suc (same_length xs ys (λ i. same (
 
 -- what happens to the workunits of a world, by what happens to the instance at each place
 pub units_on : (w v u : World) → UnitsBecame w.apps w.units v.units → map (λ (b : UnitBook). b.unit) u.units ≡ map (λ (b : UnitBook). b.unit) v.units
-    → ((p : Place) → GoesOn (judged_at w p.unit) (has_failed (status_at w p.unit)) (instance_at v p) (instance_at u p)) → UnitsBecame w.apps w.units u.units
+    → ((p : Place) → Extends (judged_at w p.unit) (has_failed (status_at w p.unit)) (instance_at v p) (instance_at u p)) → UnitsBecame w.apps w.units u.units
 units_on w v u was rows each k =
     cases (nth w.units k) (nth v.units k) (nth u.units k) (was k)
     (sym (nth-map (λ (b : UnitBook). b.unit) u.units k) ∙ ap (λ us. nth us k) rows ∙ nth-map (λ (b : UnitBook). b.unit) v.units k)
@@ -165,7 +165,7 @@ units_on w v u was rows each k =
     at i o = option_and_then (λ (b : UnitBook). slice_get b.instances i) o
 
     cases : (o q s : Option UnitBook) → UnitBecameAt w.apps o q → option_map (λ (b : UnitBook). b.unit) s ≡ option_map (λ (b : UnitBook). b.unit) q
-        → ((i : ℕ) → GoesOn (unwrap_or (option_map (λ (b : UnitBook). count_by is_judged b.instances) o) 0)
+        → ((i : ℕ) → Extends (unwrap_or (option_map (λ (b : UnitBook). count_by is_judged b.instances) o) 0)
         (has_failed (unwrap_or (option_map (book_status w.apps) o) FailedTotal)) (at i q) (at i s)) → UnitBecameAt w.apps o s
     cases None q s before row goes = tt
     cases (Some b) None s before row goes = absurd before
@@ -180,7 +180,7 @@ units_on w v u was rows each k =
 
 -- the places of a workunit's judged successes are in range
 abbrev pub IsInRange : UnitBook → Type 0
-IsInRange b = (i : ℕ) (x : Instance) → slice_get b.instances i ≡ Some x → tells_success x.report ≡ true → told_place x.report ≤ count_by is_judged b.instances
+IsInRange b = (i : ℕ) (x : Instance) → slice_get b.instances i ≡ Some x → tells_success x.report ≡ true → reported_place x.report ≤ count_by is_judged b.instances
 
 -- a workunit that failed is not open
 not_open : (s : Status) → has_failed s ≡ true → is_open s ≡ false

@@ -3,7 +3,7 @@ use Rattle.std.proofs.Common.{◌≡◌, ℕ, suc, ◌+◌, ◌<◌, ◌≤◌, 
 use Rattle.std.proofs.lemmas.Bool.{and_parts}
 use Rattle.std.specs.Prelude.{not, fold, nat_le, is_some, slice_get, option_and_then}
 use borrow.Author.Tests.{le-leb, lt-leb}
-use Rattle.sched_book.specs.Count.{tells_success, tells_error, is_judged, told_place, is_live, report_of, place_of, numbers_from, put_by, good}
+use Rattle.sched_book.specs.Count.{tells_success, tells_error, is_judged, reported_place, is_live, report_of, place_of, numbers_from, put_by, good}
 use Rattle.sched_book.specs.Places.{is_owned_by}
 use Rattle.sched_book.specs.declared.instance.Instance.{Instance}
 use Rattle.sched_book.specs.declared.instance.Outcome.{Outcome}
@@ -27,7 +27,7 @@ report_here zs k z there =
 -- An instance and what it became, if n reports were judged before and the workunit had failed or not. Its report stays.
 -- A new report that is judged has a later place, and is of no failed workunit.
 abbrev pub IsLate : ℕ → Bool → Instance → Type 0
-IsLate n failed y = is_judged y ≡ true → (n < told_place y.report) × (failed ≡ false)
+IsLate n failed y = is_judged y ≡ true → (n < reported_place y.report) × (failed ≡ false)
 
 abbrev pub IsReported : ℕ → Bool → Instance → Instance → Type 0
 IsReported n failed x y = (y.report ≡ x.report) ⊎ ((x.report ≡ None) × IsLate n failed y)
@@ -72,7 +72,7 @@ module _ (xs ys : List Instance) (n : ℕ) where
   ComesLater j = n < place_of ys j
 
   same_place : (j : ℕ) → IsOld j → place_of ys j ≡ place_of xs j
-  same_place j old = ap told_place old.0
+  same_place j old = ap reported_place old.0
 
   -- an old report is inserted among the old ones
   put_old : (old late : List ℕ) (i : ℕ) → Each IsOld old → Each ComesLater late → IsOld i
@@ -161,7 +161,7 @@ module _ (xs ys : List Instance) (n : ℕ) where
       cases false is = subst (λ (d : Bool). Goes failed old late was (cond d (k ∷ now) now)) (sym is) (rest late more)
       cases true is =
           let new = judged (success_is_judged y.report is) in
-          let here : ComesLater k = subst (λ o. n < told_place o) (sym y_here) new.0 in
+          let here : ComesLater k = subst (λ o. n < reported_place o) (sym y_here) new.0 in
           subst (λ (d : Bool). Goes failed old late was (cond d (k ∷ now) now)) (sym is)
           (subst (λ (f : Bool). Goes f old late was (k ∷ now)) (sym new.1)
           (goes_late old late was now k each here
@@ -170,7 +170,7 @@ module _ (xs ys : List Instance) (n : ℕ) where
 
   -- an instance and what it became, if the others continue in this way
   heads : (failed : Bool) (k : ℕ) (x y : Instance) (us vs : List Instance) (old late : List ℕ)
-      → slice_get xs (k + 0) ≡ Some x → slice_get ys (k + 0) ≡ Some y → (success x ≡ true → told_place x.report ≤ n)
+      → slice_get xs (k + 0) ≡ Some x → slice_get ys (k + 0) ≡ Some y → (success x ≡ true → reported_place x.report ≤ n)
       → IsReported n failed x y → Each IsOld old → Each ComesLater late
       → ((older later : List ℕ) → Each IsOld older → Each ComesLater later → Goes failed older later (numbers_from (k + 1) success us) (numbers_from (k + 1) success vs))
       → Goes failed old late (numbers_from k success (x ∷ us)) (numbers_from k success (y ∷ vs))
@@ -200,7 +200,7 @@ module _ (xs ys : List Instance) (n : ℕ) where
       kept : y.report ≡ x.report → (b : Bool) → success x ≡ b
           → Goes failed old late (numbers_from k success (x ∷ us)) (numbers_from k success (y ∷ vs))
       kept same true is =
-          let here : IsOld k = (y_here ∙ same ∙ sym x_here, subst (λ o. told_place o ≤ n) (sym x_here) (low is)) in
+          let here : IsOld k = (y_here ∙ same ∙ sym x_here, subst (λ o. reported_place o ≤ n) (sym x_here) (low is)) in
           both true true is (ap tells_success same ∙ is)
           (goes_old failed old late was now k each more here (rest (put_by (place_of xs) old k) late (each_put IsOld (place_of xs) old k each here) more))
       kept same false is = both false false is (ap tells_success same ∙ is) (rest old late each more)
@@ -213,7 +213,7 @@ module _ (xs ys : List Instance) (n : ℕ) where
   -- the instances from number k on; the places of the judged ones are in range
   go : (failed : Bool) (k : ℕ) (us vs : List Instance) (old late : List ℕ)
       → ((i : ℕ) → slice_get xs (k + i) ≡ slice_get us i) → ((i : ℕ) → slice_get ys (k + i) ≡ slice_get vs i)
-      → ((i : ℕ) (x : Instance) → slice_get us i ≡ Some x → success x ≡ true → told_place x.report ≤ n)
+      → ((i : ℕ) (x : Instance) → slice_get us i ≡ Some x → success x ≡ true → reported_place x.report ≤ n)
       → AllBecame n failed us vs → Each IsOld old → Each ComesLater late
       → Goes failed old late (numbers_from k success us) (numbers_from k success vs)
   go failed k [] [] old late first second low became each more = nothing failed old late each
@@ -247,7 +247,7 @@ each_more P Q makes (i ∷ is) each = (makes i each.0, each_more P Q makes is ea
 
 -- they continue if each new report has a later place
 pub good_continues : (n : ℕ) (failed : Bool) (xs ys : List Instance)
-    → ((i : ℕ) (x : Instance) → slice_get xs i ≡ Some x → tells_success x.report ≡ true → told_place x.report ≤ n)
+    → ((i : ℕ) (x : Instance) → slice_get xs i ≡ Some x → tells_success x.report ≡ true → reported_place x.report ≤ n)
     → AllBecame n failed xs ys → Continues failed xs ys
 good_continues n failed xs ys low became =
     let goes = go xs ys n failed 0 xs ys [] [] (λ i. ap (slice_get xs) (zero-add i)) (λ i. ap (slice_get ys) (zero-add i)) low became tt tt in

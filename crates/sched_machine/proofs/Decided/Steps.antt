@@ -4,7 +4,7 @@ use Rattle.std.specs.Prelude.{IsTrue, map, count_by, option_map, option_and_then
 use Rattle.std.specs.List.{enumerate_from}
 use Rattle.rpc_records.specs.declared.reply.Reply.{Reply}
 use Rattle.rpc_records.specs.declared.request.Request.{Request}
-use Rattle.sched_book.specs.Count.{is_judged, has_failed, report_place, told_place}
+use Rattle.sched_book.specs.Count.{is_judged, has_failed, report_place, reported_place}
 use Rattle.sched_book.specs.Imports.{has_app, new_unit, with_rows}
 use Rattle.sched_book.specs.Places.{nth, agreement_by, book_status, status_at}
 use Rattle.sched_book.specs.Settle.{grown, with_grown, with_quota, settled}
@@ -31,7 +31,7 @@ use Rattle.sched_machine.proofs.Rows.Entry.{AccountsStay, accounts_at_entry}
 use Rattle.sched_machine.proofs.Rows.Named.{agreement_stays}
 use Rattle.sched_machine.proofs.Moves.Cases.{by_call}
 use Rattle.sched_machine.proofs.Moves.Moves.{judged_at, granted_lasts, lapses_last, left_alone, left_lasts}
-use Rattle.sched_machine.proofs.Decided.Changes.{UnitBecameAt, UnitsBecame, GoesOn, IsInRange, goes_given, goes_on, goes_self, units_on, units_same, units_grown}
+use Rattle.sched_machine.proofs.Decided.Changes.{UnitBecameAt, UnitsBecame, Extends, IsInRange, goes_given, goes_on, goes_self, units_on, units_same, units_grown}
 
 -- A world and what it became: its workunits, the accounts of its hosts, and how outputs are compared.
 pub record WorldBecame (w v : World) : Type 0 where
@@ -51,7 +51,7 @@ in_range w sound k b stands i x there is =
     placed (Some place) low = low
 
     told : (o : Option Outcome) → IfSome (option_and_then (λ (t : Outcome). t.place) o) (λ place. place ≤ count_by is_judged b.instances)
-        → told_place o ≤ count_by is_judged b.instances
+        → reported_place o ≤ count_by is_judged b.instances
     told None low = omega arith
     told (Some t) low = placed t.place low
 
@@ -97,7 +97,7 @@ module _ (w : World) (c : Caller) (r : Request) (now : ℕ) (sound : Sound w) (c
   units_left : UnitsBecame w.apps w.units left.units
   units_left =
       units_on w w left (units_same w.apps w.units) (left_alone w c r now).units
-      (λ p. left_lasts (GoesOn (judged_at w p.unit) (has_failed (status_at w p.unit))) w c r p (goes_on w (call.Rpc c r) p) now)
+      (λ p. left_lasts (Extends (judged_at w p.unit) (has_failed (status_at w p.unit))) w c r p (goes_on w (call.Rpc c r) p) now)
 
   -- up to its settlement, and with its grant
   pub settled_became : WorldBecame w (after_settlement w c r now)
@@ -120,7 +120,7 @@ module _ (w : World) (c : Caller) (r : Request) (now : ℕ) (sound : Sound w) (c
         units = units_on w settlement given settled_became.units rest.units (λ p.
             let n : ℕ = judged_at w p.unit in
             let failed : Bool = has_failed (status_at w p.unit) in
-            granted_lasts (GoesOn n failed) (goes_self n failed) (goes_given n failed) settlement (asking_of w c r now) step.jobs step.grant p);
+            granted_lasts (Extends n failed) (goes_self n failed) (goes_given n failed) settlement (asking_of w c r now) step.jobs step.grant p);
         hosts = subst (AccountsStay w.hosts) (sym rest.hosts) settled_became.hosts;
         agreements = λ name known. ap (λ apps. agreement_by apps name) rest.apps ∙ settled_became.agreements name known;
       }))
@@ -135,7 +135,7 @@ tick_became w after now count sound step =
       units = subst (λ apps. UnitsBecame w.apps w.units (map (grown apps) left.units)) (sym rest.apps)
           (units_grown w.apps w.units left.units (in_range w sound)
           (units_on w w left (units_same w.apps w.units) rest.units
-          (λ p. lapses_last (GoesOn (judged_at w p.unit) (has_failed (status_at w p.unit))) w now p (goes_on w call.Tick p))));
+          (λ p. lapses_last (Extends (judged_at w p.unit) (has_failed (status_at w p.unit))) w now p (goes_on w call.Tick p))));
       hosts = accounts_then w.hosts left.hosts (settled w left).hosts
           (subst (AccountsStay w.hosts) (sym rest.hosts) (accounts_same w.hosts))
           (accounts_settled w (with_grown left) left.hosts);

@@ -4,7 +4,7 @@ use Rattle.std.specs.Prelude.{◌&&◌, ◌==◌, sum_by, count_by, is_some, opt
 use Rattle.std.specs.List.{enumerate_from}
 use Rattle.std.proofs.lemmas.Bool.{eq-eqb, ne_eqb}
 use Rattle.std.proofs.lemmas.List.Sums.{sum_by-cons}
-use Rattle.sched_book.specs.Count.{agree, tells_success, told_output, output_of, is_valid, canonical, verdict_by}
+use Rattle.sched_book.specs.Count.{agree, tells_success, reported_output, output_of, is_valid, canonical, verdict_by}
 use Rattle.sched_book.specs.Places.{nth, agreement_of, verdict_of, option_any, host_of, is_owned_by, credit_in, host_credit}
 use Rattle.sched_book.specs.Sound.{IsBare, HasOwnerAmong, IsSoundUnit, IsSoundHost, Sound}
 use Rattle.sched_book.specs.declared.instance.Instance.{Instance}
@@ -67,7 +67,7 @@ module _ {X : Type 0} (c : ℕ) where
 pub no_verdict : (a : Agreement) (xs : List Instance) (o : Option ℕ) (x : Instance) → x.report ≡ None → verdict_by a xs o x ≡ None
 no_verdict a xs None x none = refl
 no_verdict a xs (Some c) x none =
-    ap (λ r. cond (tells_success r) (Some (cond (agree a (told_output r) (output_of xs c)) Valid Invalid)) None) none
+    ap (λ r. cond (tells_success r) (Some (cond (agree a (reported_output r) (output_of xs c)) Valid Invalid)) None) none
 
 valid_reported : (w : World) (b : UnitBook) (x : Instance) → is_valid (verdict_of w b x) ≡ true → x.report ≢ None
 valid_reported w b x valid none =

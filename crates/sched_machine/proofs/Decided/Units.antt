@@ -4,7 +4,7 @@ use Rattle.std.specs.Prelude.{find, is_some, nat_le, nat_lt, slice_get}
 use borrow.Author.Tests.{leb-true, le-leb, ltb-true, lt-ltb}
 use Rattle.std.proofs.lemmas.List.{append-nil, length-append, take-append-le, drop-append-le}
 use Rattle.std.proofs.lemmas.List.Sums.{sum_by-cons}
-use Rattle.sched_book.specs.Count.{agree, tells_success, tells_error, told_place, told_output, is_live, is_open, has_failed, report_of, output_of, good, errors, live, votes, leader, first_leader, majority, canonical, want, need, status, verdict_by, verdict}
+use Rattle.sched_book.specs.Count.{agree, tells_success, tells_error, reported_place, reported_output, is_live, is_open, has_failed, report_of, output_of, good, errors, live, votes, leader, first_leader, majority, canonical, want, need, status, verdict_by, verdict}
 use Rattle.sched_book.specs.declared.instance.Instance.{Instance}
 use Rattle.sched_book.specs.declared.instance.Outcome.{Outcome}
 use Rattle.sched_book.specs.declared.instance.Status.{Status}
@@ -41,8 +41,8 @@ module _ (a : Agreement) (xs ys : List Instance) where
   votes_same i is (j ∷ js) each =
       sum_by-cons (λ j. cond {A = ℕ} (agree a (output_of ys i) (output_of ys j)) 1 0) j js
       ∙ ap (λ m. cond {A = ℕ} (agree a (output_of ys i) (output_of ys j)) 1 0 + m) (votes_same i is js each.1)
-      ∙ ap (λ o. cond {A = ℕ} (agree a (told_output o) (output_of ys j)) 1 0 + votes a xs js i) is
-      ∙ ap (λ o. cond {A = ℕ} (agree a (output_of xs i) (told_output o)) 1 0 + votes a xs js i) each.0
+      ∙ ap (λ o. cond {A = ℕ} (agree a (reported_output o) (output_of ys j)) 1 0 + votes a xs js i) is
+      ∙ ap (λ o. cond {A = ℕ} (agree a (output_of xs i) (reported_output o)) 1 0 + votes a xs js i) each.0
       ∙ sym (sum_by-cons (λ j. cond {A = ℕ} (agree a (output_of xs i) (output_of xs j)) 1 0) j js)
 
   find_same : (enough : ℕ) (reports : List ℕ) → Each IsSame reports → (js : List ℕ) → Each IsSame js
@@ -153,17 +153,17 @@ module _ (a : Agreement) (u : Workunit) (failed : Bool) (xs ys : List Instance) 
     where
       known : (o : Option ℕ) (r : Option Outcome) → Option Verdict
       known None r = None
-      known (Some c) r = cond (tells_success r) (Some (cond (agree a (told_output r) (output_of xs c)) Valid Invalid)) None
+      known (Some c) r = cond (tells_success r) (Some (cond (agree a (reported_output r) (output_of xs c)) Valid Invalid)) None
 
       cases : (o : Option ℕ) → canonical a u xs ≡ o → verdict_by a xs o x ≡ Some v → verdict a u ys y ≡ Some v
       cases None none is = absurd cc
       cases (Some c) found is =
           ap (λ o. verdict_by a ys o y) (canonical_stays c found)
-          ∙ ap (λ o. cond (tells_success y.report) (Some (cond (agree a (told_output y.report) (told_output o)) Valid Invalid)) None) (canonical_same c found)
+          ∙ ap (λ o. cond (tells_success y.report) (Some (cond (agree a (reported_output y.report) (reported_output o)) Valid Invalid)) None) (canonical_same c found)
           ∙ elim reported [
-            | inl same ↦ ap (λ r. cond (tells_success r) (Some (cond (agree a (told_output r) (output_of xs c)) Valid Invalid)) None) same ∙ is
+            | inl same ↦ ap (λ r. cond (tells_success r) (Some (cond (agree a (reported_output r) (output_of xs c)) Valid Invalid)) None) same ∙ is
             | inr new ↦ (let never : None ≡ Some v =
-                sym (ap (λ r. cond (tells_success r) (Some (cond (agree a (told_output r) (output_of xs c)) Valid Invalid)) None) new.0) ∙ is in absurd cc)
+                sym (ap (λ r. cond (tells_success r) (Some (cond (agree a (reported_output r) (output_of xs c)) Valid Invalid)) None) new.0) ∙ is in absurd cc)
           ]
 
   -- if the workunit had failed, there is no more
@@ -243,7 +243,7 @@ tests_stay false false false longer shut implies = absurd cc
 
 -- what a workunit was judged by, before and after
 module _ (a : Agreement) (u : Workunit) (n : ℕ) (xs ys : List Instance)
-    (low : (i : ℕ) (x : Instance) → slice_get xs i ≡ Some x → tells_success x.report ≡ true → told_place x.report ≤ n) where
+    (low : (i : ℕ) (x : Instance) → slice_get xs i ≡ Some x → tells_success x.report ≡ true → reported_place x.report ≤ n) where
   abbrev tests : List Instance → ℕ → List ℕ → ℕ → Status
   tests zs wrong reports total =
       by_tests (nat_lt u.max_error_results wrong) (nat_lt u.max_success_results (length reports)) (nat_lt u.max_total_results total)

@@ -2,7 +2,7 @@
 use Rattle.std.proofs.Common.{◌≡◌, ℕ, zero, suc, ◌+◌, ◌-◌, Bool, true, false, cond, eqb, eqb-true, List, [], ◌∷◌, ◌++◌, length, take, drop, Option, Some, None, slice_get, option_map, option_and_then, refl, ap, ◌∙◌}
 use Rattle.std.specs.Prelude.{nat_le, nat_lt, fold, find, count_by, is_some}
 use Rattle.std.proofs.Math.Path.{fun_ext}
-use Rattle.sched_book.specs.Count.{agree, tells_success, tells_error, is_live, report_of, output_of, place_of, told_output, told_place, numbers_from, put_by, good, errors, live, leader, first_leader, majority, canonical, want, need, status}
+use Rattle.sched_book.specs.Count.{agree, tells_success, tells_error, is_live, report_of, output_of, place_of, reported_output, reported_place, numbers_from, put_by, good, errors, live, leader, first_leader, majority, canonical, want, need, status}
 use Rattle.sched_book.specs.Reports.{modify_at}
 use Rattle.sched_book.specs.declared.instance.Instance.{Instance}
 use Rattle.sched_book.specs.declared.instance.Status.{Status}
@@ -53,10 +53,10 @@ module _ (f : Instance → Instance) (xs : List Instance) (n : ℕ)
       at_index i true is (Some x) there = same_report x (ap (slice_get xs) (eqb-true n i is) ∙ there)
 
   outputs_stay : output_of (modify_at f xs n) ≡ output_of xs
-  outputs_stay = ap (λ reports i. told_output (reports i)) reports_stay
+  outputs_stay = ap (λ reports i. reported_output (reports i)) reports_stay
 
   places_stay : place_of (modify_at f xs n) ≡ place_of xs
-  places_stay = ap (λ reports i. told_place (reports i)) reports_stay
+  places_stay = ap (λ reports i. reported_place (reports i)) reports_stay
 
   good_stay : good (modify_at f xs n) ≡ good xs
   good_stay =

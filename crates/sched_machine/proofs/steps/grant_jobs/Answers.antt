@@ -6,7 +6,7 @@ use Rattle.job_choice.specs.Chosen.{places_of}
 use Rattle.call_sheet.specs.Sheets.{IsPageOf}
 use Rattle.call_sheet.specs.declared.page.Page.{Page}
 use Rattle.sched_machine.specs.Granting.{with_classes, AreRunBy, CanTake, FitWithHost}
-use Rattle.sched_machine.specs.Replying.{IsTold, IsGranted}
+use Rattle.sched_machine.specs.Replying.{AreReplyParts, IsGranted}
 use Rattle.sched_machine.proofs.Calls.Done.{granted_is}
 use Rattle.sched_machine.proofs.Calls.Choice.{choice_settled, choice_ends, jobs_run}
 use Rattle.sched_machine.proofs.steps.grant_jobs.Goals as goal
@@ -46,8 +46,8 @@ returns-clause-step g c = λ honest kept page ready.
     refl
     (subst (λ (e : World). CanTake e jobs → FitWithHost e k.call.number before → FitWithHost e k.call.number after) same
     (c.in_ok-told.ensures.fits honest_2 (kept_1, here)))
-    (subst (λ js. IsTold w (applied w after) k (places_of js) told) c.as_slice.ensures
-    (subst (λ (e : World). IsCaller e k.call.caller r → AreRunBy e k.call.host jobs → IsTold e (applied e after) k (places_of jobs) told) same
-    (λ caller run. subst (λ (e : World). IsTold (g.D.Units.world c.choose.new.desk) (applied e after) k (places_of jobs) told) same_2
+    (subst (λ js. AreReplyParts w (applied w after) k (places_of js) told) c.as_slice.ensures
+    (subst (λ (e : World). IsCaller e k.call.caller r → AreRunBy e k.call.host jobs → AreReplyParts e (applied e after) k (places_of jobs) told) same
+    (λ caller run. subst (λ (e : World). AreReplyParts (g.D.Units.world c.choose.new.desk) (applied e after) k (places_of jobs) told) same_2
     (c.in_ok-told.ensures.told honest_2 (kept_1, here) caller run)) ready.calling.admitted.caller
     (subst (AreRunBy w k.call.host) (sym c.as_slice.ensures) runs))))

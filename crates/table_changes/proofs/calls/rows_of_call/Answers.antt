@@ -3,7 +3,7 @@ use Rattle.std.specs.List.{list_all}
 use Rattle.sched_book.specs.Delta.{applied}
 use Rattle.table_worlds.specs.Readable.{IsReadable}
 use Rattle.table_changes.specs.Words.{puts_words}
-use Rattle.table_changes.proofs.ReadableCalls.{words_readable, told_anyhow, of_page}
+use Rattle.table_changes.proofs.ReadableCalls.{words_readable, holds_anyway, of_page}
 use Rattle.table_changes.proofs.calls.rows_of_call.Goals as goal
 
 pub returns-clause-rows : goal.returns-clause-rows
@@ -20,4 +20,4 @@ returns-clause-readable g c = λ honest kept readable.
     let w = g.D.Units.world c.args.desk.now in
     let cs = c.args.delta.now in
     let puts : list_all puts_words cs ≡ true = search rules in
-    told_anyhow (IsReadable (applied w cs)) c.rows_of_page.result (words_readable w cs puts readable)
+    holds_anyway (IsReadable (applied w cs)) c.rows_of_page.result (words_readable w cs puts readable)

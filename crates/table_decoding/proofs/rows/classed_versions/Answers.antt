@@ -2,7 +2,7 @@ use Rattle.std.proofs.Common.{◌≡◌, Some, ap, ◌∙◌, rules}
 use Rattle.sched_book.specs.Places.{nth}
 use Rattle.sched_book.specs.Sound.{IsSoundVersion}
 use Rattle.table_decoding.specs.Decoding.{of_version}
-use Rattle.table_decoding.proofs.ClassesTold.{class_stands}
+use Rattle.table_decoding.proofs.ClassesDecoded.{class_stands}
 use Rattle.table_worlds.proofs.ByPlace.{all_nth}
 use Rattle.table_decoding.proofs.rows.classed_versions.Goals as goal
 

@@ -1,6 +1,6 @@
 use Rattle.std.proofs.Common.{map, ◌∙◌}
 use Rattle.sched_book.specs.declared.rows.Version.{Version}
-use Rattle.table_decoding.proofs.ClassesTold.{are_words, as_words}
+use Rattle.table_decoding.proofs.ClassesDecoded.{are_words, as_words}
 use Rattle.table_decoding.proofs.Refusals.{passed_on}
 use Rattle.table_decoding.proofs.rows.versions.Goals as goal
 

@@ -2,7 +2,7 @@ use Rattle.std.proofs.Common.{refl, arith}
 use Rattle.std.proofs.lemmas.List.{drop_all}
 use Rattle.std.proofs.lemmas.Option.{slice_get_read}
 use Rattle.table_worlds.proofs.Members.{all_seen}
-use Rattle.table_decoding.proofs.SettingsTold.{found_told, not_none}
+use Rattle.table_decoding.proofs.SettingsDecoded.{found_told, not_none}
 use Rattle.sqlite.proofs.RunLemmas.{has_got}
 use Rattle.table_decoding.proofs.settings.value_of.Goals as goal
 

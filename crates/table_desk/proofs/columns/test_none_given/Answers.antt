@@ -3,7 +3,7 @@ use Rattle.sched_book.specs.Places.{places}
 use Rattle.table_meaning.specs.Worlds.{contents_of}
 use Rattle.table_desk.proofs.ColumnsCounted.{no_items}
 use Rattle.table_desk.proofs.PlacesAsked.{owned_told}
-use Rattle.table_desk.proofs.PlacesStand.{all_places}
+use Rattle.table_desk.proofs.AllPlaces.{all_places}
 use Rattle.table_desk.proofs.columns.test_none_given.Goals as goal
 
 pub returns-clause-answer : goal.returns-clause-answer

@@ -3,7 +3,7 @@ use Rattle.sched_book.specs.Offers.{Offered, OffersSome}
 use Rattle.sched_book.specs.declared.desk.Flow.{Flow}
 use Rattle.table_desk.specs.Skips.{IsCovered}
 use Rattle.sched_book.specs.Offers.{OrSkips}
-use Rattle.table_desk.specs.Pages.{candidates_at, unsent_behind, unsent_on}
+use Rattle.table_desk.specs.Pages.{candidates_at, unsent_after, unsent_on}
 use Rattle.table_desk.proofs.AskedOn.{asked_before, asked_after}
 use Rattle.table_desk.proofs.PagesOffered.{on_any, none_offered, then_all, then_some}
 use Rattle.table_desk.proofs.offers.offer_on.Goals as goal
@@ -14,7 +14,7 @@ returns-in_err-next-in-GoOn-clause-some g c = λ clean is_open rests w tell same
     let old = c.args.taker.now in
     let new = c.offer_each.new.taker in
     let these = candidates_at w c.args.places.now in
-    let more = unsent_behind w c.args.page.now in
+    let more = unsent_after w c.args.page.now in
     let offered = subst (λ (flow : Flow). Offered takes old these new flow) c.in-GoOn.is (c.in_ok-offer_each.ensures.all clean is_open rests w tell same known) in
     on_any {P = OffersSome takes old (these ++ more) new} c.from_residual-in_err-next-in-GoOn.result ((offered more).to_some new (none_offered takes new more))
 
@@ -29,7 +29,7 @@ returns-in_ok-next-in-GoOn-clause-all g c = λ clean is_open rests w tell same k
     let old = c.args.taker.now in
     let now = c.offer_each.new.taker in
     let these = candidates_at w c.args.places.now in
-    let more = unsent_behind w c.args.page.now in
+    let more = unsent_after w c.args.page.now in
     let first_ones = asked_before store first mid last read c.in_ok-offer_each.ensures.all clean is_open rests w tell same known in
     let offered = subst (λ (flow : Flow). Offered takes old these now flow) c.in-GoOn.is first_ones in
     let others = asked_after store first mid last c.offer_each.ensures.reads read c.offer_pages.ensures.all clean is_open rests w tell same known in
@@ -46,7 +46,7 @@ returns-in_ok-next-in-GoOn-clause-some g c = λ clean is_open rests w tell same 
     let old = c.args.taker.now in
     let now = c.offer_each.new.taker in
     let these = candidates_at w c.args.places.now in
-    let more = unsent_behind w c.args.page.now in
+    let more = unsent_after w c.args.page.now in
     let first_ones = asked_before store first mid last read c.in_ok-offer_each.ensures.all clean is_open rests w tell same known in
     let offered = subst (λ (flow : Flow). Offered takes old these now flow) c.in-GoOn.is first_ones in
     let others = asked_after store first mid last c.offer_each.ensures.reads read c.offer_pages.ensures.some clean is_open rests w tell same known in

@@ -4,7 +4,7 @@ use Rattle.sched_book.specs.Offers.{unsent}
 use Rattle.table_desk.specs.FirstPage.{IsFirstPageOf}
 use Rattle.table_desk.specs.Skips.{IsCovered}
 use Rattle.sched_book.specs.Offers.{OrSkips}
-use Rattle.table_desk.specs.Pages.{candidates_at, unsent_behind}
+use Rattle.table_desk.specs.Pages.{candidates_at, unsent_after}
 use Rattle.table_desk.specs.declared.pages.PageRead.{PageRead}
 use Rattle.table_desk.proofs.AskedOn.{asked_before, asked_after}
 use Rattle.table_desk.proofs.Jumps.{jumped}
@@ -20,7 +20,7 @@ returns-in-Some-places_from-clause-all g c = λ clean is_open rests w tell same 
     let page = c.in-Some.page in
     let parts = c.in-Some-places_from.ensures w (subst (λ (o : Option PageRead). IfSome o (IsFirstPageOf w)) c.in-Some.is before) in
     let jump = jumped g.T.Taker.takes c.args.skip.now c.args.from next c.next-from.ensures.no_earlier c.next-from.ensures.covered w old in
-    then_all takes old old c.offer_on.new.taker (unsent w c.args.from) (unsent w next) (candidates_at w c.in-Some-places_from.places.now ++ unsent_behind w page) jump (sym parts) c.offer_on.result
+    then_all takes old old c.offer_on.new.taker (unsent w c.args.from) (unsent w next) (candidates_at w c.in-Some-places_from.places.now ++ unsent_after w page) jump (sym parts) c.offer_on.result
     (c.offer_on.ensures.all clean is_open rests w tell same known)
 
 pub returns-in-Some-places_from-clause-some : goal.returns-in-Some-places_from-clause-some
@@ -31,7 +31,7 @@ returns-in-Some-places_from-clause-some g c = λ clean is_open rests w tell same
     let page = c.in-Some.page in
     let parts = c.in-Some-places_from.ensures w (subst (λ (o : Option PageRead). IfSome o (IsFirstPageOf w)) c.in-Some.is before) in
     let jump = jumped g.T.Taker.takes c.args.skip.now c.args.from next c.next-from.ensures.no_earlier c.next-from.ensures.covered w old in
-    then_some takes old old c.offer_on.new.taker (unsent w c.args.from) (unsent w next) (candidates_at w c.in-Some-places_from.places.now ++ unsent_behind w page) jump (sym parts) c.offer_on.result
+    then_some takes old old c.offer_on.new.taker (unsent w c.args.from) (unsent w next) (candidates_at w c.in-Some-places_from.places.now ++ unsent_after w page) jump (sym parts) c.offer_on.result
     (c.offer_on.ensures.some clean is_open rests w tell same known)
 
 pub returns-in_err-page-clause-some : goal.returns-in_err-page-clause-some
@@ -53,7 +53,7 @@ returns-clause-all g c = λ clean is_open rests w tell same known before.
     let parts = unsent_of_all w c.in_ok-page.page page.0 next page.1 places c.places.ensures in
     let offered = asked_after store first mid last c.read.ensures.reads read c.offer_on-offered.ensures.all clean is_open rests w tell same known in
     let jump = jumped g.T.Taker.takes c.args.skip.now c.args.from next c.next-from.ensures.no_earlier c.next-from.ensures.covered w old in
-    then_all takes old old c.offer_on-offered.new.taker (unsent w c.args.from) (unsent w next) (candidates_at w places ++ unsent_behind w c.in_ok-page.page) jump (sym parts) c.offer_on-offered.result offered
+    then_all takes old old c.offer_on-offered.new.taker (unsent w c.args.from) (unsent w next) (candidates_at w places ++ unsent_after w c.in_ok-page.page) jump (sym parts) c.offer_on-offered.result offered
 
 pub returns-clause-some : goal.returns-clause-some
 returns-clause-some g c = λ clean is_open rests w tell same known before.
@@ -70,4 +70,4 @@ returns-clause-some g c = λ clean is_open rests w tell same known before.
     let parts = unsent_of_all w c.in_ok-page.page page.0 next page.1 places c.places.ensures in
     let offered = asked_after store first mid last c.read.ensures.reads read c.offer_on-offered.ensures.some clean is_open rests w tell same known in
     let jump = jumped g.T.Taker.takes c.args.skip.now c.args.from next c.next-from.ensures.no_earlier c.next-from.ensures.covered w old in
-    then_some takes old old c.offer_on-offered.new.taker (unsent w c.args.from) (unsent w next) (candidates_at w places ++ unsent_behind w c.in_ok-page.page) jump (sym parts) c.offer_on-offered.result offered
+    then_some takes old old c.offer_on-offered.new.taker (unsent w c.args.from) (unsent w next) (candidates_at w places ++ unsent_after w c.in_ok-page.page) jump (sym parts) c.offer_on-offered.result offered

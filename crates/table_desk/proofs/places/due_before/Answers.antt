@@ -3,7 +3,7 @@ use Rattle.sched_book.specs.Places.{places}
 use Rattle.table_meaning.specs.Places.{is_due, places_where}
 use Rattle.table_meaning.specs.Worlds.{contents_of}
 use Rattle.table_desk.proofs.PlacesAsked.{due_told}
-use Rattle.table_desk.proofs.PlacesStand.{all_places}
+use Rattle.table_desk.proofs.AllPlaces.{all_places}
 use Rattle.table_desk.proofs.places.due_before.Goals as goal
 
 pub returns-clause-answer : goal.returns-clause-answer

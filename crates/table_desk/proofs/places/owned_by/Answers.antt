@@ -2,7 +2,7 @@ use Rattle.std.proofs.Common.{◌∙◌}
 use Rattle.sched_book.specs.Places.{places}
 use Rattle.table_meaning.specs.Worlds.{contents_of}
 use Rattle.table_desk.proofs.PlacesAsked.{owned_told}
-use Rattle.table_desk.proofs.PlacesStand.{all_places}
+use Rattle.table_desk.proofs.AllPlaces.{all_places}
 use Rattle.table_desk.proofs.places.owned_by.Goals as goal
 
 pub returns-clause-answer : goal.returns-clause-answer

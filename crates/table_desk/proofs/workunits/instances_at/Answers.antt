@@ -7,7 +7,7 @@ use Rattle.table_meaning.specs.declared.rows.StoredRow.TheVariants as stored
 use Rattle.table_meaning.specs.Rows.{columns_of}
 use Rattle.table_worlds.specs.ReadBack.{job_in}
 use Rattle.table_desk.proofs.InstancesListed.{instances_told}
-use Rattle.table_desk.proofs.PlacesStand.{all_places}
+use Rattle.table_desk.proofs.AllPlaces.{all_places}
 use Rattle.table_desk.proofs.workunits.instances_at.Goals as goal
 
 pub returns-clause-answer : goal.returns-clause-answer

@@ -4,7 +4,7 @@ use Rattle.std.proofs.lemmas.Option.{slice_get-get_or}
 use Rattle.sqlite.specs.Effect.{Database}
 use Rattle.sqlite.specs.Held.{state}
 use Rattle.table_meaning.proofs.StepLemmas.{reads_on}
-use Rattle.table_reading.specs.Testing.{StandsAt, AreTested}
+use Rattle.table_reading.specs.Testing.{PassesAt, AreTested}
 use Rattle.table_reading.proofs.NoneDue.{lowered_more}
 use Rattle.table_reading.proofs.ReadsOn.{known_before, known_after, shows_first, of_first, refused_on}
 use Rattle.table_reading.proofs.UnitsTested.{tested_more, names_more, counted_more, counted_all, stands_next, name_is_new}
@@ -27,7 +27,7 @@ loop-index-preserved g c =
           let one = c.in_ok-test_unit.ensures.stands (known_after first before after kept.0 read was) in
           let count : slice_get counts i ≡ Some n = slice_get-get_or counts i 0 (omega arith) in
           let id : c.in-Ok.id ≡ i + 1 = search rules in
-          let stands = subst (λ k. StandsAt first.now.trees w k n one.0) id (of_first first before after kept.0 read was (λ (d : Database). StandsAt d.trees w c.in-Ok.id n one.0) one.1) in (
+          let stands = subst (λ k. PassesAt first.now.trees w k n one.0) id (of_first first before after kept.0 read was (λ (d : Database). PassesAt d.trees w c.in-Ok.id n one.0) one.1) in (
             so_far.0 ++ one.0 ∷ [],
             tested_more first.now.trees w counts i n so_far.0 one.0 c.loop-index.names so_far.1 count stands so_far.2 one.2,
             names_more c.loop-index.names c.test_unit.new.names so_far.0 one.0 so_far.2 one.3,
@@ -63,5 +63,5 @@ returns-in_err-test_unit-clause-bad g c = λ was.
     refused_on c.from_residual.result _ c.in_err-test_unit.field-0.0 c.from_residual.ensures.1
     (λ is others stand.
     let b = stands_next first.now.trees w counts others stand i n count in
-    let here = subst (λ (d : Database). StandsAt d.trees w c.in-Ok.id n b.0) (sym (shows_first first before after kept.0 read was)) (subst (λ k. StandsAt first.now.trees w k n b.0) (sym id) b.2) in
+    let here = subst (λ (d : Database). PassesAt d.trees w c.in-Ok.id n b.0) (sym (shows_first first before after kept.0 read was)) (subst (λ k. PassesAt first.now.trees w k n b.0) (sym id) b.2) in
     name_is_new first.now.trees w counts others stand i n so_far.0 b.0 c.loop-index.names so_far.1 count b.1 so_far.2 (c.in_err-test_unit.ensures.bad late is b.0 here))

@@ -2,7 +2,7 @@ use Rattle.std.proofs.Common.{◌≡◌, false, rules}
 use Rattle.std.proofs.lemmas.Bool.{both_ways}
 use Rattle.std.proofs.lemmas.Result.{IfErr-weaker, IfOk-weaker}
 use Rattle.sqlite.specs.Held.{state}
-use Rattle.table_reading.proofs.WorldStands.{stand_read, fit_read, tested_read, beside_read}
+use Rattle.table_reading.proofs.WorldRepresented.{stand_read, fit_read, tested_read, beside_read}
 use Rattle.table_reading.proofs.world.test_world.Goals as goal
 
 pub returns-clause-stands : goal.returns-clause-stands

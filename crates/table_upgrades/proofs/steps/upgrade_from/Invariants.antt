@@ -1,6 +1,6 @@
 use Rattle.sqlite.specs.Held.{state}
-use Rattle.table_upgrades.proofs.Upgraded.{HasGone}
+use Rattle.table_upgrades.proofs.Upgraded.{HasTakenSteps}
 use Rattle.table_upgrades.proofs.steps.upgrade_from.Given as goal
 
 abbrev pub invariant-loop-next : goal.invariant-loop-next
-invariant-loop-next g l = HasGone l.schema l.next (state g.S.Store l.fn.conn) (state g.S.Store l.conn)
+invariant-loop-next g l = HasTakenSteps l.schema l.next (state g.S.Store l.fn.conn) (state g.S.Store l.conn)

@@ -2,7 +2,7 @@ use Rattle.std.proofs.Common.{◌≡◌, ◌≢◌, ◌∷◌, ◌+◌, drop, ge
 use Rattle.std.specs.List.{cons_option}
 use Rattle.std.proofs.lemmas.List.{drop_more}
 use Rattle.std.proofs.lemmas.Option.{MatchOption-at_none}
-use Rattle.table_worlds.specs.Keys.{row_beside}
+use Rattle.table_worlds.specs.Keys.{other_row}
 use Rattle.table_worlds.specs.RowsOf.{having}
 use Rattle.table_worlds.specs.declared.keys.WorldKey.TheVariants.{Account}
 use Rattle.table_worlds.proofs.Members.{SameLeft, never, none_behind}
@@ -14,7 +14,7 @@ returns-in-None c = λ books counted.
     let keys = c.args.keys.now in
     let left = c.loop-key.left.now in
     let i = c.loop-key.key-index in
-    let f = row_beside (having c.args.world.now books) in
+    let f = other_row (having c.args.world.now books) in
     let before : SameLeft f rows left keys (get_or keys i (Account 0) ∷ drop (i + 1) keys) =
     subst (SameLeft f rows left keys) (drop_more keys i (Account 0) c.loop-key-test.true) (c.loop-key.invariant books counted) in
     let none = MatchOption-at_none _ _ c.in-None.is c.behind-behind.ensures in

@@ -7,7 +7,7 @@ use Rattle.table_meaning.specs.Kept.{calls_in}
 use Rattle.table_worlds.specs.StoredWorld.{world_in}
 use Rattle.sched_tables.specs.Remembering.{AreRemembered}
 use Rattle.sched_tables.specs.DueFrom.{NothingIsDueBefore}
-use Rattle.sched_tables.specs.ReadLaws.{left_world, left_kept, left_beside, never_shut}
+use Rattle.sched_tables.specs.ReadLaws.{left_world, left_kept, left_in_memory, never_shut}
 use Rattle.sched_tables.specs.Views.{state_of, world_of, AreKept}
 use Rattle.sched_tables.proofs.EntriesKept.{kept_then, beside_then, committed}
 use Rattle.stores.proofs.Results.{on_ok, on_err}
@@ -47,7 +47,7 @@ returns-clause-acts g c =
             (λ all. all)
             (λ left. (
               left_kept old new left.0 left.1 kept.0 idle,
-              left_beside old new left.0 left.1 kept.0 before.settings after.settings before.apps after.apps before.remembered after.remembered before.due_from after.due_from c.commit.ensures.settings left.2 (subst (λ (db : Database). AreRemembered (world_in db.trees) (calls_in db.trees) after.remembered) left.0 (c.commit.ensures.remembers honest kept))
+              left_in_memory old new left.0 left.1 kept.0 before.settings after.settings before.apps after.apps before.remembered after.remembered before.due_from after.due_from c.commit.ensures.settings left.2 (subst (λ (db : Database). AreRemembered (world_in db.trees) (calls_in db.trees) after.remembered) left.0 (c.commit.ensures.remembers honest kept))
                   (subst (λ (db : Database). NothingIsDueBefore (world_in db.trees) after.due_from) left.0 (c.commit.ensures.due_from honest kept)) kept.1,
             ));
         left = λ h found.

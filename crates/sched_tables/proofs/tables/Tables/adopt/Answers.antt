@@ -3,9 +3,9 @@ use Rattle.sqlite.specs.Effect.{Database}
 use Rattle.sqlite.specs.Held.{state}
 use Rattle.sqlite.specs.State.{State, HasCleanDisk}
 use Rattle.table_meaning.specs.Holding.{AreKnown}
-use Rattle.table_reading.specs.Reading.{AreUtf8, WereKnown, HasBadTable, StandForNone, HasOtherSchema}
+use Rattle.table_reading.specs.Reading.{AreUtf8, WereKnown, HasBadTable, RepresentNone, HasOtherSchema}
 use Rattle.table_reading.proofs.ReadsOn.{refused_on}
-use Rattle.table_rows.specs.Refusing.{IsAtRest}
+use Rattle.table_rows.specs.Refusing.{HasNoTransaction}
 use Rattle.sched_tables.specs.Held.{IsHonest}
 use Rattle.sched_tables.proofs.Refusals.{told_by_schema, told_by_rows, given_same}
 use Rattle.sched_tables.proofs.Reopened.{rest_reopens, kept_can_be_opened}
@@ -122,7 +122,7 @@ returns-in-Err-clause-refused g c =
     told_by_rows g.S.Store db c.in-Err.fault c.test_open.new.conn c.in-Err.ensures.never_old
     (λ clean. subst AreKnown (same clean) (were clean).known)
     (λ clean is. subst (λ (d : Database). HasOtherSchema d.trees) (same clean) (c.in-Err.ensures.other_schema (were clean) is))
-    (λ clean is. subst (λ (d : Database). HasBadTable d.trees ⊎ StandForNone d.trees) (same clean) (c.in-Err.ensures.bad (were clean) is))
+    (λ clean is. subst (λ (d : Database). HasBadTable d.trees ⊎ RepresentNone d.trees) (same clean) (c.in-Err.ensures.bad (were clean) is))
     c.of.result c.of.ensures
 
 pub returns-in-Err-clause-back : goal.returns-in-Err-clause-back
@@ -133,7 +133,7 @@ returns-in-Err-clause-back g c =
     let opens = c.in_ok-conn.ensures.opens in
     let known = c.in_ok-conn.ensures.known in
     let reads = reads_on taken read after c.stored_world-read.ensures.reads c.test_open.ensures.reads in
-    given_same (λ conn. HasCleanDisk (state g.S.Store conn) → IsAtRest (state g.S.Store c.args.conn).committed (state g.S.Store conn)) c.in-Err.fault c.test_open.new.conn
+    given_same (λ conn. HasCleanDisk (state g.S.Store conn) → HasNoTransaction (state g.S.Store c.args.conn).committed (state g.S.Store conn)) c.in-Err.fault c.test_open.new.conn
     (λ clean.
     let honest : IsHonest after = (clean, was_ok c.test_open.result (IsTrue after.is_open) (search rules) (c.test_open.ensures.open clean)) in
     let before = early taken after opens known reads honest in

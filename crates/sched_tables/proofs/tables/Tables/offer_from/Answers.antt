@@ -7,7 +7,7 @@ use Rattle.sched_tables.specs.Remembering.{IsUnitOf}
 use Rattle.sched_tables.specs.Views.{world_of}
 use Rattle.sched_tables.specs.declared.remembered.UnitRead.{UnitRead}
 use Rattle.sched_tables.proofs.Leads.{each_ok, all_err, either_way}
-use Rattle.sched_tables.proofs.Offered.{handed_all, handed_some}
+use Rattle.sched_tables.proofs.Offered.{passed_on_all, passed_on_some}
 use Rattle.sched_tables.proofs.Told.{told}
 use Rattle.sched_tables.proofs.tables.Tables.offer_from.Goals as goal
 
@@ -29,7 +29,7 @@ returns-clause-all g c = λ honest kept.
     let skip = c.skip_of.ensures _ _ taken.0 in
     each_ok c.unsent_from-offered.result _ _ (told g.S.Store c.args.self.now c.unsent_from-offered.new.conn _ c.unsent_from-offered.ensures.all honest kept (c.as_slice.ensures ∙ kept.1.apps_are) taken.0.units taken.1)
     (λ offered.
-    let on = handed_all g.T.Taker.takes w c.args.account c.skip_of.result.now skip c.args.from _ _ offered in
+    let on = passed_on_all g.T.Taker.takes w c.args.account c.skip_of.result.now skip c.args.from _ _ offered in
     let names = on.1.1 in
     subst (λ t. OffersAll (OrSkips (MaySkip w c.args.account) g.T.Taker.takes) c.args.taker.now (unsent w c.args.from) t) (search (rules, names)) on.0)
 
@@ -40,7 +40,7 @@ returns-clause-some g c = λ honest kept.
     let skip = c.skip_of.ensures _ _ taken.0 in
     all_err c.unsent_from-offered.result _ _ (told g.S.Store c.args.self.now c.unsent_from-offered.new.conn _ c.unsent_from-offered.ensures.some honest kept (c.as_slice.ensures ∙ kept.1.apps_are) taken.0.units taken.1)
     (λ offered.
-    let on = handed_some g.T.Taker.takes w c.args.account c.skip_of.result.now skip c.args.from _ _ offered in
+    let on = passed_on_some g.T.Taker.takes w c.args.account c.skip_of.result.now skip c.args.from _ _ offered in
     let names = on.1.1 in
     subst (λ t. OffersSome (OrSkips (MaySkip w c.args.account) g.T.Taker.takes) c.args.taker.now (unsent w c.args.from) t) (search (rules, names)) on.0)
 
@@ -53,10 +53,10 @@ returns-clause-noted g c = λ honest kept before.
     (told g.S.Store c.args.self.now c.unsent_from-offered.new.conn _ c.unsent_from-offered.ensures.all honest kept (c.as_slice.ensures ∙ kept.1.apps_are) taken.0.units taken.1)
     (told g.S.Store c.args.self.now c.unsent_from-offered.new.conn _ c.unsent_from-offered.ensures.some honest kept (c.as_slice.ensures ∙ kept.1.apps_are) taken.0.units taken.1)
     (λ offered.
-    let on = handed_all g.T.Taker.takes w c.args.account c.skip_of.result.now skip c.args.from _ _ offered in
+    let on = passed_on_all g.T.Taker.takes w c.args.account c.skip_of.result.now skip c.args.from _ _ offered in
     let names = on.1.2 in
     subst (λ (us : List UnitRead). All (IsUnitOf w) us) (search (rules, names)) (on.1.0 before))
     (λ offered.
-    let on = handed_some g.T.Taker.takes w c.args.account c.skip_of.result.now skip c.args.from _ _ offered in
+    let on = passed_on_some g.T.Taker.takes w c.args.account c.skip_of.result.now skip c.args.from _ _ offered in
     let names = on.1.2 in
     subst (λ (us : List UnitRead). All (IsUnitOf w) us) (search (rules, names)) (on.1.0 before))

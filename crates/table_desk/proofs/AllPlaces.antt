@@ -16,7 +16,7 @@ use Rattle.sched_book.proofs.PlacesOf.{nth-suc}
 use Rattle.sched_book.proofs.Rising.{pairs_head, pairs_tail}
 use Rattle.table_meaning.specs.Places.{IsBefore, AreAllPlaces}
 use Rattle.table_meaning.specs.Worlds.{BatchText, SlotCalls, contents_of}
-use Rattle.table_worlds.proofs.KeysStand.{instance_listed}
+use Rattle.table_worlds.proofs.KeysListed.{instance_listed}
 
 -- ---- they rise
 

@@ -11,7 +11,7 @@ use Rattle.table_meaning.specs.declared.rows.StoredRow.{StoredRow}
 use Rattle.table_meaning.specs.Worlds.{setting_in}
 use Rattle.table_worlds.specs.RowsOf.{setting_names, setting_rows, HaveSame}
 use Rattle.table_worlds.proofs.RowsHold.{given_by}
-use Rattle.table_decoding.specs.Decoding.{Tells, TellAll, told_of, of_setting}
+use Rattle.table_decoding.specs.Decoding.{Tells, GiveSettings, told_of, of_setting}
 
 -- a row of the settings gives one of them
 listed : (s : Settings) (r : StoredRow) → Has (setting_rows s) r → (name : List ℕ) × (value : SettingValue) × (setting_in s name ≡ Some value) × (r ≡ of_setting name value)
@@ -41,7 +41,7 @@ module _ (s : Settings) (rows : List StoredRow) (same : HaveSame rows (setting_r
   }
 
   -- the rows of the settings give these settings
-  pub all_told : TellAll rows s
+  pub all_told : GiveSettings rows s
   all_told = record {
     daily_result_quota = tells _ _ (inr (inl refl));
     max_hosts = tells _ _ (inr (inr (inl refl)));

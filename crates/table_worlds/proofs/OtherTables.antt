@@ -2,7 +2,7 @@
 use Rattle.std.proofs.Common.{List, [], ◌∷◌, refl, inl, inr}
 use Rattle.sqlite_rules.specs.Lists.{Has}
 use Rattle.sched_book.specs.declared.world.World.{World}
-use Rattle.table_worlds.specs.RowsOf.{setting_rows, HaveSame, IsTableBeside, AreRowsBeside}
+use Rattle.table_worlds.specs.RowsOf.{setting_rows, HaveSame, IsOtherTable, AreOtherRows}
 use Rattle.table_worlds.specs.declared.keys.NumberedTable.{NumberedTable}
 use Rattle.table_worlds.specs.declared.keys.NumberedTable.TheVariants as table
 use Rattle.table_worlds.specs.declared.matching.TableRows.{TableRows}
@@ -12,7 +12,7 @@ abbrev pub tables_beside : List NumberedTable
 tables_beside = table.Account ∷ table.App ∷ table.Version ∷ table.Class ∷ table.Host ∷ []
 
 module _ (w : World) (rows : TableRows) where
-  pub all_beside : HaveSame rows.settings (setting_rows w.settings) → ((t : NumberedTable) → Has tables_beside t → IsTableBeside w rows t) → AreRowsBeside w rows
+  pub all_beside : HaveSame rows.settings (setting_rows w.settings) → ((t : NumberedTable) → Has tables_beside t → IsOtherTable w rows t) → AreOtherRows w rows
   all_beside settings each = record {
     settings = settings;
     accounts = each table.Account (inl refl);
@@ -22,7 +22,7 @@ module _ (w : World) (rows : TableRows) where
     hosts = each table.Host (inr (inr (inr (inr (inl refl)))));
   }
 
-  pub each_beside : AreRowsBeside w rows → (t : NumberedTable) → IsTableBeside w rows t
+  pub each_beside : AreOtherRows w rows → (t : NumberedTable) → IsOtherTable w rows t
   each_beside are table.Account = are.accounts
   each_beside are table.App = are.apps
   each_beside are table.Version = are.versions

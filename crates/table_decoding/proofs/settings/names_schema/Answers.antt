@@ -3,7 +3,7 @@ use Rattle.std.proofs.lemmas.Option.{slice_get_read}
 use Rattle.sqlite_rules.specs.Lists.{Has}
 use Rattle.table_decoding.specs.Decoding.{schema_row}
 use Rattle.sqlite.proofs.RunLemmas.{has_got}
-use Rattle.table_decoding.proofs.settings.tells_schema.Goals as goal
+use Rattle.table_decoding.proofs.settings.names_schema.Goals as goal
 
 pub returns-then-is_schema : goal.returns-then-is_schema
 returns-then-is_schema c =

@@ -27,8 +27,8 @@ use Rattle.table_meaning.specs.Rows.{RowKey, unit_key, mark_key, instance_key, c
 use Rattle.table_meaning.specs.Worlds.{HoldWorld, unit_row, mark_row, instance_row}
 use Rattle.table_meaning.proofs.EachRow.{columns_told}
 use Rattle.table_meaning.proofs.RowsHeld.{held_row}
-use Rattle.table_worlds.specs.Keys.{row_in, row_beside, keyed, numbered}
-use Rattle.table_worlds.specs.RowsOf.{AreRowsBeside, having, rows_beside, rows_of_unit}
+use Rattle.table_worlds.specs.Keys.{row_in, other_row, keyed, numbered}
+use Rattle.table_worlds.specs.RowsOf.{AreOtherRows, having, other_rows, rows_of_unit}
 use Rattle.table_worlds.specs.declared.keys.NumberedTable.TheVariants as table
 use Rattle.table_worlds.specs.declared.keys.WorldKey.{WorldKey}
 use Rattle.table_worlds.proofs.ByPlace.{nth_next, all_got}
@@ -40,8 +40,8 @@ use Rattle.table_worlds.proofs.UnitRowsRead.{length-map_from, written_at}
 use Rattle.table_decoding.specs.Decoding.{of_unit, of_mark}
 use Rattle.table_decoding.proofs.RowsInOrder.{unit_rows, mark_rows}
 use Rattle.table_reading.specs.Counting.{is_numbered, next_number, noted, none_noted}
-use Rattle.table_reading.specs.Reading.{AllRows, AreAllRead, AreTyped, StandFor, reading_of}
-use Rattle.table_reading.specs.Testing.{StandsAt, AreTested, IsFit}
+use Rattle.table_reading.specs.Reading.{AllRows, AreAllRead, AreTyped, Represent, reading_of}
+use Rattle.table_reading.specs.Testing.{PassesAt, AreTested, IsFit}
 use Rattle.table_reading.specs.declared.counts.UnitCounts.{UnitCounts}
 use Rattle.table_reading.specs.declared.rows.Reading.{Reading}
 use Rattle.table_reading.proofs.CallsTested.{calls_tested}
@@ -105,19 +105,19 @@ module _ (db : Database) (known : AreKnown db) (all : AllRows) (read : AreAllRea
 
   -- ---- if everything was tested
 
-  module _ (fit : IsFit d (reading_of all)) (tested : AreTested db.trees d counts (length counts) books) (beside : AreRowsBeside w (rows_beside all.world)) where
+  module _ (fit : IsFit d (reading_of all)) (tested : AreTested db.trees d counts (length counts) books) (beside : AreOtherRows w (other_rows all.world)) where
     -- the workunit at an index passes, with `n` instances
-    stands : (i : ℕ) (b : UnitBook) → slice_get books i ≡ Some b → (n : ℕ) × (slice_get counts i ≡ Some n) × StandsAt db.trees d (i + 1) n b
+    stands : (i : ℕ) (b : UnitBook) → slice_get books i ≡ Some b → (n : ℕ) × (slice_get counts i ≡ Some n) × PassesAt db.trees d (i + 1) n b
     stands i b is =
         let within = slice_get_within books i b is in
         let n = stands_within counts i (omega (arith, within, tested.all)) in
         (n.0, n.1, tested.each i n.0 b n.1 is)
 
-    instances_counted : (i : ℕ) (b : UnitBook) (n : ℕ) → StandsAt db.trees d (i + 1) n b → length b.instances ≡ n
+    instances_counted : (i : ℕ) (b : UnitBook) (n : ℕ) → PassesAt db.trees d (i + 1) n b → length b.instances ≡ n
     instances_counted i b n at = sym (length-map_from (λ k x. instance_row d b (i + 1) (k - 1) x) 1 b.instances) ∙ at.found.instances_at.count
 
     -- the row of an instance is at its key
-    instance_at : (i k n : ℕ) (b : UnitBook) (x : Job) → StandsAt db.trees d (i + 1) n b → slice_get b.instances k ≡ Some x
+    instance_at : (i k n : ℕ) (b : UnitBook) (x : Job) → PassesAt db.trees d (i + 1) n b → slice_get b.instances k ≡ Some x
         → look_up db.trees (instance_key (i + 1) k) ≡ Some (columns_of (stored.Instance (instance_row d b (i + 1) k x)))
     instance_at i k n b x at is =
         at.found.instances_at.at k (instance_row d b (i + 1) k x)
@@ -140,7 +140,7 @@ module _ (db : Database) (known : AreKnown db) (all : AllRows) (read : AreAllRea
     -- if there are as many rows as workunits, and each is at the key of a row of its workunit, they are these rows
     rows_listed : (f : ℕ → UnitBook → StoredRow) (key : ℕ → RowKey) (rows : List StoredRow) → length rows ≡ length books
         → ((i : ℕ) (r : StoredRow) → slice_get rows i ≡ Some r → look_up db.trees (key (i + 1)) ≡ Some (columns_of r))
-        → ((i n : ℕ) (b : UnitBook) → StandsAt db.trees d (i + 1) n b → look_up db.trees (key (i + 1)) ≡ Some (columns_of (f (i + 1) b)))
+        → ((i n : ℕ) (b : UnitBook) → PassesAt db.trees d (i + 1) n b → look_up db.trees (key (i + 1)) ≡ Some (columns_of (f (i + 1) b)))
         → rows ≡ map_from 1 f books
     rows_listed f key rows few found here = same_each rows (map_from 1 f books) (few ∙ sym (length-map_from f 1 books)) one
       where
@@ -243,18 +243,18 @@ module _ (db : Database) (known : AreKnown db) (all : AllRows) (read : AreAllRea
           units = books_sound;
         }
 
-    pub stand_for : StandFor w all
+    pub stand_for : Represent w all
     stand_for = record {
       sound = sound;
       rows = record {
         settings = beside.settings;
-        accounts = beside.accounts ∙ same_rows (row_beside w) (row_in w) (keyed table.Account) (λ id. refl) (range_with_len 1 (length d.accounts));
-        apps = beside.apps ∙ same_rows (row_beside w) (row_in w) (keyed table.App) (λ id. refl) (range_with_len 1 (length d.apps));
-        versions = beside.versions ∙ same_rows (row_beside w) (row_in w) (keyed table.Version) (λ id. refl) (range_with_len 1 (length d.versions));
-        classes = beside.classes ∙ same_rows (row_beside w) (row_in w) (keyed table.Class) (λ id. refl) (range_with_len 1 (length d.versions));
+        accounts = beside.accounts ∙ same_rows (other_row w) (row_in w) (keyed table.Account) (λ id. refl) (range_with_len 1 (length d.accounts));
+        apps = beside.apps ∙ same_rows (other_row w) (row_in w) (keyed table.App) (λ id. refl) (range_with_len 1 (length d.apps));
+        versions = beside.versions ∙ same_rows (other_row w) (row_in w) (keyed table.Version) (λ id. refl) (range_with_len 1 (length d.versions));
+        classes = beside.classes ∙ same_rows (other_row w) (row_in w) (keyed table.Class) (λ id. refl) (range_with_len 1 (length d.versions));
         units = units_listed;
         marks = marks_listed;
-        hosts = beside.hosts ∙ same_rows (row_beside w) (row_in w) (keyed table.Host) (λ id. refl) (range_with_len 1 (length d.hosts));
+        hosts = beside.hosts ∙ same_rows (other_row w) (row_in w) (keyed table.Host) (λ id. refl) (range_with_len 1 (length d.hosts));
         instances = (listed, among);
       };
       calls = sym (calls_tested w all) ∙ fit.calls;
@@ -263,7 +263,7 @@ module _ (db : Database) (known : AreKnown db) (all : AllRows) (read : AreAllRea
 
   -- ---- if the rows are those of a sound world
 
-  module _ (stand : StandFor w all) where
+  module _ (stand : Represent w all) where
     holds : HoldWorld db w (calls_in db.trees) (batches_in db.trees)
     holds = held_by_rows db w all known read stand
 
@@ -385,14 +385,14 @@ module _ (db : Database) (known : AreKnown db) (all : AllRows) (read : AreAllRea
       names = stand.sound.rows.unit_names;
     }
 
-    pub rows_are : AreRowsBeside w (rows_beside all.world)
+    pub rows_are : AreOtherRows w (other_rows all.world)
     rows_are = record {
       settings = stand.rows.settings;
-      accounts = stand.rows.accounts ∙ sym (same_rows (row_beside w) (row_in w) (keyed table.Account) (λ id. refl) (range_with_len 1 (length d.accounts)));
-      apps = stand.rows.apps ∙ sym (same_rows (row_beside w) (row_in w) (keyed table.App) (λ id. refl) (range_with_len 1 (length d.apps)));
-      versions = stand.rows.versions ∙ sym (same_rows (row_beside w) (row_in w) (keyed table.Version) (λ id. refl) (range_with_len 1 (length d.versions)));
-      classes = stand.rows.classes ∙ sym (same_rows (row_beside w) (row_in w) (keyed table.Class) (λ id. refl) (range_with_len 1 (length d.versions)));
-      hosts = stand.rows.hosts ∙ sym (same_rows (row_beside w) (row_in w) (keyed table.Host) (λ id. refl) (range_with_len 1 (length d.hosts)));
+      accounts = stand.rows.accounts ∙ sym (same_rows (other_row w) (row_in w) (keyed table.Account) (λ id. refl) (range_with_len 1 (length d.accounts)));
+      apps = stand.rows.apps ∙ sym (same_rows (other_row w) (row_in w) (keyed table.App) (λ id. refl) (range_with_len 1 (length d.apps)));
+      versions = stand.rows.versions ∙ sym (same_rows (other_row w) (row_in w) (keyed table.Version) (λ id. refl) (range_with_len 1 (length d.versions)));
+      classes = stand.rows.classes ∙ sym (same_rows (other_row w) (row_in w) (keyed table.Class) (λ id. refl) (range_with_len 1 (length d.versions)));
+      hosts = stand.rows.hosts ∙ sym (same_rows (other_row w) (row_in w) (keyed table.Host) (λ id. refl) (range_with_len 1 (length d.hosts)));
     }
 
     sound_without : d.units ≡ [] → Sound d
@@ -433,17 +433,17 @@ module _ (db : Database) (known : AreKnown db) (all : AllRows) (read : AreAllRea
 -- ---- the same for a reading, which keeps less than the rows
 
 module _ (db : Database) (known : AreKnown db) (all : AllRows) (read : AreAllRead db.trees all) (typed : AreTyped all) (r : Reading) (is : r ≡ reading_of all) (d : World) (books : List UnitBook) where
-  pub stand_read : IsFit d r → AreTested db.trees d r.units.counts (length r.units.counts) books → AreRowsBeside (having d books) r.rows → StandFor (having d books) all
+  pub stand_read : IsFit d r → AreTested db.trees d r.units.counts (length r.units.counts) books → AreOtherRows (having d books) r.rows → Represent (having d books) all
   stand_read =
-      subst (λ (q : Reading). IsFit d q → AreTested db.trees d q.units.counts (length q.units.counts) books → AreRowsBeside (having d books) q.rows → StandFor (having d books) all) (sym is)
+      subst (λ (q : Reading). IsFit d q → AreTested db.trees d q.units.counts (length q.units.counts) books → AreOtherRows (having d books) q.rows → Represent (having d books) all) (sym is)
       (stand_for db known all read typed d books)
 
-  module _ (stand : StandFor (having d books) all) where
+  module _ (stand : Represent (having d books) all) where
     pub fit_read : d.units ≡ [] → IsFit d r
     fit_read none = subst (IsFit d) (sym is) (is_fit db known all read typed d books stand none)
 
     pub tested_read : AreTested db.trees d r.units.counts (length r.units.counts) books
     tested_read = subst (λ (q : Reading). AreTested db.trees d q.units.counts (length q.units.counts) books) (sym is) (tested_all db known all read typed d books stand)
 
-    pub beside_read : AreRowsBeside (having d books) r.rows
-    beside_read = subst (λ (q : Reading). AreRowsBeside (having d books) q.rows) (sym is) (rows_are db known all read typed d books stand)
+    pub beside_read : AreOtherRows (having d books) r.rows
+    beside_read = subst (λ (q : Reading). AreOtherRows (having d books) q.rows) (sym is) (rows_are db known all read typed d books stand)

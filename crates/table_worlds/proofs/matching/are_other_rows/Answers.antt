@@ -1,7 +1,7 @@
 use Rattle.std.proofs.Common.{rules}
 use Rattle.table_worlds.specs.RowsOf.{having}
-use Rattle.table_worlds.proofs.TablesBeside.{all_beside, each_beside}
-use Rattle.table_worlds.proofs.matching.are_rows_beside.Goals as goal
+use Rattle.table_worlds.proofs.OtherTables.{all_beside, each_beside}
+use Rattle.table_worlds.proofs.matching.are_other_rows.Goals as goal
 
 pub returns-then-settings : goal.returns-then-settings
 returns-then-settings c = λ books counted.
