@@ -18,15 +18,15 @@ use Rattle.sched_book.specs.declared.instance.Instance.{Instance as Job}
 use Rattle.sched_book.specs.declared.rows.Account.{Account}
 use Rattle.sched_book.specs.declared.rows.App.{App}
 use Rattle.sched_book.specs.declared.rows.HostRow.{HostRow}
+use Rattle.sched_book.specs.declared.rows.Workunit.{Workunit}
 use Rattle.sched_book.specs.declared.world.World.{World}
 use Rattle.sched_book.proofs.ByPlace.{same_by_index}
 use Rattle.table_desk.specs.Columns.{counted_host_at}
-use Rattle.table_desk.specs.FirstPage.{IsFirstPageOf}
 use Rattle.table_desk.specs.declared.hosts.CountedHost.{CountedHost}
 use Rattle.table_meaning.specs.declared.rows.StoredInstance.{StoredInstance}
 use Rattle.table_meaning.specs.declared.rows.StoredRow.{StoredRow}
 use Rattle.table_meaning.specs.declared.rows.StoredRow.TheVariants as stored
-use Rattle.table_meaning.specs.Rows.{RowKey, host_key, instance_key, kept_key, batch_key, key_of, same_key}
+use Rattle.table_meaning.specs.Rows.{RowKey, unit_key, host_key, instance_key, kept_key, batch_key, key_of, same_key}
 use Rattle.table_meaning.specs.Worlds.{SlotCalls, contents_of}
 use Rattle.table_meaning.proofs.Keys.{one_key}
 use Rattle.table_worlds.proofs.KeysListed.{row_has_key}
@@ -41,14 +41,19 @@ use Rattle.stores.specs.declared.entry.Entry.TheVariants as entry
 use Rattle.sched_tables.specs.Commits.{ArePut}
 use Rattle.sched_tables.specs.Entries.{IsRowOf, ArePutWith}
 use Rattle.sched_tables.specs.Carrying.{IsOtherKey, IsUnput, IsPut, IsStillKnown, job_of, counted_of, with_host, with_hosts, with_job, with_jobs, shares, sent_among, AreCarried, AreOfHosts, AreOfJobs}
-use Rattle.sched_tables.specs.Covering.{jobs_of, waiting_of, with_wait, with_waits, AreSkipsFor}
+use Rattle.sched_tables.specs.Covering.{jobs_of, with_wait, with_waits, AreSkipsFor}
+use Rattle.table_desk.specs.WaitingPage.{waiting_of, IsPageFor}
+use Rattle.sched_tables.specs.Holding.{holders_of, AreHeldOf, IsHeldOf}
+use Rattle.sched_tables.specs.Keys.{title_at, with_title, with_titles, AreKeysOf, AreNamesOf, IsFirstHost, IsFirstUnit}
 use Rattle.sched_tables.specs.Remembering.{IsAccountOf, IsVersionOf, IsSlotOf, AreRemembered}
 use Rattle.sched_tables.specs.RowsRead.{HoldOfEach, AreSome}
 use Rattle.sched_tables.specs.declared.remembered.Remembered.{Remembered}
 use Rattle.sched_tables.specs.declared.remembered.VersionRead.{VersionRead}
 use Rattle.sched_tables.specs.declared.rows_read.RowsRead.{RowsRead}
-use Rattle.sched_tables.proofs.ToldByRows.{same_accounts, same_apps, same_versions, same_workunit, same_host, queued_of, host_told, job_told, waiting_told}
+use Rattle.sched_tables.proofs.ToldByRows.{same_accounts, same_apps, same_versions, same_workunit, same_host, queued_of, title_of, host_told, job_told, title_told, waiting_told}
 use Rattle.sched_tables.proofs.CreditMoves.{credit_shared}
+use Rattle.sched_tables.proofs.HeldMoves.{they_are_held}
+use Rattle.sched_tables.proofs.KeyMoves.{first_host, host_of_first, first_unit, unit_of_first}
 use Rattle.sched_tables.proofs.SentMoves.{most_numbers, sent_shared}
 
 -- ---- keys at which no row is put
@@ -223,6 +228,46 @@ host_known rows hosts number = known_after counted_of (host_key number) with_hos
 pub known_of_world : (w : World) (calls : SlotCalls) (r : Remembered) → AreRemembered w calls r → AreOfHosts (counted_host_at w) r.hosts r.credits
 known_of_world w calls r known = record { each = known.hosts; end = suc (length w.hosts); credited = λ account credit is more. known.credits account credit is ∙ credit_shared w account more }
 
+-- and so are the keys of hosts
+pub keys_of_world : (w : World) (calls : SlotCalls) (r : Remembered) → AreRemembered w calls r → AreKeysOf (counted_host_at w) r.keys
+keys_of_world w calls r known = record { each = λ cpid k is. first_host w k.account cpid k.host (known.keys cpid k is) }
+
+-- ---- names of workunits of rows that are put
+
+-- the same of the name of the workunit at a place
+place_of_unit : RowKey → ℕ
+place_of_unit (unit_key place) = place
+place_of_unit other = 0
+
+one_title : (r : StoredRow) (titles : ℕ → Option (List ℕ)) (place : ℕ) → IsStillKnown (IsOtherKey r) (λ s. s ≡ r) title_of (unit_key place) (titles place) (with_title titles r place)
+unfolding place_of_unit
+one_title (stored.Unit row) titles place = cases (eqb row.id place) refl
+  where
+    cases : (b : Bool) → eqb row.id place ≡ b
+        → IsStillKnown (IsOtherKey (stored.Unit row)) (λ s. s ≡ stored.Unit row) title_of (unit_key place) (titles place) (cond b (Some row.name) (titles place))
+    cases true is = inr (stored.Unit row, refl, ap unit_key (eqb-true row.id place is), refl)
+    cases false is = inl ((λ same. true≢false (sym (eq-eqb row.id place (ap place_of_unit same)) ∙ is)), refl)
+one_title (stored.Setting row) titles place = inl ((λ same. absurd cc), refl)
+one_title (stored.Account row) titles place = inl ((λ same. absurd cc), refl)
+one_title (stored.App row) titles place = inl ((λ same. absurd cc), refl)
+one_title (stored.Version row) titles place = inl ((λ same. absurd cc), refl)
+one_title (stored.Host row) titles place = inl ((λ same. absurd cc), refl)
+one_title (stored.Instance row) titles place = inl ((λ same. absurd cc), refl)
+one_title (stored.Kept row) titles place = inl ((λ same. absurd cc), refl)
+one_title (stored.Batch row) titles place = inl ((λ same. absurd cc), refl)
+one_title (stored.VersionClass row) titles place = inl ((λ same. absurd cc), refl)
+one_title (stored.UnitMark row) titles place = inl ((λ same. absurd cc), refl)
+
+pub title_known : (rows : List StoredRow) (titles : ℕ → Option (List ℕ)) (place : ℕ) → IsStillKnown (IsUnput rows) (IsPut rows) title_of (unit_key place) (titles place) (with_titles titles rows place)
+title_known rows titles place = known_after title_of (unit_key place) with_title (λ (ts : ℕ → Option (List ℕ)). ts place) (λ r ts. one_title r ts place) rows titles
+
+-- what is known of a world's workunits and of their names is theirs
+pub names_of_world : (w : World) (calls : SlotCalls) (r : Remembered) → AreRemembered w calls r → AreNamesOf (title_at w) r.units r.names
+names_of_world w calls r known = record {
+  each = λ n u is. ap (option_map (λ (u : Workunit). u.name)) (known.units n u is);
+  first = λ name n is. first_unit w name n (known.names name n is);
+}
+
 -- ---- instances of rows that are put
 
 -- the same of the instance of a workunit and a number
@@ -300,7 +345,9 @@ module _ (w w' : World) (readable : IsReadable w) (readable' : IsReadable w') (S
     (hosts : ℕ → Option CountedHost) (known : (n : ℕ) → IsStillKnown Stays Puts counted_of (host_key n) (counted_host_at w n) (hosts n))
     (jobs : ℕ → ℕ → Option Job) (jobs_known : (n num : ℕ) → IsStillKnown Stays Puts job_of (instance_key n num) (jobs_of w n num) (jobs n num))
     (waiting : ℕ → ℕ → Option Bool) (waits_known : (n num : ℕ) → IsStillKnown Stays Puts queued_of (instance_key n num) (waiting_of w n num) (waiting n num))
-    (calls calls' : SlotCalls) (old new : Remembered) (of_hosts : AreOfHosts hosts new.hosts new.credits) (of_jobs : AreOfJobs jobs new.instances new.sent) (of_skips : AreSkipsFor waiting jobs hosts new.skips) (left : AreCarried Stays old new) (none : new.slot ≡ None) (no_page : new.page ≡ None) (before : AreRemembered w calls old) where
+    (titles : ℕ → Option (List ℕ)) (titles_known : (n : ℕ) → IsStillKnown Stays Puts title_of (unit_key n) (title_at w n) (titles n))
+    (calls calls' : SlotCalls) (old new : Remembered) (of_hosts : AreOfHosts hosts new.hosts new.credits) (of_jobs : AreOfJobs jobs new.instances new.sent) (of_skips : AreSkipsFor waiting jobs hosts new.skips) (of_page : IfSome new.page (IsPageFor waiting)) (of_held : AreHeldOf (holders_of jobs) new.held)
+    (of_keys : AreKeysOf hosts new.keys) (of_names : AreNamesOf titles new.units new.names) (left : AreCarried Stays old new) (none : new.slot ≡ None) (before : AreRemembered w calls old) where
   apps_stay : ((id : ℕ) → Stays (row_key (key.App id))) → w.apps ≡ w'.apps
   apps_stay unput = same_apps w w' readable readable' (λ n. stay (key.App n) (unput n))
 
@@ -335,6 +382,12 @@ module _ (w w' : World) (readable : IsReadable w) (readable' : IsReadable w') (S
     | inr told ↦ told.3 ∙ sym (ap (option_map counted_of) (put told.0 (key.Host n) told.1 told.2)) ∙ sym (host_told w' readable' n)
   ]
 
+  titles_then : (n : ℕ) → titles n ≡ title_at w' n
+  titles_then n = elim (titles_known n) [
+    | inl still ↦ still.1 ∙ title_told w n ∙ ap (option_map title_of) (stay (key.Unit n) still.0) ∙ sym (title_told w' n)
+    | inr told ↦ told.3 ∙ sym (ap (option_map title_of) (put told.0 (key.Unit n) told.1 told.2)) ∙ sym (title_told w' n)
+  ]
+
   pub remembered_then : AreRemembered w' calls' new
   remembered_then = record {
     units = holds_of_some nat_cmp _ (λ n u. workunit_at w n ≡ Some u) (λ n u. workunit_at w' n ≡ Some u) old.units new.units left.units before.units
@@ -350,11 +403,14 @@ module _ (w w' : World) (readable : IsReadable w) (readable' : IsReadable w') (S
         let numbers : most_numbers w'.units + of_jobs.numbers ≡ of_jobs.numbers + most_numbers w'.units = omega arith in
         of_jobs.counted host s is (suc (length w'.units)) (most_numbers w'.units) ∙ (λ i. sent_among jobs host s.day (sym units i) (sym numbers i))
         ∙ (λ i. sent_among (λ n num. jobs_then n num i) host s.day (suc (length w'.units) + of_jobs.units) (most_numbers w'.units + of_jobs.numbers)) ∙ sym (sent_shared w' host s.day of_jobs.units of_jobs.numbers);
+    held = λ host places is. they_are_held w' host places (subst (λ (js : ℕ → ℕ → Option Job). IsHeldOf (holders_of js) host places) (λ i n num. jobs_then n num i) (of_held host places is));
     accounts = holds_of_some (slice_cmp nat_cmp) _ (IsAccountOf w) (IsAccountOf w') old.accounts new.accounts left.accounts before.accounts
         (λ name a unput is. subst (λ (accounts : List Account). placed_where (λ (a : Account). bytes_eq a.authenticator name) accounts ≡ Some (record { place = a.place; row = a.row })) (same_accounts w w' readable readable' (λ n. stay (key.Account n) (unput n))) is);
+    keys = λ cpid k is. host_of_first w' k.account cpid k.host (subst (λ (hs : ℕ → Option CountedHost). IsFirstHost hs k.account cpid k.host) (λ i n. are_then n i) (of_keys.each cpid k is));
+    names = λ name n is. unit_of_first w' name n (subst (λ (ts : ℕ → Option (List ℕ)). IsFirstUnit ts name n) (λ i m. titles_then m i) (of_names.first name n is));
     versions = versions_left old.versions.items new.versions.items left.versions before.versions;
     slot = subst (λ o. IfSome o (IsSlotOf calls')) (sym none) tt;
-    page = subst (λ o. IfSome o (IsFirstPageOf w')) (sym no_page) tt;
+    page = subst (λ (ws : ℕ → ℕ → Option Bool). IfSome new.page (IsPageFor ws)) (λ i n num. waits_then n num i) of_page;
     skips =
         subst (λ (ws : ℕ → ℕ → Option Bool). AreSkipsFor ws (jobs_of w') (counted_host_at w') new.skips) (λ i n num. waits_then n num i)
         (subst (λ (js : ℕ → ℕ → Option Job). AreSkipsFor waiting js (counted_host_at w') new.skips) (λ i n num. jobs_then n num i)

@@ -1,5 +1,6 @@
 pub mod FourKept
 pub mod HadBy
+pub mod HeldMoves
 pub mod EntriesKept
 pub mod Carried
 pub mod Leads
@@ -18,6 +19,8 @@ pub mod Upgraded
 pub mod UpgradedTexts
 pub mod TextsKept
 pub mod CreditMoves
+pub mod InstanceListed
+pub mod KeyMoves
 pub mod SkipMoves
 pub mod SentMoves
 mod AppsBrought

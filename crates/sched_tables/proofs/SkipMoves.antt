@@ -26,7 +26,8 @@ use Rattle.table_meaning.specs.declared.rows.StoredRow.{StoredRow}
 use Rattle.table_meaning.specs.declared.rows.StoredRow.TheVariants as stored
 use Rattle.table_worlds.specs.ReadBack.{number_at, number_in, owner_in}
 use Rattle.sched_tables.specs.Carrying.{counted_of, job_of, with_host, with_hosts, with_job, with_jobs}
-use Rattle.sched_tables.specs.Covering.{with_wait, with_wait_at, with_waits, AreSkipsFor, IsSkipFor, IsHadBefore, IsUserSkip, KeepsAccount, KeepsHost, WasGiven}
+use Rattle.sched_tables.specs.Covering.{with_wait, with_waits, AreSkipsFor, IsSkipFor, IsHadBefore, IsUserSkip, KeepsAccount, KeepsHost, WasGiven}
+use Rattle.table_desk.specs.WaitingPage.{with_wait_at}
 use Rattle.sched_tables.specs.declared.skips.Skips.{Skips}
 use Rattle.sched_tables.specs.declared.skips.UserSkip.{UserSkip}
 

@@ -27,7 +27,8 @@ use Rattle.table_worlds.specs.Keys.{row_in}
 use Rattle.table_worlds.specs.ReadBack.{account_in, app_in, version_in, unit_in}
 use Rattle.table_worlds.specs.Readable.{IsReadable}
 use Rattle.sched_tables.specs.Carrying.{job_of, counted_of}
-use Rattle.sched_tables.specs.Covering.{waiting_of}
+use Rattle.table_desk.specs.WaitingPage.{waiting_of}
+use Rattle.sched_tables.specs.Keys.{title_at}
 use Rattle.table_worlds.specs.declared.keys.WorldKey.TheVariants.{Account as account_at, App as app_at, Version as version_at, Class as class_at, Unit as unit_key_at, Mark as mark_at, Host as host_key_at, Instance as job_at}
 use Rattle.texts.specs.Words.{IsWord}
 
@@ -50,6 +51,11 @@ abbrev pub queued_of : StoredRow → Bool
 queued_of (stored.Instance row) = row.queued
 queued_of other = false
 
+-- the name of the workunit of a row
+abbrev pub title_of : StoredRow → List ℕ
+title_of (stored.Unit row) = row.name
+title_of other = []
+
 -- ---- lists by what is at each place
 
 -- ---- a world follows from its rows
@@ -70,6 +76,13 @@ waiting_told w unit num = go (unit_at w unit)
         ≡ option_map queued_of (option_and_then (λ (b : UnitBook). option_map (λ (x : Job). stored.Instance (instance_row w b unit num x)) (slice_get b.instances num)) o)
     go None = refl
     go (Some b) = of_book b (slice_get b.instances num)
+
+pub title_told : (w : World) (n : ℕ) → title_at w n ≡ option_map title_of (row_in w (unit_key_at n))
+title_told w n = go (unit_at w n)
+  where
+    go : (o : Option UnitBook) → option_map (λ (u : Workunit). u.name) (option_map (λ (b : UnitBook). b.unit) o) ≡ option_map title_of (option_map (λ (b : UnitBook). stored.Unit (unit_row w n b)) o)
+    go None = refl
+    go (Some b) = refl
 
 module _ (w : World) (readable : IsReadable w) where
   account_told : (n : ℕ) → nth w.accounts n ≡ option_map account_of (row_in w (account_at n))

@@ -1,12 +1,12 @@
 -- Rule. What the skips of users cover, by the rows of instances and hosts.
-use Rattle.std.specs.Prelude.{◌≡◌, ◌==◌, ℕ, true, Bool, ◌&&◌, if◌then◌else◌, is_none, List, All, fold, slice_get, Option, Some, None, IsTrue, option_and_then, option_map}
-use Rattle.sched_book.specs.Count.{is_open}
+use Rattle.std.specs.Prelude.{◌≡◌, ℕ, true, Bool, List, All, fold, slice_get, Option, Some, None, IsTrue}
 use Rattle.sched_book.specs.Desk.{instances_at}
-use Rattle.sched_book.specs.Places.{is_before, status_of, unit_at}
+use Rattle.sched_book.specs.Places.{is_before}
 use Rattle.sched_book.specs.declared.instance.Instance.{Instance}
 use Rattle.sched_book.specs.declared.instance.Owner.{Owner}
 use Rattle.sched_book.specs.declared.instance.Place.{Place}
 use Rattle.sched_book.specs.declared.world.World.{World}
+use Rattle.table_desk.specs.WaitingPage.{with_wait_at}
 use Rattle.table_desk.specs.Skips.{SkipPlaces, no_skip, covers}
 use Rattle.table_desk.specs.declared.hosts.CountedHost.{CountedHost}
 use Rattle.table_meaning.specs.declared.rows.StoredHost.{StoredHost}
@@ -16,11 +16,7 @@ use Rattle.table_meaning.specs.declared.rows.StoredRow.TheVariants as stored
 use Rattle.sched_tables.specs.declared.skips.Skips.{Skips}
 use Rattle.sched_tables.specs.declared.skips.UserSkip.{UserSkip}
 
--- ---- what waits, by workunit and number: nothing is said where there is no instance
-
--- with this at a place
-abbrev pub with_wait_at : (ℕ → ℕ → Option Bool) → ℕ → ℕ → Bool → ℕ → ℕ → Option Bool
-with_wait_at waiting unit number b other at = if unit == other then if number == at then Some b else waiting other at else waiting other at
+-- ---- what waits, by workunit and number
 
 -- with what a row says
 abbrev pub with_wait : (ℕ → ℕ → Option Bool) → StoredRow → ℕ → ℕ → Option Bool
@@ -30,10 +26,6 @@ with_wait waiting other = waiting
 -- and with what each of these rows says, in turn
 abbrev pub with_waits : (ℕ → ℕ → Option Bool) → List StoredRow → ℕ → ℕ → Option Bool
 with_waits = fold with_wait
-
--- whether the instances of a world wait
-abbrev pub waiting_of : World → ℕ → ℕ → Option Bool
-waiting_of w unit number = option_and_then (λ b. option_map (λ x. is_open (status_of w b) && is_none x.owner) (slice_get b.instances number)) (unit_at w unit)
 
 -- ---- jobs that a user had
 

@@ -3,7 +3,9 @@ pub mod Commits
 pub mod Entries
 pub mod Held
 pub mod Carrying
+pub mod Keys
 pub mod Covering
+pub mod Holding
 pub mod Offering
 pub mod DueFrom
 pub mod Refusals

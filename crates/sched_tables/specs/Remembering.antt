@@ -4,16 +4,17 @@ use Rattle.std.specs.Cmp.Lexicographic.{slice_cmp}
 use Rattle.std.specs.Ordering.{nat_cmp}
 use Rattle.sched_book.specs.Desk.{account_by_key, workunit_at, instances_at}
 use Rattle.sched_book.specs.Fits.{version_at}
-use Rattle.sched_book.specs.Places.{sent_on_day, user_credit}
+use Rattle.sched_book.specs.Places.{held_by, known_host, sent_on_day, unit_named, user_credit}
 use Rattle.sched_book.specs.declared.rows.HostRow.{HostRow}
 use Rattle.sched_book.specs.declared.rows.Workunit.{Workunit}
 use Rattle.sched_book.specs.declared.world.World.{World}
 use Rattle.table_desk.specs.Columns.{counted_host_at}
-use Rattle.table_desk.specs.FirstPage.{IsFirstPageOf}
 use Rattle.table_meaning.specs.Worlds.{SlotCalls}
-use Rattle.sched_tables.specs.Covering.{jobs_of, waiting_of, AreSkipsFor}
+use Rattle.sched_tables.specs.Covering.{jobs_of, AreSkipsFor}
+use Rattle.table_desk.specs.WaitingPage.{waiting_of, IsPageOf}
 use Rattle.sched_tables.specs.RowsRead.{HoldOfEach}
 use Rattle.sched_tables.specs.Slots.{IsSlotFor}
+use Rattle.sched_tables.specs.declared.keys.HostKeyRead.{HostKeyRead}
 use Rattle.sched_tables.specs.declared.remembered.AccountRead.{AccountRead}
 use Rattle.sched_tables.specs.declared.remembered.Remembered.{Remembered}
 use Rattle.sched_tables.specs.declared.remembered.SlotRead.{SlotRead}
@@ -37,20 +38,31 @@ IsAccountOf w authenticator a = account_by_key w authenticator ≡ Some (record 
 abbrev pub IsVersionOf : World → VersionRead → Type 0
 IsVersionOf w v = (h : HostRow) → h.platforms ≡ v.platforms → version_at w h v.app ≡ Some v.row
 
+-- a host that was found is the one of its account and its host_cpid
+abbrev pub IsKeyOf : World → List ℕ → HostKeyRead → Type 0
+IsKeyOf w cpid k = known_host w k.account cpid ≡ Some k.host
+
+-- a workunit that was found is the one of its name
+abbrev pub IsNameOf : World → List ℕ → ℕ → Type 0
+IsNameOf w name unit = unit_named w name ≡ Some unit
+
 -- a slot that was found is the one for the next call of its host
 abbrev pub IsSlotOf : SlotCalls → SlotRead → Type 0
 IsSlotOf calls s = IsSlotFor (calls s.host) s.slot
 
--- What is remembered is what the world has, of what is unsent its first places from one place on, and of the calls in the slots of a host
--- which slot is for the next.
+-- What is remembered is what the world has, of what waits a page of its places, and of the calls in the slots of a host which slot is for the
+-- next.
 pub record AreRemembered (w : World) (calls : SlotCalls) (r : Remembered) : Type 0 where
   pub units : AreUnitsOf w r.units
   pub instances : HoldOfEach nat_cmp (λ n xs. xs ≡ instances_at w n) r.instances
   pub hosts : HoldOfEach nat_cmp (λ n h. counted_host_at w n ≡ Some h) r.hosts
   pub credits : HoldOfEach nat_cmp (λ account credit. credit ≡ user_credit w account) r.credits
   pub sent : HoldOfEach nat_cmp (λ host s. s.count ≡ sent_on_day w host s.day) r.sent
+  pub held : HoldOfEach nat_cmp (λ host places. places ≡ held_by w host) r.held
   pub accounts : HoldOfEach (slice_cmp nat_cmp) (IsAccountOf w) r.accounts
+  pub keys : HoldOfEach (slice_cmp nat_cmp) (IsKeyOf w) r.keys
+  pub names : HoldOfEach (slice_cmp nat_cmp) (IsNameOf w) r.names
   pub versions : All (IsVersionOf w) r.versions.items
   pub slot : IfSome r.slot (IsSlotOf calls)
-  pub page : IfSome r.page (IsFirstPageOf w)
+  pub page : IfSome r.page (IsPageOf w)
   pub skips : AreSkipsFor (waiting_of w) (jobs_of w) (counted_host_at w) r.skips

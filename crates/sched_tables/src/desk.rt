@@ -29,7 +29,10 @@ impl<S: Alter> Units for Tables<S> {
     ghost reads = { AreReadOn S.Store };
 
     fn unit_by_name(&mut self, name: &str) -> Result<Option<u32>, Unavailable> {
-        table_desk::unit_by_name(self.alloc, &mut self.conn, name)
+        match self.remembered.unit_named(self.alloc, name)? {
+            Some(unit) => Ok(Some(unit)),
+            None => self.read_unit_named(name),
+        }
     }
 
     fn unit(&mut self, alloc: Global, unit: u32) -> Result<Option<Workunit>, Unavailable> {
@@ -52,7 +55,10 @@ impl<S: Alter> Units for Tables<S> {
         unit: u32,
         number: u32,
     ) -> Result<Option<Instance>, Unavailable> {
-        table_desk::instance_at(alloc, &mut self.conn, unit, number)
+        match self.remembered.instance(unit, number)? {
+            Some(found) => Ok(Some(found)),
+            None => table_desk::instance_at(alloc, &mut self.conn, unit, number),
+        }
     }
 
     fn instances_of(&mut self, alloc: Global, unit: u32) -> Result<Listed<Instance>, Unavailable> {
@@ -112,7 +118,10 @@ impl<S: Alter> Desk for Tables<S> {
     }
 
     fn host_by_key(&mut self, account: u32, cpid: &str) -> Result<Option<u32>, Unavailable> {
-        table_desk::host_by_key(self.alloc, &mut self.conn, account, cpid)
+        match self.remembered.host_key(self.alloc, account, cpid)? {
+            Some(host) => Ok(Some(host)),
+            None => self.read_host_key(account, cpid),
+        }
     }
 
     fn host_by_id(&mut self, alloc: Global, host: u32) -> Result<Option<HostRow>, Unavailable> {
@@ -127,18 +136,14 @@ impl<S: Alter> Desk for Tables<S> {
     }
 
     fn held_by(&mut self, alloc: Global, host: u32) -> Result<Listed<Place>, Unavailable> {
-        let held = self.held_count(host)?;
-        if held == 0 {
-            return Ok(Listed::new(alloc));
+        match self.remembered.held(alloc, host)? {
+            Some(places) => Ok(places),
+            None => self.read_held(alloc, host),
         }
-        table_desk::held_by(alloc, &mut self.conn, host, held)
     }
 
     fn held_count(&mut self, host: u32) -> Result<u32, Unavailable> {
-        match self.counted_host(self.alloc, host)? {
-            None => table_desk::held_of_none_given(self.alloc, &mut self.conn, host),
-            Some(found) => Ok(found.held),
-        }
+        self.count_held(host)
     }
 
     fn owned_by(&mut self, alloc: Global, host: u32) -> Result<Listed<Place>, Unavailable> {

@@ -4,7 +4,9 @@
 mod committing;
 mod desk;
 mod due;
+mod holding;
 mod keeping;
+mod keys;
 pub mod laws;
 mod offering;
 mod opening;

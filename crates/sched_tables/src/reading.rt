@@ -1,20 +1,39 @@
 //! Rows read by their keys, and remembered until the next commit.
 
 ghost use Rattle.std.specs.Prelude.{◌≡◌, ◌≤◌, length, IfOk};
+ghost use Rattle.sqlite.specs.Held.{state};
 ghost use Rattle.sched_book.specs.Desk.{account_by_key, workunit_at, instances_at};
 ghost use Rattle.sched_book.specs.Fits.{version_at};
 ghost use Rattle.sched_book.specs.Limits.{most_instances};
-ghost use Rattle.sched_book.specs.Places.{sent_on_day, user_credit};
+ghost use Rattle.sched_book.specs.Places.{held_by, known_host, sent_on_day, unit_named, user_credit};
+ghost use Rattle.table_desk.specs.Asked.{Asked};
 ghost use Rattle.table_desk.specs.Columns.{counted_host_at};
+ghost use Rattle.table_meaning.specs.Reads.{Reads};
 ghost use Rattle.sched_tables.specs.Held.{IsHonest};
 ghost use Rattle.sched_tables.specs.Views.{state_of, world_of, AreKept, AreReadOn};
 
 use crate::tables::Tables;
-use sched_book::{Account, HostRow, Instance, Placed, Unavailable, Version, Workunit};
-use sqlite::Alter;
+use sched_book::{Account, HostRow, Instance, Place, Placed, Unavailable, Version, Workunit};
+use sqlite::{Alter, Connection};
 use std::alloc::Global;
 use table_desk::CountedHost;
 use texts::Listed;
+
+/// The places that the host holds, in order, if it holds at most `most`. If that is none, no statement runs.
+fn places_held<S: Alter>(
+    alloc: Global,
+    conn: &mut Connection<S>,
+    host: u32,
+    most: u32,
+) -> Result<Listed<Place>, Unavailable>
+    ensures reads { Reads (state S.Store conn.old) (state S.Store conn.new) }
+    ensures answer { Asked S.Store conn.old conn.new (λ w. length (held_by w host) ≤ most → IfOk result (λ r. r ≡ held_by w host)) }
+{
+    if most == 0 {
+        return Ok(Listed::new(alloc));
+    }
+    table_desk::held_by(alloc, conn, host, most)
+}
 
 impl<S: Alter> Tables<S> {
     /// The workunit at this place, by a statement.
@@ -71,6 +90,32 @@ impl<S: Alter> Tables<S> {
         }
     }
 
+    /// How many instances this host holds.
+    pub(crate) fn count_held(&mut self, host: u32) -> Result<u32, Unavailable>
+        ensures reads { AreReadOn S.Store self.old self.new }
+        ensures answer { IsHonest (state_of S.Store self.new) → AreKept S.Store self.old → IfOk result (λ r. r ≡ length (held_by (world_of S.Store self.old) host)) }
+    {
+        match self.counted_host(self.alloc, host)? {
+            None => table_desk::held_of_none_given(self.alloc, &mut self.conn, host),
+            Some(found) => Ok(found.held),
+        }
+    }
+
+    /// The places that this host holds, in order, by a statement if there are any.
+    pub(crate) fn read_held(
+        &mut self,
+        alloc: Global,
+        host: u32,
+    ) -> Result<Listed<Place>, Unavailable>
+        ensures reads { AreReadOn S.Store self.old self.new }
+        ensures answer { IsHonest (state_of S.Store self.new) → AreKept S.Store self.old → IfOk result (λ r. r ≡ held_by (world_of S.Store self.old) host) }
+    {
+        let count = self.count_held(host)?;
+        let found = places_held(alloc, &mut self.conn, host, count)?;
+        self.remembered.remember_held(alloc, host, &found);
+        Ok(found)
+    }
+
     /// The credit of the user of this account, in millicredits, by a statement.
     pub(crate) fn read_credit(&mut self, account: u32) -> Result<u64, Unavailable>
         ensures reads { AreReadOn S.Store self.old self.new }
@@ -103,6 +148,31 @@ impl<S: Alter> Tables<S> {
         let found = table_desk::account_by_key(alloc, &mut self.conn, authenticator)?;
         self.remembered
             .remember_account(alloc, authenticator, &found);
+        Ok(found)
+    }
+
+    /// The number of the host with this account and this host_cpid, by a statement.
+    pub(crate) fn read_host_key(
+        &mut self,
+        account: u32,
+        cpid: &str,
+    ) -> Result<Option<u32>, Unavailable>
+        ensures reads { AreReadOn S.Store self.old self.new }
+        ensures answer { IsHonest (state_of S.Store self.new) → AreKept S.Store self.old → IfOk result (λ r. r ≡ known_host (world_of S.Store self.old) account cpid.now) }
+    {
+        let found = table_desk::host_by_key(self.alloc, &mut self.conn, account, cpid)?;
+        self.remembered
+            .remember_host_key(self.alloc, account, cpid, found);
+        Ok(found)
+    }
+
+    /// The place of the workunit of this name, by a statement.
+    pub(crate) fn read_unit_named(&mut self, name: &str) -> Result<Option<u32>, Unavailable>
+        ensures reads { AreReadOn S.Store self.old self.new }
+        ensures answer { IsHonest (state_of S.Store self.new) → AreKept S.Store self.old → IfOk result (λ r. r ≡ unit_named (world_of S.Store self.old) name.now) }
+    {
+        let found = table_desk::unit_by_name(self.alloc, &mut self.conn, name)?;
+        self.remembered.remember_unit_name(self.alloc, name, found);
         Ok(found)
     }
 

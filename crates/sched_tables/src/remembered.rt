@@ -1,23 +1,27 @@
 //! What was read, and is as it was read or as it was put since. So no row is asked for twice.
 
-ghost use Rattle.std.specs.Prelude.{◌≡◌, ◌+◌, ℕ, Bool, suc, All, None, Option, Some, IfOk, IfSome, IsTrue, option_and_then, slice_get};
+ghost use Rattle.std.specs.Prelude.{◌≡◌, ◌+◌, ℕ, Bool, suc, List, All, None, Option, Some, IfOk, IfSome, IsTrue, option_and_then, slice_get};
 ghost use Rattle.sched_book.specs.Desk.{account_by_key, workunit_at, instances_at};
 ghost use Rattle.sched_book.specs.Fits.{version_at};
-ghost use Rattle.sched_book.specs.Places.{sent_on_day, user_credit};
+ghost use Rattle.sched_book.specs.Places.{held_by, instance_at, known_host, sent_on_day, unit_named, user_credit};
 ghost use Rattle.sched_book.specs.declared.instance.Instance.{Instance as Job};
 ghost use Rattle.sched_book.specs.declared.rows.HostRow.{HostRow as BookHost};
 ghost use Rattle.sched_book.specs.declared.world.World.{World};
 ghost use Rattle.table_desk.specs.Columns.{counted_host_at};
 ghost use Rattle.table_desk.specs.declared.hosts.CountedHost.{CountedHost as Counted};
-ghost use Rattle.table_desk.specs.FirstPage.{IsFirstPageOf};
 ghost use Rattle.table_meaning.specs.Worlds.{SlotCalls};
 ghost use Rattle.table_meaning.specs.declared.rows.StoredRow.TheVariants as stored;
 ghost use Rattle.sched_tables.specs.Carrying.{counted_of, given_to, sending_of, with_counted, with_host, with_hosts, with_job, with_jobs, with_one, AreCarried, AreCreditsOf, AreOfHosts, AreOfJobs, AreSentOf, HaveOneMore, IsOtherKey, IsRenewed, IsUnput};
-ghost use Rattle.sched_tables.specs.Covering.{jobs_of, waiting_of, with_wait, with_waits, AreSkipsFor, IsSkipFor};
+ghost use Rattle.sched_tables.specs.Covering.{jobs_of, with_wait, with_waits, AreSkipsFor, IsSkipFor};
+ghost use Rattle.table_desk.specs.WaitingPage.{waiting_of, IsPageFor, IsPageOf};
+ghost use Rattle.sched_tables.specs.Holding.{holders_of, AreHeldOf};
+ghost use Rattle.sched_tables.specs.Keys.{with_title, with_titles, AreKeysOf, AreNamesOf};
 ghost use Rattle.sched_tables.specs.Remembering.{AreRemembered, IsUnitOf, IsVersionOf};
 ghost use Rattle.sched_tables.specs.Slots.{IsSlotFor};
 ghost use Rattle.sched_book.specs.Skipping.{HadAllBefore};
 
+use crate::holding::{are_too_many, copied, follow_held};
+use crate::keys::{HostKeyRead, follow_host_key, follow_unit_name};
 use crate::rows_read::RowsRead;
 use crate::skips::Skips;
 use sched_book::{Account, Instance, Place, Placed, Version, Workunit, copy_of};
@@ -303,16 +307,35 @@ fn renew_host(
     hosts.put(row.id, new);
 }
 
+/// Lets a page of what waits follow the row of an instance that was put. If it is not worth keeping then, it is forgotten.
+fn follow_page(alloc: Global, page: &mut Option<PageRead>, row: &StoredInstance)
+    ensures { (waiting : ℕ → ℕ → Option Bool) → IfSome page.old (IsPageFor waiting) → IfSome page.new (IsPageFor (with_wait waiting (stored.Instance row.now))) }
+{
+    let Some(mut read) = page.take() else {
+        return;
+    };
+    let place = Place {
+        unit: row.unit_id,
+        number: row.num,
+    };
+    if read.follow(alloc, place, row.queued) {
+        *page = Some(read);
+    }
+}
+
 /// What was read, and is as it was read or as it was put since: rows by their keys, credits by accounts, how many jobs hosts
-/// were sent on a day, versions, the slot for the next call of the host whose calls were read last, the first places of what
-/// waits that were read last, and the skips of users.
+/// were sent on a day, the places that hosts hold, hosts by their keys, workunits by their names, versions, the slot for the next
+/// call of the host whose calls were read last, the page of what waits that was read last, and the skips of users.
 pub(crate) struct Remembered {
     units: RowsRead<u32, Workunit>,
     instances: RowsRead<u32, Listed<Instance>>,
     hosts: RowsRead<u32, CountedHost>,
     credits: RowsRead<u32, u64>,
     sent: RowsRead<u32, SentRead>,
+    held: RowsRead<u32, Listed<Place>>,
     accounts: RowsRead<Text, AccountRead>,
+    keys: RowsRead<Text, HostKeyRead>,
+    names: RowsRead<Text, u32>,
     versions: Vec<VersionRead>,
     slot: Option<SlotRead>,
     page: Option<PageRead>,
@@ -328,7 +351,10 @@ impl Drop for Remembered {
             hosts: _hosts,
             credits: _credits,
             sent: _sent,
+            held: _held,
             accounts: _accounts,
+            keys: _keys,
+            names: _names,
             versions: _versions,
             slot: _slot,
             page: _page,
@@ -348,7 +374,10 @@ impl Remembered {
             hosts: RowsRead::new(alloc),
             credits: RowsRead::new(alloc),
             sent: RowsRead::new(alloc),
+            held: RowsRead::new(alloc),
             accounts: RowsRead::new(alloc),
+            keys: RowsRead::new(alloc),
+            names: RowsRead::new(alloc),
             versions: Vec::new(alloc),
             slot: None,
             page: None,
@@ -379,6 +408,20 @@ impl Remembered {
         ensures { (w : World) (calls : SlotCalls) → AreRemembered w calls self.now → IfOk result (λ r. IfSome r (λ xs. xs ≡ instances_at w unit)) }
     {
         self.instances.row(&unit)
+    }
+
+    /// The instance of this number of the workunit at this place, if the workunit's instances are remembered.
+    pub(crate) fn instance(&self, unit: u32, number: u32) -> Result<Option<Instance>, Memory>
+        ensures { (w : World) (calls : SlotCalls) → AreRemembered w calls self.now
+            → IfOk result (λ r. IfSome r (λ x. instance_at w (record { unit = unit; number = number }) ≡ Some x)) }
+    {
+        let Some(instances) = self.instances.seen(&unit) else {
+            return Ok(None);
+        };
+        match instances.as_slice().get(number as usize) {
+            None => Ok(None),
+            Some(instance) => Ok(Some(copy_of(instance)?)),
+        }
     }
 
     /// Remembers the instances of a workunit.
@@ -435,6 +478,28 @@ impl Remembered {
         self.sent.put(host, SentRead { day, count });
     }
 
+    /// The places that this host holds, in order.
+    pub(crate) fn held(&self, alloc: Global, host: u32) -> Result<Option<Listed<Place>>, Memory>
+        ensures { (w : World) (calls : SlotCalls) → AreRemembered w calls self.now → IfOk result (λ r. IfSome r (λ places. places ≡ held_by w host)) }
+    {
+        match self.held.seen(&host) {
+            None => Ok(None),
+            Some(places) => Ok(Some(copied(alloc, places)?)),
+        }
+    }
+
+    /// Remembers the places that a host holds, if there are not too many, and there is memory for them.
+    pub(crate) fn remember_held(&mut self, alloc: Global, host: u32, found: &Listed<Place>)
+        ensures { (w : World) (calls : SlotCalls) → AreRemembered w calls self.old → found.now ≡ held_by w host → AreRemembered w calls self.new }
+    {
+        if are_too_many(found) {
+            return;
+        }
+        if let Ok(places) = copied(alloc, found) {
+            self.held.put(host, places);
+        }
+    }
+
     /// The account with this authenticator.
     pub(crate) fn account(
         &self,
@@ -465,6 +530,56 @@ impl Remembered {
         };
         if let Ok(read) = account_read(found) {
             self.accounts.put(key, read);
+        }
+    }
+
+    /// The number of the host with this account and this host_cpid.
+    pub(crate) fn host_key(
+        &self,
+        alloc: Global,
+        account: u32,
+        cpid: &str,
+    ) -> Result<Option<u32>, Memory>
+        ensures { (w : World) (calls : SlotCalls) → AreRemembered w calls self.now → IfOk result (λ r. IfSome r (λ host. known_host w account cpid.now ≡ Some host)) }
+    {
+        let key = Text::copied(alloc, cpid)?;
+        match self.keys.value(&key) {
+            Some(read) if read.account == account => Ok(Some(read.host)),
+            _ => Ok(None),
+        }
+    }
+
+    /// Remembers the number of the host with an account and a host_cpid, if there is memory for it.
+    pub(crate) fn remember_host_key(
+        &mut self,
+        alloc: Global,
+        account: u32,
+        cpid: &str,
+        found: Option<u32>,
+    )
+        ensures { (w : World) (calls : SlotCalls) → AreRemembered w calls self.old → found ≡ known_host w account cpid.now → AreRemembered w calls self.new }
+    {
+        let Some(host) = found else { return };
+        if let Ok(key) = Text::copied(alloc, cpid) {
+            self.keys.put(key, HostKeyRead { account, host });
+        }
+    }
+
+    /// The place of the workunit of this name.
+    pub(crate) fn unit_named(&self, alloc: Global, name: &str) -> Result<Option<u32>, Memory>
+        ensures { (w : World) (calls : SlotCalls) → AreRemembered w calls self.now → IfOk result (λ r. IfSome r (λ unit. unit_named w name.now ≡ Some unit)) }
+    {
+        let key = Text::copied(alloc, name)?;
+        Ok(self.names.value(&key))
+    }
+
+    /// Remembers the place of the workunit of a name, if there is memory for it.
+    pub(crate) fn remember_unit_name(&mut self, alloc: Global, name: &str, found: Option<u32>)
+        ensures { (w : World) (calls : SlotCalls) → AreRemembered w calls self.old → found ≡ unit_named w name.now → AreRemembered w calls self.new }
+    {
+        let Some(unit) = found else { return };
+        if let Ok(key) = Text::copied(alloc, name) {
+            self.names.put(key, unit);
         }
     }
 
@@ -514,16 +629,16 @@ impl Remembered {
         self.slot = Some(SlotRead { host, slot });
     }
 
-    /// Takes away the first places of what waits that were read last.
+    /// Takes away the page of what waits that was read last.
     pub(crate) fn take_page(&mut self) -> Option<PageRead>
-        ensures { (w : World) (calls : SlotCalls) → AreRemembered w calls self.old → AreRemembered w calls self.new × IfSome result (IsFirstPageOf w) }
+        ensures { (w : World) (calls : SlotCalls) → AreRemembered w calls self.old → AreRemembered w calls self.new × IfSome result (IsPageOf w) }
     {
         self.page.take()
     }
 
-    /// Remembers the first places of what waits, if some were read.
+    /// Remembers a page of what waits, if one was read.
     pub(crate) fn remember_page(&mut self, page: Option<PageRead>)
-        ensures { (w : World) (calls : SlotCalls) → AreRemembered w calls self.old → IfSome page (IsFirstPageOf w) → AreRemembered w calls self.new }
+        ensures { (w : World) (calls : SlotCalls) → AreRemembered w calls self.old → IfSome page (IsPageOf w) → AreRemembered w calls self.new }
     {
         self.page = page;
     }
@@ -550,16 +665,27 @@ impl Remembered {
         ensures skips { (waiting : ℕ → ℕ → Option Bool) (jobs : ℕ → ℕ → Option Job) (hosts : ℕ → Option Counted)
             → AreOfHosts hosts self.old.hosts self.old.credits → AreOfJobs jobs self.old.instances self.old.sent → AreSkipsFor waiting jobs hosts self.old.skips
             → AreSkipsFor (with_wait waiting row.now) (with_job jobs row.now) (with_host hosts row.now) self.new.skips }
+        ensures page { (waiting : ℕ → ℕ → Option Bool) → IfSome self.old.page (IsPageFor waiting) → IfSome self.new.page (IsPageFor (with_wait waiting row.now)) }
+        ensures held { (jobs : ℕ → ℕ → Option Job) → AreOfJobs jobs self.old.instances self.old.sent
+            → AreHeldOf (holders_of jobs) self.old.held → AreHeldOf (holders_of (with_job jobs row.now)) self.new.held }
+        ensures keys { (hosts : ℕ → Option Counted) → AreOfHosts hosts self.old.hosts self.old.credits → AreKeysOf hosts self.old.keys → AreKeysOf (with_host hosts row.now) self.new.keys }
+        ensures names { (titles : ℕ → Option (List ℕ)) → AreNamesOf titles self.old.units self.old.names → AreNamesOf (with_title titles row.now) self.new.units self.new.names }
     {
         match row {
-            StoredRow::Unit(row) => self.units.forget(&row.id),
+            StoredRow::Unit(row) => {
+                follow_unit_name(&mut self.names, &self.units, row);
+                self.units.forget(&row.id);
+            }
             StoredRow::UnitMark(row) => self.units.forget(&row.unit_id),
             StoredRow::Instance(row) => {
+                follow_page(alloc, &mut self.page, row);
                 self.skips.follow_instance(&self.instances, row);
+                follow_held(alloc, &mut self.held, &self.instances, row);
                 renew_instance(&mut self.instances, &mut self.sent, row);
             }
             StoredRow::Host(row) => {
                 self.skips.follow_host(&self.hosts, row);
+                follow_host_key(&mut self.keys, &self.hosts, row);
                 renew_host(alloc, &mut self.hosts, &mut self.credits, row);
             }
             StoredRow::Account(_) => self.accounts.forget_all(),
@@ -573,8 +699,8 @@ impl Remembered {
     }
 
     /// Takes note of rows that were put. What they say of hosts, of the credit of their users, of instances, and of how many
-    /// jobs hosts were sent is renewed, and the skips of users follow it. Everything else that was read of them is forgotten,
-    /// with the slot for a call and the places that wait.
+    /// jobs hosts were sent is renewed. The skips of users, the places that hosts hold, the keys of hosts, the names of workunits
+    /// and the page of what waits follow it. Everything else that was read of them is forgotten, with the slot for a call.
     pub(crate) fn note_put(&mut self, alloc: Global, changes: &[RowChange])
         ensures carried { AreCarried (IsUnput changes.now) self.old self.new }
         ensures hosts { (f : ℕ → Option Counted) → AreOfHosts f self.old.hosts self.old.credits → AreOfHosts (with_hosts f changes.now) self.new.hosts self.new.credits }
@@ -582,14 +708,17 @@ impl Remembered {
         ensures skips { (waiting : ℕ → ℕ → Option Bool) (jobs : ℕ → ℕ → Option Job) (hosts : ℕ → Option Counted)
             → AreOfHosts hosts self.old.hosts self.old.credits → AreOfJobs jobs self.old.instances self.old.sent → AreSkipsFor waiting jobs hosts self.old.skips
             → AreSkipsFor (with_waits waiting changes.now) (with_jobs jobs changes.now) (with_hosts hosts changes.now) self.new.skips }
+        ensures held { (jobs : ℕ → ℕ → Option Job) → AreOfJobs jobs self.old.instances self.old.sent
+            → AreHeldOf (holders_of jobs) self.old.held → AreHeldOf (holders_of (with_jobs jobs changes.now)) self.new.held }
+        ensures keys { (hosts : ℕ → Option Counted) → AreOfHosts hosts self.old.hosts self.old.credits → AreKeysOf hosts self.old.keys → AreKeysOf (with_hosts hosts changes.now) self.new.keys }
+        ensures names { (titles : ℕ → Option (List ℕ)) → AreNamesOf titles self.old.units self.old.names → AreNamesOf (with_titles titles changes.now) self.new.units self.new.names }
         ensures slot { self.new.slot ≡ None }
-        ensures page { self.new.page ≡ None }
+        ensures page { (waiting : ℕ → ℕ → Option Bool) → IfSome self.old.page (IsPageFor waiting) → IfSome self.new.page (IsPageFor (with_waits waiting changes.now)) }
     {
         for change in changes {
             self.note_row(alloc, change.row());
         }
         self.slot = None;
-        self.page = None;
     }
 
     /// Forgets it all.
@@ -601,7 +730,10 @@ impl Remembered {
         self.hosts.forget_all();
         self.credits.forget_all();
         self.sent.forget_all();
+        self.held.forget_all();
         self.accounts.forget_all();
+        self.keys.forget_all();
+        self.names.forget_all();
         self.versions.clear();
         self.slot = None;
         self.page = None;

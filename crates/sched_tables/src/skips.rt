@@ -8,7 +8,8 @@ ghost use Rattle.sched_book.specs.declared.instance.Instance.{Instance as Job};
 ghost use Rattle.table_desk.specs.declared.hosts.CountedHost.{CountedHost as Counted};
 ghost use Rattle.table_meaning.specs.declared.rows.StoredRow.TheVariants as stored;
 ghost use Rattle.sched_tables.specs.Carrying.{with_host, with_job};
-ghost use Rattle.sched_tables.specs.Covering.{with_wait, with_wait_at, AreSkipsFor, IsSkipFor, IsHadBefore, IsUserSkip, KeepsAccount, KeepsHost};
+ghost use Rattle.sched_tables.specs.Covering.{with_wait, AreSkipsFor, IsSkipFor, IsHadBefore, IsUserSkip, KeepsAccount, KeepsHost};
+ghost use Rattle.table_desk.specs.WaitingPage.{with_wait_at};
 ghost use Rattle.sched_tables.specs.RowsRead.{HoldOfEach};
 
 use crate::rows_read::RowsRead;

@@ -5,12 +5,14 @@ pub mod Found
 pub mod InstancesListed
 pub mod LastNumbers
 pub mod Jumps
+pub mod PagesKept
 pub mod PagesOffered
 pub mod PlaceOrder
 pub mod PlacesAsked
 pub mod PlacesNone
 pub mod AllPlaces
 pub mod ReadLater
+pub mod SortedPlaces
 pub mod Standing
 pub mod Uncovered
 pub mod UnitsOfUser

@@ -1,12 +1,11 @@
--- What is unsent is, place by place, what waits in the tables. What waits from a place of a page on is the rest of the page and what comes
--- after it.
-use Rattle.std.proofs.Common.{◌≡◌, ℕ, zero, suc, ◌+◌, ◌≤◌, Bool, true, false, true≢false, ◌&&◌, cond, not, List, [], ◌∷◌, ◌++◌, filter, length, map, take, drop, slice_get, Option, Some, None, option_map, refl, sym, ap, ap₂, subst, ◌∙◌, arith, nat_le, nat_lt, is_none}
+-- What is unsent is, place by place, what waits in the tables. What waits from a place on is a page of it and what comes after the page.
+use Rattle.std.proofs.Common.{◌≡◌, ℕ, zero, suc, ◌+◌, Bool, true, false, ◌&&◌, cond, not, List, [], ◌∷◌, ◌++◌, filter, take, drop, slice_get, Option, Some, None, option_map, refl, sym, ap, ap₂, subst, ◌∙◌, arith, nat_le, nat_lt, is_none}
 use Rattle.std.specs.Prelude.{◌==◌, ◌||◌, option_and_then, unwrap_or}
 use Rattle.std.specs.List.{AllByRecursion, cons_option}
 use Rattle.std.proofs.lemmas.Bool.Decides.{nat_tests}
-use Rattle.std.proofs.lemmas.List.{take-append-drop, drop-append-le}
+use Rattle.std.proofs.lemmas.List.{take-append-drop}
 use Rattle.std.proofs.lemmas.List.Elements.{filter-append, filter_map-append}
-use Rattle.std.proofs.lemmas.Option.{none-some, same_Some, slice_get_within}
+use Rattle.std.proofs.lemmas.Option.{none-some, same_Some}
 use Rattle.sqlite.specs.Effect.{Database}
 use Rattle.sqlite.specs.Held.{Held, state}
 use Rattle.sqlite.specs.State.{HasCleanDisk}
@@ -23,7 +22,7 @@ use Rattle.sched_book.specs.declared.instance.Status.{Status}
 use Rattle.sched_book.specs.declared.instance.Status.TheVariants.{Open}
 use Rattle.sched_book.specs.declared.instance.UnitBook.{UnitBook}
 use Rattle.sched_book.specs.declared.world.World.{World}
-use Rattle.sched_book.proofs.PlacesOf.{nth-suc, slice_get-front}
+use Rattle.sched_book.proofs.PlacesOf.{nth-suc}
 use Rattle.sqlite_sql.specs.declared.ops.CompareOp.TheVariants.{Eq}
 use Rattle.table_meaning.specs.declared.tables.QueuePage.TheVariants.{Further}
 use Rattle.table_meaning.specs.declared.rows.StoredRow.TheVariants as stored
@@ -35,13 +34,11 @@ use Rattle.table_meaning.specs.Rows.{columns_of, whole}
 use Rattle.table_meaning.specs.Worlds.{contents_of, instance_row, is_queued}
 use Rattle.table_meaning.proofs.PlacesTests.{equal_numbers, above_number, not_below_number}
 use Rattle.table_desk.specs.Asked.{Asked, Tell}
-use Rattle.table_desk.specs.FirstPage.{IsFirstPageOf}
-use Rattle.table_desk.specs.Pages.{candidate_at, candidates_at, behind, next_page, unsent_on, unsent_after}
-use Rattle.table_desk.specs.declared.pages.PageRead.{PageRead}
+use Rattle.table_desk.specs.Pages.{candidate_at, candidates_at, behind, next_page, unsent_on}
 use Rattle.table_desk.proofs.AllPlaces.{all_places}
 
 -- the places that wait to be given out, from one place on
-abbrev waits : World → Place → Place → Bool
+abbrev pub waits : World → Place → Place → Bool
 waits w from p = passes w (is_queued w) p && not (is_before p from)
 
 abbrev pub waiting : World → Place → List Place
@@ -174,15 +171,15 @@ module _ (q : Place → Bool) (from : Place) where
       turn true (suc m) later is = later m is
       turn false n later is = later n is
 
-  -- Take the places that pass from one place on, and one of them. It and those after it, or only those after it, are the ones that pass from a later
-  -- place on. This needs that no place before it passes from there on, and that each place after it passes from both places on or from neither.
-  module _ (it late : Place) (stays : Bool) (before : (p : Place) → IsBefore p it → keeps late p ≡ false) (itself : keeps from it ≡ true → keeps late it ≡ stays)
+  -- Take the places that pass from one place on, and one of them. Those after it are the ones that pass from a later place on. This needs that it
+  -- and no place before it passes from there on, and that each place after it passes from both places on or from neither.
+  module _ (it late : Place) (before : (p : Place) → IsBefore p it → keeps late p ≡ false) (itself : keeps late it ≡ false)
       (above : (r : Place) → keeps from it ≡ true → IsBefore it r → is_before r from ≡ is_before r late) where
     all_above : keeps from it ≡ true → (ps : List Place) → AllByRecursion (IsBefore it) ps → filter (keeps late) ps ≡ filter (keeps from) ps
     all_above kept [] rise = refl
     all_above kept (r ∷ rs) rise = ap₂ (λ b (l : List Place). cond (q r && not b) (r ∷ l) l) (sym (above r kept rise.0)) (all_above kept rs rise.1)
 
-    left_at : (n : ℕ) (ps : List Place) → IsAscending IsBefore ps → slice_get (filter (keeps from) ps) n ≡ Some it → filter (keeps late) ps ≡ cond stays (drop n (filter (keeps from) ps)) (drop (suc n) (filter (keeps from) ps))
+    left_at : (n : ℕ) (ps : List Place) → IsAscending IsBefore ps → slice_get (filter (keeps from) ps) n ≡ Some it → filter (keeps late) ps ≡ drop (suc n) (filter (keeps from) ps)
     left_at n [] rise is = absurd (none-some _ is)
     left_at n (p ∷ ps) rise is = turn (keeps from p) refl n (λ m. left_at m ps rise.1) is
       where
@@ -195,21 +192,20 @@ module _ (q : Place → Bool) (from : Place) where
         skipped : (m : ℕ) → slice_get more m ≡ Some it → cond (keeps late p) (p ∷ left) left ≡ left
         skipped m is = ap (λ b. cond b (p ∷ left) left) (before p (holds_of (IsBefore p) ps m it rise.0 is))
 
-        turn : (b : Bool) → keeps from p ≡ b → (n : ℕ) → ((m : ℕ) → slice_get more m ≡ Some it → left ≡ cond stays (drop m more) (drop (suc m) more)) → slice_get (cond b (p ∷ more) more) n ≡ Some it
-            → cond (keeps late p) (p ∷ left) left ≡ cond stays (drop n (cond b (p ∷ more) more)) (drop (suc n) (cond b (p ∷ more) more))
+        turn : (b : Bool) → keeps from p ≡ b → (n : ℕ) → ((m : ℕ) → slice_get more m ≡ Some it → left ≡ drop (suc m) more) → slice_get (cond b (p ∷ more) more) n ≡ Some it
+            → cond (keeps late p) (p ∷ left) left ≡ drop (suc n) (cond b (p ∷ more) more)
         turn true kept zero later is =
             let same : p ≡ it = same_Some _ _ is in
             let here : keeps from it ≡ true = ap (keeps from) (sym same) ∙ kept in
-            ap₂ (λ b (l : List Place). cond b (p ∷ l) l) (ap (keeps late) same ∙ itself here) (all_above here ps (subst (λ r. AllByRecursion (IsBefore r) ps) same rise.0))
+            ap₂ (λ b (l : List Place). cond b (p ∷ l) l) (ap (keeps late) same ∙ itself) (all_above here ps (subst (λ r. AllByRecursion (IsBefore r) ps) same rise.0))
         turn true kept (suc m) later is = skipped m is ∙ later m is
         turn false fails n later is = skipped n is ∙ later n is
 
-  -- without it: those after it
   passed : (p last : Place) → is_before p (behind last) ≡ true → keeps (behind last) p ≡ false
   passed p last before = grind arith
 
   rest_behind : (last : Place) (n : ℕ) (ps : List Place) → IsAscending IsBefore ps → slice_get (filter (keeps from) ps) n ≡ Some last → filter (keeps (behind last)) ps ≡ drop (suc n) (filter (keeps from) ps)
-  rest_behind last = left_at last (behind last) false (λ p before. passed p last (ahead p before)) (λ kept. passed last last itself) above
+  rest_behind last = left_at last (behind last) (λ p before. passed p last (ahead p before)) (passed last last itself) above
     where
       ahead : (p : Place) → IsBefore p last → is_before p (behind last) ≡ true
       ahead p before = grind (arith, nat_tests)
@@ -220,25 +216,6 @@ module _ (q : Place → Bool) (from : Place) where
       above : (r : Place) → keeps from last ≡ true → IsBefore last r → is_before r from ≡ is_before r (behind last)
       above r kept before = grind (arith, nat_tests)
 
-  -- with it: those from it on
-  rest_from : (first : Place) (n : ℕ) (ps : List Place) → IsAscending IsBefore ps → slice_get (filter (keeps from) ps) n ≡ Some first → filter (keeps first) ps ≡ drop n (filter (keeps from) ps)
-  rest_from first = left_at first first true (λ p before. passed_by p (ahead p before)) (λ kept. stands kept itself) above
-    where
-      ahead : (p : Place) → IsBefore p first → is_before p first ≡ true
-      ahead p before = grind (arith, nat_tests)
-
-      passed_by : (p : Place) → is_before p first ≡ true → keeps first p ≡ false
-      passed_by p before = grind arith
-
-      itself : is_before first first ≡ false
-      itself = grind (arith, nat_tests)
-
-      stands : keeps from first ≡ true → is_before first first ≡ false → keeps first first ≡ true
-      stands kept none = grind arith
-
-      above : (r : Place) → keeps from first ≡ true → IsBefore first r → is_before r from ≡ is_before r first
-      above r kept before = grind (arith, nat_tests)
-
 none_left : {X : Type 0} (n : ℕ) (xs : List X) → slice_get xs n ≡ None → drop (suc n) xs ≡ []
 none_left n [] is = refl
 none_left zero (x ∷ xs) is = absurd (none-some _ (sym is))
@@ -246,71 +223,34 @@ none_left (suc n) (x ∷ xs) is = none_left n xs is
 
 -- ---- a page of places
 
--- each place that waits has its workunit
-places_offered : (w : World) (from : Place) (ps : List Place) → map (λ (c : Candidate). c.place) (candidates_at w (filter (waits w from) ps)) ≡ filter (waits w from) ps
-places_offered w from [] = refl
-places_offered w from (p ∷ ps) = one (unit_at w p.unit) refl (waits w from p) refl (places_offered w from ps)
-  where
-    more : List Place
-    more = filter (waits w from) ps
-
-    one : (o : Option UnitBook) → unit_at w p.unit ≡ o → (b : Bool) → waits w from p ≡ b → map (λ (c : Candidate). c.place) (candidates_at w more) ≡ more
-        → map (λ (c : Candidate). c.place) (candidates_at w (cond b (p ∷ more) more)) ≡ cond b (p ∷ more) more
-    one o stands false is later = later
-    one None stands true is later = absurd (true≢false (sym is ∙ ap (λ (o : Option UnitBook). unwrap_or (option_and_then (λ b. option_map (is_queued w b) (slice_get b.instances p.number)) o) false && not (is_before p from)) stands))
-    one (Some b) stands true is later =
-        ap (λ (o : Option UnitBook). map (λ (c : Candidate). c.place) (cons_option (option_map (λ u. record { place = p; unit = u }) (option_map (λ (b : UnitBook). b.unit) o)) (candidates_at w more))) stands
-        ∙ ap (λ l. p ∷ l) later
+-- what waits from a place on; nothing if there is none
+abbrev pub waiting_on : World → Option Place → List Place
+waiting_on w None = []
+waiting_on w (Some from) = waiting w from
 
 module _ (w : World) where
   rise : IsAscending IsBefore (places w)
   rise = (all_places w (λ _ _. None) (λ _ _. None)).rise
 
-  left_behind : (n : ℕ) (from : Place) (o : Option Place) → slice_get (waiting w from) n ≡ o → candidates_at w (drop (suc n) (waiting w from)) ≡ unsent_on w (option_map behind o)
-  left_behind n from None is = ap (candidates_at w) (none_left n (waiting w from) is)
-  left_behind n from (Some last) is = ap (candidates_at w) (sym (rest_behind (passes w (is_queued w)) from last n (places w) rise is)) ∙ unsent_waiting w (behind last)
+  left_behind : (n : ℕ) (from : Place) (o : Option Place) → slice_get (waiting w from) n ≡ o → drop (suc n) (waiting w from) ≡ waiting_on w (option_map behind o)
+  left_behind n from None is = none_left n (waiting w from) is
+  left_behind n from (Some last) is = sym (rest_behind (passes w (is_queued w)) from last n (places w) rise is)
 
-  -- what waits from a place of a page on is the rest of the page and what waits after the page
+  pub offered_on : (o : Option Place) → candidates_at w (waiting_on w o) ≡ unsent_on w o
+  offered_on None = refl
+  offered_on (Some from) = unsent_waiting w from
+
+  -- the page, and what waits behind its last place
   module _ (n : ℕ) (from : Place) (page : List Place) (is : page ≡ take (suc n) (waiting w from)) where
-    abbrev rest : List Place
-    rest = drop (suc n) (waiting w from)
+    pub parted : (o : Option Place) → slice_get page n ≡ o → waiting w from ≡ page ++ waiting_on w (option_map behind o)
+    parted o at =
+        sym (take-append-drop (suc n) (waiting w from))
+        ∙ ap₂ (λ (xs ys : List Place). xs ++ ys) (sym is) (left_behind n from o (sym (slice_get-take (suc n) (waiting w from) n (omega arith)) ∙ ap (λ l. slice_get l n) (sym is) ∙ at))
 
-    parted : waiting w from ≡ page ++ rest
-    parted = sym (take-append-drop (suc n) (waiting w from)) ∙ ap (λ l. l ++ rest) (sym is)
-
-    left_then : candidates_at w rest ≡ unsent_on w (option_map behind (slice_get page n))
-    left_then = left_behind n from (slice_get page n) (sym (slice_get-take (suc n) (waiting w from) n (omega arith)) ∙ ap (λ l. slice_get l n) (sym is))
-
-    parts_at : (at : ℕ) → at ≤ length page → candidates_at w (drop at (waiting w from)) ≡ candidates_at w (drop at page) ++ unsent_on w (option_map behind (slice_get page n))
-    parts_at at within =
-        ap (λ l. candidates_at w (drop at l)) parted ∙ ap (candidates_at w) (drop-append-le at page rest within) ∙ filter_map-append (candidate_at w) (drop at page) rest
-        ∙ ap (λ (cs : List Candidate). candidates_at w (drop at page) ++ cs) left_then
-
-    -- from the page's first place on, and from any of its places on
-    parts : unsent w from ≡ candidates_at w page ++ unsent_on w (option_map behind (slice_get page n))
-    parts = sym (unsent_waiting w from) ∙ parts_at 0 (omega arith)
-
-    parts_from : (at : ℕ) (first : Place) → slice_get page at ≡ Some first → unsent w first ≡ candidates_at w (drop at page) ++ unsent_on w (option_map behind (slice_get page n))
-    parts_from at first stands =
-        let within : at ≤ length page = let below = slice_get_within page at first stands in omega (arith, below) in
-        let there : slice_get (waiting w from) at ≡ Some first = ap (λ l. slice_get l at) parted ∙ slice_get-front page rest at first stands in
-        sym (unsent_waiting w first) ∙ ap (candidates_at w) (rest_from (passes w (is_queued w)) from first at (places w) rise there) ∙ parts_at at within
-
--- ---- a page that was read
-
-places_unsent : (w : World) (from : Place) → map (λ (c : Candidate). c.place) (unsent w from) ≡ waiting w from
-places_unsent w from = ap (map (λ (c : Candidate). c.place)) (sym (unsent_waiting w from)) ∙ places_offered w from (places w)
-
-module _ (w : World) (page : PageRead) (is : IsFirstPageOf w page) where
-  page_waits : page.places ≡ take 8 (waiting w page.from)
-  page_waits = is ∙ ap (take 8) (places_unsent w page.from)
-
-  pub unsent_of_all : (from : Place) → page.from ≡ from → (places : List Place) → places ≡ page.places → unsent w from ≡ candidates_at w places ++ unsent_after w page
-  unsent_of_all from same places are =
-      ap (unsent w) (sym same) ∙ parts w 7 page.from page.places page_waits ∙ ap (λ (ps : List Place). candidates_at w ps ++ unsent_after w page) (sym are)
-
-  pub unsent_of_rest : (at : ℕ) (first : Place) → slice_get page.places at ≡ Some first → (places : List Place) → places ≡ drop at page.places → unsent w first ≡ candidates_at w places ++ unsent_after w page
-  unsent_of_rest at first stands places are = parts_from w 7 page.from page.places page_waits at first stands ∙ ap (λ (ps : List Place). candidates_at w ps ++ unsent_after w page) (sym are)
+  -- the candidates of what waits, in two parts
+  pub unsent_parted : (from : Place) (page : List Place) (end : Option Place) → waiting w from ≡ page ++ waiting_on w end → unsent w from ≡ candidates_at w page ++ unsent_on w end
+  unsent_parted from page end parts =
+      sym (unsent_waiting w from) ∙ ap (candidates_at w) parts ∙ filter_map-append (candidate_at w) page (waiting_on w end) ∙ ap (λ (cs : List Candidate). candidates_at w page ++ cs) (offered_on end)
 
 -- ---- pages that a read shows
 
@@ -318,12 +258,10 @@ module _ {S : Type 0} (store : Ghosts S) (first mid : Held S) (from : Place) (qu
   abbrev Shows : ℕ → Type 0
   Shows n = HasCleanDisk (state store mid) → (contents : Contents) (places : List Place) → Hold (state store first).now contents → AreAllPlaces contents places → queued ≡ take n (table.places_where contents (waits_from from) places)
 
-  waiting_read : (n : ℕ) → Shows n → Asked store first mid (λ w. queued ≡ take n (waiting w from))
+  pub waiting_read : (n : ℕ) → Shows n → Asked store first mid (λ w. queued ≡ take n (waiting w from))
   waiting_read n shown = λ clean is_open rests w tell.
       shown clean (contents_of w tell.calls tell.batches) (places w) tell.holds (all_places w tell.calls tell.batches) ∙ ap (take n) (waiting_told (state store first).now w tell from)
 
-  pub first_page_read : Shows 8 → Asked store first mid (λ w. queued ≡ take 8 (map (λ (c : Candidate). c.place) (unsent w from)))
-  first_page_read shown = λ clean is_open rests w tell. waiting_read 8 shown clean is_open rests w tell ∙ ap (take 8) (sym (places_unsent w from))
-
   pub further_page_read : Shows 64 → (page : List Place) → page ≡ queued → Asked store first mid (λ w. unsent w from ≡ candidates_at w page ++ unsent_on w (next_page Further page))
-  further_page_read shown page same = λ clean is_open rests w tell. parts w 63 from page (same ∙ waiting_read 64 shown clean is_open rests w tell)
+  further_page_read shown page same = λ clean is_open rests w tell.
+      unsent_parted w from page (next_page Further page) (parted w 63 from page (same ∙ waiting_read 64 shown clean is_open rests w tell) (slice_get page 63) refl)

@@ -1,7 +1,8 @@
 pub mod Asked
 pub mod Columns
-pub mod FirstPage
 pub mod Skips
+pub mod Sorted
 pub mod Pages
 pub mod Users
 pub mod Versions
+pub mod WaitingPage

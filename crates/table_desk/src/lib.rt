@@ -1,7 +1,7 @@
 //! The look-ups of a desk, answered by statements over the stored tables.
 //!
-//! Each function is one look-up of a desk, over a connection. Applications seldom change, so the caller keeps them and
-//! passes them in.
+//! Each look-up of a desk is a function over a connection. Applications seldom change, so the caller keeps them and passes
+//! them in. What waits is kept as a page of places, which follows each instance that is written.
 #![tactic(auto)]
 
 mod accounts;
@@ -13,6 +13,7 @@ mod offers;
 mod pages;
 mod places;
 mod skip;
+mod sorted;
 mod users;
 mod workunits;
 
@@ -25,5 +26,6 @@ pub use offers::{KnownUnits, unsent_from};
 pub use pages::PageRead;
 pub use places::{due_before, held_by, owned_by, sent_on_day};
 pub use skip::Skip;
+pub use sorted::{insert_place, remove_place};
 pub use users::units_of_user;
 pub use workunits::{instance_at, instances_at, unit_at, unit_by_name};

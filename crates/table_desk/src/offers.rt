@@ -7,10 +7,10 @@ ghost use Rattle.sched_book.specs.declared.desk.Candidate.{Candidate as BookCand
 ghost use Rattle.sched_book.specs.declared.desk.Flow.TheVariants.{GoOn};
 ghost use Rattle.table_meaning.specs.Reads.{Reads};
 ghost use Rattle.table_desk.specs.Asked.{Asked};
-ghost use Rattle.table_desk.specs.FirstPage.{IsFirstPageOf};
 ghost use Rattle.table_desk.specs.Skips.{IsCovered};
 ghost use Rattle.sched_book.specs.Offers.{OrSkips};
 ghost use Rattle.table_desk.specs.Pages.{candidate_at, candidates_at, unsent_on, unsent_after};
+ghost use Rattle.table_desk.specs.WaitingPage.{IsPageOf};
 
 use crate::pages::{PageRead, next_page};
 use crate::skip::Skip;
@@ -162,16 +162,16 @@ fn offer_on<S: Alter, K: KnownUnits, T: Taker>(
 {
     match offer_each(alloc, conn, apps, known, skip, places, taker)? {
         Flow::Stop => Ok(()),
-        Flow::GoOn => offer_pages(alloc, conn, apps, known, skip, page.next()?, taker),
+        Flow::GoOn => offer_pages(alloc, conn, apps, known, skip, page.next(), taker),
     }
 }
 
 /// Offers the instances of open workunits that were given to nobody, in the order of their places, from this place on.
 /// The offers end when the taker says stop. A candidate that the skip covers or that the taker passes over is not
 /// offered. `apps` are all applications. Pages are read from the first place on that the skip does not cover. If the
-/// page that was read last was read from there on, or has that place, the offers begin on that page. If not, another
-/// page is read and replaces it. A workunit is read if it is not known. If the tables are unavailable, the offers end
-/// early. What the connection shows is unchanged.
+/// page that was read last has what waits there, the offers begin on that page. If not, another page is read and
+/// replaces it. A workunit is read if it is not known. If the tables are unavailable, the offers end early. What the
+/// connection shows is unchanged.
 pub fn unsent_from<S: Alter, K: KnownUnits, T: Taker>(
     alloc: Global,
     conn: &mut Connection<S>,
@@ -183,9 +183,9 @@ pub fn unsent_from<S: Alter, K: KnownUnits, T: Taker>(
     taker: &mut T,
 ) -> Result<(), Unavailable>
     ensures reads { Reads (state S.Store conn.old) (state S.Store conn.new) }
-    ensures page { Asked S.Store conn.old conn.new (λ w. IfSome read.old (IsFirstPageOf w) → IfSome read.new (IsFirstPageOf w)) }
-    ensures all { Asked S.Store conn.old conn.new (λ w. apps.now ≡ w.apps → K.are_of w known.now → IfSome read.old (IsFirstPageOf w) → OnOk result (OffersAll (OrSkips (IsCovered skip.now) T.takes) taker.old (unsent w from) taker.new)) }
-    ensures some { Asked S.Store conn.old conn.new (λ w. apps.now ≡ w.apps → K.are_of w known.now → IfSome read.old (IsFirstPageOf w) → OnErr result (OffersSome (OrSkips (IsCovered skip.now) T.takes) taker.old (unsent w from) taker.new)) }
+    ensures page { Asked S.Store conn.old conn.new (λ w. IfSome read.old (IsPageOf w) → IfSome read.new (IsPageOf w)) }
+    ensures all { Asked S.Store conn.old conn.new (λ w. apps.now ≡ w.apps → K.are_of w known.now → IfSome read.old (IsPageOf w) → OnOk result (OffersAll (OrSkips (IsCovered skip.now) T.takes) taker.old (unsent w from) taker.new)) }
+    ensures some { Asked S.Store conn.old conn.new (λ w. apps.now ≡ w.apps → K.are_of w known.now → IfSome read.old (IsPageOf w) → OnErr result (OffersSome (OrSkips (IsCovered skip.now) T.takes) taker.old (unsent w from) taker.new)) }
 {
     let from = skip.next(from);
     if let Some(page) = read {

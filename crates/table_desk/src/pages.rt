@@ -1,21 +1,24 @@
-//! The first places of what waits, as they were read.
+//! A page of the places of what waits.
 
-ghost use Rattle.std.specs.Prelude.{◌≡◌, ◌<◌, ◌++◌, length, slice_get, Some, IfOk, IfSome};
+ghost use Rattle.std.specs.Prelude.{◌≡◌, ◌++◌, ℕ, Bool, Option, IfOk, IfSome, IsTrue};
 ghost use Rattle.sqlite.specs.Held.{state};
 ghost use Rattle.sched_book.specs.Offers.{unsent};
 ghost use Rattle.sched_book.specs.declared.world.World.{World};
 ghost use Rattle.table_meaning.specs.Reads.{Reads};
-ghost use Rattle.table_meaning.specs.declared.tables.QueuePage.TheVariants.{First};
 ghost use Rattle.table_desk.specs.Asked.{Asked};
-ghost use Rattle.table_desk.specs.FirstPage.{IsFirstPageOf};
 ghost use Rattle.table_desk.specs.Pages.{candidates_at, next_page, unsent_after};
+ghost use Rattle.table_desk.specs.WaitingPage.{is_within, with_wait_at, IsPageFor, IsPageOf};
 
+use crate::sorted::{is_before, rest_from, set_place};
 use sched_book::{Place, Unavailable};
 use sqlite::{Alter, Connection};
 use std::alloc::Global;
 use table_meaning::tables::QueuePage;
 use table_rows::queued_from;
 use texts::Listed;
+
+/// The most places of a page that is kept.
+const MOST_PLACES: usize = 64;
 
 /// Where the next page begins, if this one is full. Unavailable if the last place has the greatest possible number.
 pub(crate) fn next_page(page: QueuePage, places: &[Place]) -> Result<Option<Place>, Unavailable>
@@ -33,17 +36,25 @@ pub(crate) fn next_page(page: QueuePage, places: &[Place]) -> Result<Option<Plac
     }
 }
 
-/// The index of this place among those, if it is one of them.
-fn index_of(places: &[Place], place: Place) -> Option<usize>
-    ensures { IfSome result (λ at. (at < length places.now) × (slice_get places.now at ≡ Some place)) }
+/// Whether a place is not before `from`, and before the end if there is one.
+fn is_within(from: Place, end: Option<Place>, place: Place) -> bool
+    ensures { result ≡ is_within from end place }
 {
-    places.iter().position(|other| *other == place)
+    if is_before(place, from) {
+        return false;
+    }
+    match end {
+        None => true,
+        Some(end) => is_before(place, end),
+    }
 }
 
-/// The first places of what waits from a place on, as they were read.
+/// The places of what waits from one place on and before the end, if there is one. They are as they were read, and as
+/// instances came to wait or were given out since.
 #[derive(Drop)]
 pub struct PageRead {
     from: Place,
+    end: Option<Place>,
     places: Listed<Place>,
 }
 
@@ -55,10 +66,11 @@ impl PageRead {
         from: Place,
     ) -> Result<PageRead, Unavailable>
         ensures reads { Reads (state S.Store conn.old) (state S.Store conn.new) }
-        ensures page { Asked S.Store conn.old conn.new (λ w. IfOk result (λ page. IsFirstPageOf w page × (page.from ≡ from))) }
+        ensures page { Asked S.Store conn.old conn.new (λ w. IfOk result (λ page. IsPageOf w page × (page.from ≡ from))) }
     {
         let places = queued_from(alloc, conn, from, QueuePage::First)?;
-        Ok(PageRead { from, places })
+        let end = next_page(QueuePage::First, places.as_slice())?;
+        Ok(PageRead { from, end, places })
     }
 
     /// All its places.
@@ -68,21 +80,37 @@ impl PageRead {
         self.places.as_slice()
     }
 
-    /// Its places from this one on, if it was read from there on or has the place.
+    /// Its places from this one on, if the page has all that waits from there on and before its end.
     pub(crate) fn places_from(&self, from: Place) -> Option<&[Place]>
-        ensures { (w : World) → IsFirstPageOf w self.now → IfSome result (λ places. unsent w from ≡ candidates_at w places.now ++ unsent_after w self.now) }
+        ensures { (w : World) → IsPageOf w self.now → IfSome result (λ places. unsent w from ≡ candidates_at w places.now ++ unsent_after w self.now) }
     {
-        if self.from == from {
-            return Some(self.places());
+        if is_within(self.from, self.end, from) {
+            Some(rest_from(self.places(), from))
+        } else {
+            None
         }
-        let at = index_of(self.places(), from)?;
-        Some(&self.places()[at..])
     }
 
-    /// From where there may be more after it, if it is full.
-    pub(crate) fn next(&self) -> Result<Option<Place>, Unavailable>
-        ensures { IfOk result (λ next. next ≡ next_page First self.now.places) }
+    /// From where there may be more after it.
+    pub(crate) fn next(&self) -> Option<Place>
+        ensures { result ≡ self.now.end }
     {
-        next_page(QueuePage::First, self.places())
+        self.end
+    }
+
+    /// Whether it is worth keeping: it has few places, and at least one if there may be more after it.
+    fn is_useful(&self) -> bool {
+        self.places.len() <= MOST_PLACES && (self.end.is_none() || !self.places.is_empty())
+    }
+
+    /// Takes note that the instance at this place waits from now on, or does not. Says whether the page is worth keeping. It
+    /// is not if there was no memory, if it has too many places, or if it has none and there may be more after it.
+    pub fn follow(&mut self, alloc: Global, place: Place, waits: bool) -> bool
+        ensures { IsTrue result → (waiting : ℕ → ℕ → Option Bool) → IsPageFor waiting self.old → IsPageFor (with_wait_at waiting place.unit place.number waits) self.new }
+    {
+        if !is_within(self.from, self.end, place) {
+            return true;
+        }
+        set_place(alloc, &mut self.places, place, waits) && self.is_useful()
     }
 }

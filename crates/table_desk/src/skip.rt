@@ -1,11 +1,11 @@
 //! Where a user has nothing new to be offered.
 
 ghost use Rattle.std.specs.Prelude.{◌≡◌, ◌⊎◌, false, IsTrue};
-ghost use Rattle.std.specs.List.{list_any};
 ghost use Rattle.sched_book.specs.Places as book;
 ghost use Rattle.sched_book.specs.declared.instance.Place.{Place as BookPlace};
 ghost use Rattle.table_desk.specs.Skips.{no_skip, covers, with_came, raised, nearer, first_listed};
 
+use crate::sorted::{is_before, is_listed};
 use sched_book::Place;
 use std::alloc::Global;
 use std::marker::Model;
@@ -26,27 +26,6 @@ impl Model for Skip {
     ghost Value = { SkipPlaces };
 
     ghost view = { λ f. record { place = f.place; came = f.came.items } };
-}
-
-/// Whether one place is before another.
-fn is_before(place: Place, other: Place) -> bool
-    ensures { result ≡ book.is_before place other }
-{
-    place.unit < other.unit || (place.unit == other.unit && place.number < other.number)
-}
-
-/// Whether two places are one.
-fn is_same(place: Place, other: Place) -> bool
-    ensures { result ≡ book.is_same place other }
-{
-    place.unit == other.unit && place.number == other.number
-}
-
-/// Whether this place is one of those.
-fn is_listed(places: &[Place], place: Place) -> bool
-    ensures { result ≡ list_any (book.is_same place) places.now }
-{
-    places.iter().any(|other| is_same(place, *other))
 }
 
 /// The later one of two places.

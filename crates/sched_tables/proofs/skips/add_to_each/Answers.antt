@@ -1,7 +1,8 @@
 use Rattle.std.proofs.Common.{◌≡◌, ◌<◌, true, length, arith, subst}
 use Rattle.std.specs.List.{AllWithin}
 use Rattle.std.proofs.lemmas.List.Elements.{AllWithin-none, AllWithin-from_all, All-from_all_within}
-use Rattle.sched_tables.specs.Covering.{with_wait_at, IsUserSkip}
+use Rattle.sched_tables.specs.Covering.{IsUserSkip}
+use Rattle.table_desk.specs.WaitingPage.{with_wait_at}
 use Rattle.sched_tables.proofs.SkipMoves.{one_changed}
 use Rattle.sched_tables.proofs.skips.add_to_each.Goals as goal
 

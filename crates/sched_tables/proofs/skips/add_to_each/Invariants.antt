@@ -3,7 +3,8 @@ use Rattle.std.specs.Prelude.{All, Bool}
 use Rattle.std.specs.List.{AllWithin}
 use Rattle.sched_book.specs.declared.instance.Instance.{Instance}
 use Rattle.table_desk.specs.declared.hosts.CountedHost.{CountedHost}
-use Rattle.sched_tables.specs.Covering.{with_wait_at, IsUserSkip}
+use Rattle.sched_tables.specs.Covering.{IsUserSkip}
+use Rattle.table_desk.specs.WaitingPage.{with_wait_at}
 use Rattle.sched_tables.proofs.skips.add_to_each.Given as goal
 
 -- the skips so far are those after it, and the others those before it

@@ -1,8 +1,11 @@
-use Rattle.std.specs.Prelude.{ℕ, Bool, take, Option}
+use Rattle.std.specs.Prelude.{ℕ, Bool, take, IfSome, List, Option}
 use Rattle.sched_book.specs.declared.instance.Instance.{Instance}
+use Rattle.table_desk.specs.WaitingPage.{IsPageFor}
 use Rattle.table_desk.specs.declared.hosts.CountedHost.{CountedHost}
 use Rattle.sched_tables.specs.Carrying.{with_hosts, with_jobs, AreCarried, AreOfHosts, AreOfJobs, IsUnput}
 use Rattle.sched_tables.specs.Covering.{with_waits, AreSkipsFor}
+use Rattle.sched_tables.specs.Holding.{holders_of, AreHeldOf}
+use Rattle.sched_tables.specs.Keys.{with_titles, AreKeysOf, AreNamesOf}
 use Rattle.sched_tables.proofs.remembered.Remembered.note_put.Given as goal
 
 -- of the rows so far note is taken
@@ -14,3 +17,8 @@ invariant-loop-change l =
     × ((waiting : ℕ → ℕ → Option Bool) (jobs : ℕ → ℕ → Option Instance) (hosts : ℕ → Option CountedHost)
     → AreOfHosts hosts l.fn.self.hosts l.fn.self.credits → AreOfJobs jobs l.fn.self.instances l.fn.self.sent → AreSkipsFor waiting jobs hosts l.fn.self.skips
     → AreSkipsFor (with_waits waiting (take l.change-index l.changes)) (with_jobs jobs (take l.change-index l.changes)) (with_hosts hosts (take l.change-index l.changes)) l.self.skips)
+    × ((waiting : ℕ → ℕ → Option Bool) → IfSome l.fn.self.page (IsPageFor waiting) → IfSome l.self.page (IsPageFor (with_waits waiting (take l.change-index l.changes))))
+    × ((jobs : ℕ → ℕ → Option Instance) → AreOfJobs jobs l.fn.self.instances l.fn.self.sent
+    → AreHeldOf (holders_of jobs) l.fn.self.held → AreHeldOf (holders_of (with_jobs jobs (take l.change-index l.changes))) l.self.held)
+    × ((hosts : ℕ → Option CountedHost) → AreOfHosts hosts l.fn.self.hosts l.fn.self.credits → AreKeysOf hosts l.fn.self.keys → AreKeysOf (with_hosts hosts (take l.change-index l.changes)) l.self.keys)
+    × ((titles : ℕ → Option (List ℕ)) → AreNamesOf titles l.fn.self.units l.fn.self.names → AreNamesOf (with_titles titles (take l.change-index l.changes)) l.self.units l.self.names)

@@ -1,5 +1,6 @@
 use Rattle.table_desk.specs.Columns.{counted_host_at}
-use Rattle.sched_tables.specs.Covering.{jobs_of, waiting_of}
+use Rattle.sched_tables.specs.Covering.{jobs_of}
+use Rattle.table_desk.specs.WaitingPage.{waiting_of}
 use Rattle.sched_tables.proofs.HadBy.{given_before}
 use Rattle.sched_tables.proofs.remembered.Remembered.remember_had.Goals as goal
 
@@ -10,7 +11,10 @@ returns c = λ w calls read is. record {
   hosts = read.hosts;
   credits = read.credits;
   sent = read.sent;
+  held = read.held;
   accounts = read.accounts;
+  keys = read.keys;
+  names = read.names;
   versions = read.versions;
   slot = read.slot;
   page = read.page;

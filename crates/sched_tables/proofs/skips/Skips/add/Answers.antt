@@ -1,7 +1,8 @@
 use Rattle.std.proofs.Common.{◌≡◌, true, length, sym, subst, ◌∙◌}
 use Rattle.std.specs.Prelude.{All}
 use Rattle.std.proofs.lemmas.List.{with_items_is}
-use Rattle.sched_tables.specs.Covering.{with_wait_at, IsUserSkip}
+use Rattle.sched_tables.specs.Covering.{IsUserSkip}
+use Rattle.table_desk.specs.WaitingPage.{with_wait_at}
 use Rattle.sched_tables.proofs.skips.Skips.add.Goals as goal
 
 pub returns : goal.returns

@@ -1,7 +1,8 @@
 use Rattle.std.proofs.Common.{◌≡◌, true, false, sym, subst, rules}
 use Rattle.table_meaning.specs.declared.rows.StoredRow.TheVariants as stored
 use Rattle.sched_tables.specs.Carrying.{with_job}
-use Rattle.sched_tables.specs.Covering.{with_wait_at, AreSkipsFor}
+use Rattle.sched_tables.specs.Covering.{AreSkipsFor}
+use Rattle.table_desk.specs.WaitingPage.{with_wait_at}
 use Rattle.sched_tables.proofs.SkipMoves.{jobs_followed, none_waits}
 use Rattle.sched_tables.proofs.skips.Skips.follow_instance.Goals as goal
 

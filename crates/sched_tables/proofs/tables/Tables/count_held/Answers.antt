@@ -1,5 +1,5 @@
 use Rattle.sched_tables.proofs.Told.{answer_later}
-use Rattle.sched_tables.proofs.desk.TablesDesk.held_count.Goals as goal
+use Rattle.sched_tables.proofs.tables.Tables.count_held.Goals as goal
 
 pub returns-in-None-clause-answer : goal.returns-in-None-clause-answer
 returns-in-None-clause-answer g c = λ honest kept.
