@@ -1,13 +1,13 @@
 //! The worked rows, and lines that are too long, broken, or not of the form of a line.
 
 mod classes;
+mod files;
 mod jobs;
 mod judging;
 mod lapses;
 mod messages;
 mod quotas;
 mod refusals;
-mod repeats;
 mod rows;
 mod settings;
 mod spellings;
@@ -16,14 +16,12 @@ mod stored;
 mod upgrades;
 
 use commands::default_settings;
+use files::{LASTING, Replay, done_in, empty, run_over};
 use message_engine::ListStore;
-use repeats::first_answered_otherwise;
 use replay_lines::{Ended, replay};
 use rows::first_wrong;
 use sched_book::Settings;
 use sched_server::Service;
-use sched_tables::Tables;
-use sqlite::{Alter, Connection};
 use std::alloc::Global;
 use std::io;
 use std::io::{BufRead, BufReader, ErrorKind, Read};
@@ -64,26 +62,6 @@ fn replayed_by<S: Store>(
     Ok(replayed_from(alloc, service, BufReader::new(alloc, lines)?))
 }
 
-/// What a replay of these lines over a store prints, and how it ends.
-fn replayed_over<S: Store + Drop>(
-    alloc: Global,
-    store: S,
-    lines: &[u8],
-) -> Result<(Vec<u8>, Ended), Fail> {
-    let mut service = service_over(alloc, store)?;
-    replayed_by(alloc, &mut service, lines)
-}
-
-/// What a replay of these lines prints over new tables with these settings in a database, and how it ends.
-fn replayed_in<S: Alter + Drop>(
-    alloc: Global,
-    conn: Connection<S>,
-    settings: &Settings,
-    lines: &[u8],
-) -> Result<(Vec<u8>, Ended), Fail> {
-    replayed_over(alloc, Tables::create(alloc, conn, settings)?, lines)
-}
-
 /// What a replay of these lines prints over tables with these settings, and how it ends. It fails if the plain lists
 /// print anything else.
 fn replayed_under(
@@ -91,8 +69,12 @@ fn replayed_under(
     settings: &Settings,
     lines: &[u8],
 ) -> Result<(Vec<u8>, Ended), Fail> {
-    let by_lists = replayed_over(alloc, ListStore::new(alloc, settings)?, lines)?;
-    let by_tables = replayed_in(alloc, Connection::open_in_memory(alloc)?, settings, lines)?;
+    let (by_lists, _) = run_over(alloc, ListStore::new(alloc, settings)?, lines)?;
+    let replay = Replay {
+        settings: Some(settings),
+        lines,
+    };
+    let (by_tables, _) = done_in(alloc, &empty(alloc), LASTING, replay)?;
     if by_tables != by_lists {
         return Err(Fail::new("the tables answer otherwise than the lists"));
     }
@@ -130,19 +112,6 @@ fn answers_in_project(
     Ok(ended == Ended::Good && printed.as_slice() == output.as_bytes())
 }
 
-/// The name of the first row that does not hold, if there may be so many hosts. If all hold, that of the first in which
-/// a message gets another answer when it is sent again.
-fn first_wrong_twice(
-    alloc: Global,
-    max_hosts: u32,
-    text: &'static str,
-) -> Result<Option<&'static str>, Fail> {
-    if let Some(name) = first_wrong(alloc, max_hosts, text)? {
-        return Ok(Some(name));
-    }
-    first_answered_otherwise(alloc, text)
-}
-
 #[test]
 fn repeats_and_refusals(rt: HostRuntime) -> Result<(), Fail> {
     assert_eq!(rt; first_wrong(rt.alloc(), 3, refusals::ROWS)?, None);
@@ -151,31 +120,31 @@ fn repeats_and_refusals(rt: HostRuntime) -> Result<(), Fail> {
 
 #[test]
 fn grants_and_lost_jobs(rt: HostRuntime) -> Result<(), Fail> {
-    assert_eq!(rt; first_wrong_twice(rt.alloc(), 3, jobs::ROWS)?, None);
+    assert_eq!(rt; first_wrong(rt.alloc(), 3, jobs::ROWS)?, None);
     Ok(())
 }
 
 #[test]
 fn reports_and_quorums(rt: HostRuntime) -> Result<(), Fail> {
-    assert_eq!(rt; first_wrong_twice(rt.alloc(), 5, judging::ROWS)?, None);
+    assert_eq!(rt; first_wrong(rt.alloc(), 5, judging::ROWS)?, None);
     Ok(())
 }
 
 #[test]
 fn credit_and_quotas(rt: HostRuntime) -> Result<(), Fail> {
-    assert_eq!(rt; first_wrong_twice(rt.alloc(), 5, quotas::ROWS)?, None);
+    assert_eq!(rt; first_wrong(rt.alloc(), 5, quotas::ROWS)?, None);
     Ok(())
 }
 
 #[test]
 fn lapses_and_failures(rt: HostRuntime) -> Result<(), Fail> {
-    assert_eq!(rt; first_wrong_twice(rt.alloc(), 5, lapses::ROWS)?, None);
+    assert_eq!(rt; first_wrong(rt.alloc(), 5, lapses::ROWS)?, None);
     Ok(())
 }
 
 #[test]
 fn classes_of_versions(rt: HostRuntime) -> Result<(), Fail> {
-    assert_eq!(rt; first_wrong_twice(rt.alloc(), 3, classes::ROWS)?, None);
+    assert_eq!(rt; first_wrong(rt.alloc(), 3, classes::ROWS)?, None);
     Ok(())
 }
 

@@ -8,13 +8,8 @@ use std::test::Fail;
 /// What comes before each row's name.
 pub const NEXT: &str = "\n= ";
 
-/// The name of a row.
-pub fn name_of(row: &'static str) -> &'static str {
-    row.lines().next().unwrap_or("")
-}
-
 /// The lines of a row after this mark.
-fn behind(alloc: Global, row: &str, mark: &str) -> Result<String, Fail> {
+fn lines_after(alloc: Global, row: &str, mark: &str) -> Result<String, Fail> {
     let mut lines = String::new(alloc);
     for line in row.lines() {
         if let Some(line) = line.strip_prefix(mark) {
@@ -27,21 +22,30 @@ fn behind(alloc: Global, row: &str, mark: &str) -> Result<String, Fail> {
 
 /// The lines that a row sends.
 pub fn lines_of(alloc: Global, row: &str) -> Result<String, Fail> {
-    behind(alloc, row, "> ")
+    lines_after(alloc, row, "> ")
 }
 
-/// The name of the first row that does not hold, if there may be so many hosts. After the project's imports each line
-/// must get its answer.
+/// The answers that it gets.
+fn answers_of(alloc: Global, row: &str) -> Result<String, Fail> {
+    lines_after(alloc, row, "< ")
+}
+
+/// Whether a row holds, if there may be so many hosts. After the project's imports each line must get its answer.
+fn holds(alloc: Global, max_hosts: u32, row: &str) -> Result<bool, Fail> {
+    let lines = lines_of(alloc, row)?;
+    let told = answers_of(alloc, row)?;
+    answers_in_project(alloc, max_hosts, lines.as_str(), told.as_str())
+}
+
+/// The name of the first row that does not hold, if there may be so many hosts.
 pub fn first_wrong(
     alloc: Global,
     max_hosts: u32,
     text: &'static str,
 ) -> Result<Option<&'static str>, Fail> {
     for row in text.split(NEXT).skip(1) {
-        let lines = lines_of(alloc, row)?;
-        let told = behind(alloc, row, "< ")?;
-        if !answers_in_project(alloc, max_hosts, lines.as_str(), told.as_str())? {
-            return Ok(Some(name_of(row)));
+        if !holds(alloc, max_hosts, row)? {
+            return Ok(row.lines().next());
         }
     }
     Ok(None)

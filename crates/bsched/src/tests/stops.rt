@@ -1,19 +1,17 @@
 //! A stop at each call of the disk. The files are opened again as the stop left them, and the messages continue with
 //! the one in flight.
 
-ghost use Rattle.std.specs.Prelude.{IsTrue, IfOk};
-ghost use Rattle.sqlite_disk.specs.Memory.{memory_is_usable};
-
-use super::repeats::push_arrival;
+use super::files::{
+    Deed, Fuses, Image, LASTING, Leaves, MOST_CALLS, ShowRows, done_in, filled_with,
+};
 use super::rows::{NEXT, lines_of};
-use super::stored::with_lines;
 use super::{PROJECT, lapses, service_over};
 use commands::{Failure, serve_on};
 use http_responses::Answer;
+use replay_lines::line_of;
 use sched_server::{Arrival, Service};
 use sched_tables::Tables;
-use sqlite::{Alter, Connection, FileStore, Options};
-use sqlite_disk::{Crash, Disk, Files, Fuse, Memory};
+use sqlite::{Alter, Connection};
 use std::alloc::Global;
 use std::io;
 use std::io::Write;
@@ -21,183 +19,16 @@ use std::net::{Shutdown, TcpListener, TcpStream};
 use std::test::Fail;
 use stores::Store;
 
-/// What the two files of a database hold.
-#[derive(Drop)]
-pub struct Image {
-    log: Vec<u8>,
-    db: Vec<u8>,
-}
-
-/// How many calls each of the two files lets through before it fails all calls.
-#[derive(Clone, Copy)]
-pub struct Fuses {
-    log: u64,
-    db: u64,
-}
-
-impl Fuses {
-    /// The log, or the database file, lets so many calls through, and the other never fails.
-    pub fn behind(calls: u64, in_log: bool) -> Fuses {
-        let mut fuses = LASTING;
-        if in_log {
-            fuses.log = calls;
-        } else {
-            fuses.db = calls;
-        }
-        fuses
-    }
-}
-
-/// Files that never fail.
-pub const LASTING: Fuses = Fuses {
-    log: u64::MAX,
-    db: u64::MAX,
-};
-
-/// A disk that holds these bytes.
-fn disk(alloc: Global, bytes: &[u8]) -> Result<Memory, Fail>
-    ensures { IfOk result (λ d. IsTrue (memory_is_usable d)) }
-{
-    let mut disk = Memory::new(alloc);
-    if !bytes.is_empty() {
-        disk.write_at(0, bytes)?;
-        disk.sync()?;
-    }
-    Ok(disk)
-}
-
-/// What files hold after a stop: what was synced.
-fn image_of(alloc: Global, mut files: Files<Fuse<Memory>>) -> Result<Image, Fail> {
-    files.log.crash();
-    files.db.crash();
-    Ok(Image {
-        log: files.log.inner().bytes().to_vec(alloc)?,
-        db: files.db.inner().bytes().to_vec(alloc)?,
-    })
-}
-
-/// A store whose files are left at the end.
-pub trait Leaves {
-    /// What its files hold after a stop.
-    fn stopped(self, alloc: Global) -> Result<Image, Fail>;
-
-    /// What its files hold when it is closed.
-    fn closed(self, alloc: Global) -> Result<Image, Fail>;
-}
-
-impl Leaves for FileStore<Fuse<Memory>> {
-    fn stopped(self, alloc: Global) -> Result<Image, Fail> {
-        image_of(alloc, self.close())
-    }
-
-    fn closed(mut self, alloc: Global) -> Result<Image, Fail> {
-        self.checkpoint().ok().ok_or("the log is not copied")?;
-        self.stopped(alloc)
-    }
-}
-
-/// What is done with the database in files.
-pub trait Deed: Copy {
-    /// What it shows.
-    type Shown;
-
-    fn over<S: Alter + Leaves + Drop>(
-        self,
-        alloc: Global,
-        conn: Connection<S>,
-    ) -> Result<Self::Shown, Fail>;
-
-    /// What it shows if one of the files failed while they were opened; the files then held this.
-    fn unopened(self, _alloc: Global, _left: Image) -> Result<Self::Shown, Fail> {
-        Err(Fail::new("the files are not opened"))
-    }
-}
-
-/// What a deed shows over the database in files that fail after so many calls. (Only this function names a connection
-/// to such files, since the proof of each function that does takes a minute.)
-pub fn done_in<D: Deed>(
-    alloc: Global,
-    image: &Image,
-    fuses: Fuses,
-    deed: D,
-) -> Result<D::Shown, Fail> {
-    let log = Fuse::new(disk(alloc, &image.log)?, fuses.log);
-    let db = Fuse::new(disk(alloc, &image.db)?, fuses.db);
-    let mut options = Options::new(1);
-    options.checkpoint_frames = 20;
-    match Connection::open_files(alloc, Files { log, db }, options) {
-        Ok(conn) => deed.over(alloc, conn),
-        Err((_, left)) => deed.unopened(alloc, image_of(alloc, left.into_files())?),
-    }
-}
-
-/// Files that hold nothing.
-pub fn empty(alloc: Global) -> Image {
-    Image {
-        log: Vec::new(alloc),
-        db: Vec::new(alloc),
-    }
-}
-
-/// Makes new tables.
-#[derive(Clone, Copy)]
-struct Create;
-
-impl Deed for Create {
-    type Shown = Image;
-
-    fn over<S: Alter + Leaves + Drop>(
-        self,
-        alloc: Global,
-        conn: Connection<S>,
-    ) -> Result<Image, Fail> {
-        with_lines(alloc, conn, &[])?.into_store().closed(alloc)
-    }
-}
-
-/// The queries that print the tables, row by row.
-const ROW_QUERIES: &[&str] = &[
-    "SELECT name || ' ' || value FROM setting ORDER BY name",
-    "SELECT id || ' ' || auth || ' ' || name FROM account ORDER BY id",
-    "SELECT id || ' ' || name || ' ' || coalesce(agreement, '-') FROM app ORDER BY id",
-    "SELECT id || ' ' || app_id || ' ' || platform || ' ' || num FROM version ORDER BY id",
-    "SELECT id || ' ' || name || ' ' || app_id || ' ' || status FROM unit ORDER BY id",
-    "SELECT id || ' ' || account_id || ' ' || cpid || ' ' || platforms || ' ' || fpops || ' ' || quota || ' ' || held || ' ' || credit FROM host ORDER BY id",
-    "SELECT unit_id || ' ' || num || ' ' || coalesce(host_id, '-') || ' ' || coalesce(sent, '-') || ' ' || coalesce(deadline, '-') || ' ' || lapse || ' ' || coalesce(outcome, '-') || ' ' || coalesce(output, '-') || ' ' || coalesce(place, '-') || ' ' || queued FROM instance ORDER BY unit_id, num",
-    "SELECT host_id || ' ' || seqno || ' ' || text || ' ' || reply FROM kept ORDER BY host_id",
-    "SELECT host_id || ' ' || slot || ' ' || seqno || ' ' || text || ' ' || reply FROM kept4 ORDER BY host_id, slot",
-    "SELECT kind || ' ' || name || ' ' || answer FROM batch ORDER BY kind, name",
-    "SELECT version_id || ' ' || class FROM version_class ORDER BY version_id",
-    "SELECT unit_id || ' ' || marked || ' ' || coalesce(class, '-') FROM unit_mark ORDER BY unit_id",
-];
-
-/// All rows of the tables, a line each.
-fn rows_told<S: Alter>(alloc: Global, conn: &mut Connection<S>) -> Result<String, Fail> {
-    let mut told = String::new(alloc);
-    for sql in ROW_QUERIES {
-        for row in &conn.query_all(sql, &[])? {
-            let line: String = row.get(0)?;
-            told.push_str(line.as_str())?;
-            told.push_str("\n")?;
-        }
-    }
-    Ok(told)
-}
-
-/// Shows all rows of the tables.
-#[derive(Clone, Copy)]
-pub struct ShowRows;
-
-impl Deed for ShowRows {
-    type Shown = String;
-
-    fn over<S: Alter + Leaves + Drop>(
-        self,
-        alloc: Global,
-        mut conn: Connection<S>,
-    ) -> Result<String, Fail> {
-        rows_told(alloc, &mut conn)
-    }
+/// Adds the arrival of a line after the others.
+fn push_arrival(alloc: Global, arrivals: &mut Vec<Arrival>, line: &str) -> Result<(), Fail> {
+    let Some(line) = line_of(alloc, "opkey-01", line.as_bytes())? else {
+        return Err(Fail::new("a row has a line that is none"));
+    };
+    arrivals.push(Arrival {
+        now: line.now,
+        bytes: line.message,
+    })?;
+    Ok(())
 }
 
 /// The arrivals: the imports of the project, and the messages of a row in which a job is late.
@@ -206,7 +37,7 @@ fn arrivals(alloc: Global) -> Result<Vec<Arrival>, Fail> {
     let lines = format!(in alloc; "{PROJECT}{}", lines_of(alloc, row)?)?;
     let mut arrivals = Vec::new(alloc);
     for line in lines.as_str().lines() {
-        push_arrival(alloc, &mut arrivals, "opkey-01", line)?;
+        push_arrival(alloc, &mut arrivals, line)?;
     }
     Ok(arrivals)
 }
@@ -363,24 +194,18 @@ fn ran_over(
     Ok(Ran::Wrong)
 }
 
-/// The most calls after which a file is made to stop.
-pub const MOST_CALLS: u64 = 100_000;
-
 /// How many stops of the log, or of the database file, there were, if after each one everything went on as without a
 /// stop. If not, none.
 fn stops_survived(alloc: Global, in_log: bool) -> Result<Option<u64>, Fail> {
-    let image = done_in(alloc, &empty(alloc), LASTING, Create)?;
+    let (_, image) = filled_with(alloc, &[])?;
     let arrivals = arrivals(alloc)?;
-    let whole = whole(
-        alloc,
-        done_in(alloc, &empty(alloc), LASTING, Create)?,
-        &arrivals,
-    )?;
+    let (_, fresh) = filled_with(alloc, &[])?;
+    let whole = whole(alloc, fresh, &arrivals)?;
     for calls in 0..MOST_CALLS {
         match ran_over(
             alloc,
             &image,
-            Fuses::behind(calls, in_log),
+            Fuses::after(calls, in_log),
             &arrivals,
             &whole,
         )? {
@@ -471,12 +296,12 @@ fn ended_by_a_fault(alloc: Global, ended: Failure, answer: &str) -> Result<bool,
 /// Serves over a log that fails after each of its calls in turn. Whether serving ends only by faults, and does so at
 /// least once. (A log that fails before a commit's last byte leaves the store open: then serving continues.)
 fn ends_by_faults(rt: &HostRuntime) -> Result<bool, Fail> {
-    let image = done_in(rt.alloc(), &empty(rt.alloc()), LASTING, Create)?;
+    let (_, image) = filled_with(rt.alloc(), &[])?;
     let arrivals = arrivals(rt.alloc())?;
     let message = arrivals.first().ok_or("nothing arrives")?.bytes.as_slice();
     let mut was_shut = false;
     for calls in 0..MOST_CALLS {
-        let fuses = Fuses::behind(calls, true);
+        let fuses = Fuses::after(calls, true);
         match done_in(rt.alloc(), &image, fuses, ServeOn { rt, message })? {
             None => {}
             Some((Ok(()), answer)) => {

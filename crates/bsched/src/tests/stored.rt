@@ -1,18 +1,12 @@
-//! Tables that are spoiled, and tables in a file.
+//! Tables that are spoiled, and tables in files that are closed after each line.
 
-use super::repeats::settings;
+use super::files::{Image, LASTING, Refusal, Replay, done_in, filled_with, settings};
 use super::rows::{NEXT, lines_of};
-use super::{CALL_START, PROJECT, classes, replayed, replayed_by, replayed_over, service_over};
-use commands::{Failure, Visit, default_settings, visit_file};
+use super::{CALL_START, PROJECT, classes};
 use replay_lines::Ended;
-use sched_server::Service;
-use sched_tables::{OpenFault, Tables};
-use sqlite::types::ValueRef;
-use sqlite::{Alter, Connection, Error, MemStore};
+use sched_tables::OpenFault;
 use std::alloc::Global;
-use std::str;
 use std::test::Fail;
-use stores::Store;
 
 /// The rows of two workunits; for one of them a single result is enough.
 pub const WORKUNITS: &str =
@@ -30,64 +24,13 @@ fn lines(alloc: Global) -> Result<String, Fail> {
     )?)
 }
 
-/// Runs a statement. (It has no clause, so the proof of a test does not carry what each statement does.)
-pub fn run<S: Alter>(
-    conn: &mut Connection<S>,
-    sql: &str,
-    params: &[ValueRef<'_>],
-) -> Result<usize, Error> {
-    conn.execute(sql, params)
-}
-
-/// Lets a service answer these lines.
-fn answer_lines<S: Store>(
-    alloc: Global,
-    service: &mut Service<S>,
-    lines: &[u8],
-) -> Result<(), Fail> {
-    let (_, ended) = replayed_by(alloc, service, lines)?;
+/// The files of a database with tables after the short life.
+fn filled(alloc: Global) -> Result<Image, Fail> {
+    let ((_, ended), image) = filled_with(alloc, lines(alloc)?.as_bytes())?;
     if ended != Ended::Good {
         return Err(Fail::new("the lines end otherwise"));
     }
-    Ok(())
-}
-
-/// A store after these lines.
-fn after_lines<S: Store + Drop>(alloc: Global, store: S, lines: &[u8]) -> Result<S, Fail> {
-    let mut service = service_over(alloc, store)?;
-    answer_lines(alloc, &mut service, lines)?;
-    Ok(service.into_tables())
-}
-
-/// A database with tables after these lines.
-pub fn with_lines<S: Alter + Drop>(
-    alloc: Global,
-    conn: Connection<S>,
-    lines: &[u8],
-) -> Result<Connection<S>, Fail> {
-    let tables = Tables::create(alloc, conn, &settings(alloc)?)?;
-    Ok(after_lines(alloc, tables, lines)?.into_connection())
-}
-
-/// A database in memory with tables after these lines, in which there may be five hosts.
-pub fn filled_with(alloc: Global, lines: &[u8]) -> Result<Connection<MemStore>, Fail> {
-    with_lines(alloc, Connection::open_in_memory(alloc)?, lines)
-}
-
-/// The same after the lines of the short life.
-fn filled(alloc: Global) -> Result<Connection<MemStore>, Fail> {
-    filled_with(alloc, lines(alloc)?.as_bytes())
-}
-
-/// How the tables of a database are refused after a statement; none if they are opened.
-fn refused_after<S: Alter + Drop>(
-    alloc: Global,
-    mut conn: Connection<S>,
-    sql: &str,
-    params: &[ValueRef<'_>],
-) -> Result<Option<OpenFault>, Fail> {
-    run(&mut conn, sql, params)?;
-    Ok(Tables::open(alloc, conn).err())
+    Ok(image)
 }
 
 /// Statements that make tables of another schema.
@@ -111,14 +54,19 @@ const SPOILED: &[&str] = &[
     "UPDATE batch SET kind = 'files' WHERE kind = 'apps'",
 ];
 
-/// The first of the statements after which the tables are not refused in this way.
+/// The first of the statements after which the tables in these files are not refused in this way.
 fn first_taken(
     alloc: Global,
+    image: &Image,
     statements: &[&'static str],
     fault: OpenFault,
 ) -> Result<Option<&'static str>, Fail> {
     for sql in statements {
-        if refused_after(alloc, filled(alloc)?, sql, &[])? != Some(fault) {
+        let refusal = Refusal {
+            sql: Some(sql),
+            settings: None,
+        };
+        if done_in(alloc, image, LASTING, refusal)? != Some(fault) {
             return Ok(Some(sql));
         }
     }
@@ -127,8 +75,9 @@ fn first_taken(
 
 #[test]
 fn tables_of_another_schema_are_refused(rt: HostRuntime) -> Result<(), Fail> {
+    let image = filled(rt.alloc())?;
     assert_eq!(rt;
-        first_taken(rt.alloc(), OTHERS, OpenFault::NotTables)?,
+        first_taken(rt.alloc(), &image, OTHERS, OpenFault::NotTables)?,
         None
     );
     Ok(())
@@ -136,101 +85,50 @@ fn tables_of_another_schema_are_refused(rt: HostRuntime) -> Result<(), Fail> {
 
 #[test]
 fn spoiled_rows_are_refused(rt: HostRuntime) -> Result<(), Fail> {
-    assert_eq!(rt; first_taken(rt.alloc(), SPOILED, OpenFault::BadRow)?, None);
+    let image = filled(rt.alloc())?;
+    assert_eq!(rt;
+        first_taken(rt.alloc(), &image, SPOILED, OpenFault::BadRow)?,
+        None
+    );
     Ok(())
-}
-
-/// How making new tables in a database is refused; none if they are made.
-fn refused_to_make<S: Alter + Drop>(
-    alloc: Global,
-    conn: Connection<S>,
-) -> Result<Option<OpenFault>, Fail> {
-    Ok(Tables::create(alloc, conn, &default_settings(alloc)?).err())
 }
 
 #[test]
 fn tables_are_no_new_tables(rt: HostRuntime) -> Result<(), Fail> {
-    let alloc = rt.alloc();
+    let image = filled(rt.alloc())?;
+    let settings = settings(rt.alloc())?;
+    let chosen = Some(&settings);
+    let refusal = Refusal {
+        sql: None,
+        settings: chosen,
+    };
     assert_eq!(rt;
-        refused_to_make(alloc, filled(alloc)?)?,
+        done_in(rt.alloc(), &image, LASTING, refusal)?,
         Some(OpenFault::NotTables)
     );
     Ok(())
 }
 
-/// What a database in a file must show. It is closed afterwards.
-#[derive(Drop)]
-enum Seen<'a> {
-    /// New tables are made.
-    Made,
-    /// After this line its tables give this answer.
-    Told { line: &'a str, told: &'a str },
-}
-
-impl Seen<'_> {
-    /// Whether a database shows it.
-    fn is_seen_in<S: Alter + Drop>(
-        &self,
-        alloc: Global,
-        conn: Connection<S>,
-    ) -> Result<bool, Fail> {
-        match self {
-            Seen::Made => Ok(refused_to_make(alloc, conn)?.is_none()),
-            Seen::Told { line, told } => answers_over(alloc, conn, line, told),
-        }
+/// What is printed in a replay of these lines over new tables in files, which are closed after each line.
+fn printed_line_by_line(alloc: Global, lines: &str) -> Result<Vec<u8>, Fail> {
+    let mut printed = Vec::new(alloc);
+    let (_, mut image) = filled_with(alloc, &[])?;
+    for line in lines.split_inclusive('\n') {
+        let replay = Replay {
+            settings: None,
+            lines: line.as_bytes(),
+        };
+        let ((more, _), left) = done_in(alloc, &image, LASTING, replay)?;
+        printed.extend(more)?;
+        image = left;
     }
+    Ok(printed)
 }
 
-impl Visit for Seen<'_> {
-    type Found = Result<bool, Fail>;
-
-    fn visit<S: Alter + Drop>(
-        &self,
-        rt: &HostRuntime,
-        conn: Connection<S>,
-    ) -> Result<Result<bool, Fail>, Failure> {
-        Ok(self.is_seen_in(rt.alloc(), conn))
-    }
-}
-
-/// Whether a line over the tables of a database gets this answer.
-fn answers_over<S: Alter + Drop>(
-    alloc: Global,
-    conn: Connection<S>,
-    line: &str,
-    told: &str,
-) -> Result<bool, Fail> {
-    let (printed, _) = replayed_over(alloc, Tables::open(alloc, conn)?, line.as_bytes())?;
-    Ok(printed.as_slice() == told.as_bytes())
-}
-
-/// Whether the database in a file shows this.
-fn is_seen_in_file(rt: &HostRuntime, path: &str, seen: &Seen<'_>) -> Result<bool, Fail> {
-    match visit_file(rt, path, seen) {
-        Ok(seen) => seen,
-        Err(_) => Err(Fail::new("the file is not opened")),
-    }
-}
-
-/// Whether the tables in a file give these answers, line by line. The file is opened for each line and closed after it.
-fn are_told_in_file(rt: &HostRuntime, path: &str, lines: &str, told: &str) -> Result<bool, Fail> {
-    for (line, told) in lines.split_inclusive('\n').zip(told.split_inclusive('\n')) {
-        if !is_seen_in_file(rt, path, &Seen::Told { line, told })? {
-            return Ok(false);
-        }
-    }
-    Ok(true)
-}
-
-/// Whether new tables in a file, which is closed after each of these lines, give the answers of tables in memory.
-fn answers_on(rt: &HostRuntime, path: &str, lines: &str) -> Result<bool, Fail> {
-    let (told, _) = replayed(rt.alloc(), lines.as_bytes())?;
-    let told = str::from_utf8(&told).unwrap_or("");
-    Ok(
-        told.lines().count() == lines.lines().count()
-            && is_seen_in_file(rt, path, &Seen::Made)?
-            && are_told_in_file(rt, path, lines, told)?,
-    )
+/// Whether tables in files that are closed after each of these lines give the answers of tables that are not.
+fn answers_on(alloc: Global, lines: &str) -> Result<bool, Fail> {
+    let ((printed, ended), _) = filled_with(alloc, lines.as_bytes())?;
+    Ok(ended == Ended::Good && printed_line_by_line(alloc, lines)? == printed)
 }
 
 /// The lines of a life in which a workunit takes a class. A host that lost its job comes back with a version of another
@@ -241,10 +139,10 @@ fn lines_of_a_class(alloc: Global) -> Result<String, Fail> {
 }
 
 #[test]
-fn a_file_that_is_closed_behind_each_line_answers_on(rt: HostRuntime) -> Result<(), Fail> {
+fn files_that_are_closed_after_each_line_answer_on(rt: HostRuntime) -> Result<(), Fail> {
     let life = lines(rt.alloc())?;
-    assert!(rt; answers_on(&rt, "project.db", life.as_str())?);
+    assert!(rt; answers_on(rt.alloc(), life.as_str())?);
     let class = lines_of_a_class(rt.alloc())?;
-    assert!(rt; answers_on(&rt, "classes.db", class.as_str())?);
+    assert!(rt; answers_on(rt.alloc(), class.as_str())?);
     Ok(())
 }

@@ -1,10 +1,13 @@
-//! Tables of the earlier schemas, which are upgraded to the newest one.
+//! Tables of the first schema, which are upgraded to the newest one.
 
-use super::stops::{Deed, Fuses, Image, LASTING, Leaves, MOST_CALLS, ShowRows, done_in, empty};
-use super::stored::{WORKUNITS, filled_with, run};
-use super::{CALL_START, PROJECT, replayed_over};
-use sched_tables::{OpenFault, SCHEMA_1, Tables, upgrade};
-use sqlite::{Alter, Connection, MemStore};
+use super::files::{
+    Deed, Fuses, Image, LASTING, Leaves, MOST_CALLS, Refusal, Replay, ShowRows, done_in, empty,
+    filled_with, run,
+};
+use super::stored::WORKUNITS;
+use super::{CALL_START, PROJECT};
+use sched_tables::{OpenFault, SCHEMA_1, upgrade};
+use sqlite::{Alter, Connection, Row};
 use std::alloc::Global;
 use std::str;
 use std::test::Fail;
@@ -22,45 +25,8 @@ fn lines(alloc: Global) -> Result<String, Fail> {
     Ok(format!(in alloc; "{PROJECT}{WORKUNITS}{CALL_START},\"work_req_seconds\":7200}}\n{SECOND}")?)
 }
 
-/// A schema before the newest one.
-#[derive(Clone, Copy)]
-enum Former {
-    /// It keeps one call of each host.
-    First,
-    /// It has one more table, for several calls of a host.
-    Second,
-}
-
-impl Former {
-    /// The statement that reads the kept calls, and the one that inserts them into this schema's tables. In the first
-    /// schema the last call of a host stays.
-    fn calls(self) -> (&'static str, &'static str) {
-        match self {
-            Former::First => (
-                "SELECT host_id, seqno, text, reply FROM kept4 ORDER BY seqno",
-                "INSERT OR REPLACE INTO kept VALUES (?1, ?2, ?3, ?4)",
-            ),
-            Former::Second => (
-                "SELECT host_id, slot, seqno, text, reply FROM kept4 ORDER BY host_id, slot",
-                "INSERT INTO kept4 VALUES (?1, ?2, ?3, ?4, ?5)",
-            ),
-        }
-    }
-
-    /// The statement that sets the number of the schema to this one's.
-    fn numbering(self) -> &'static str {
-        match self {
-            Former::First => "UPDATE setting SET value = 1 WHERE name = 'schema'",
-            Former::Second => "UPDATE setting SET value = 2 WHERE name = 'schema'",
-        }
-    }
-}
-
-/// What the second schema has that the first lacks.
-const KEPT4: &str =
-    "CREATE TABLE kept4 (host_id INTEGER NOT NULL REFERENCES host, slot INTEGER NOT NULL, seqno INTEGER NOT NULL, text TEXT NOT NULL, reply TEXT NOT NULL, PRIMARY KEY (host_id, slot)) STRICT";
-
-/// The statements that read the rows of each table, except kept calls, and insert them into an earlier schema's.
+/// The statements that read the rows of each table of the newest schema, and insert them into the first schema's. Of the
+/// kept calls the last one of a host stays.
 const COPIED: &[(&str, &str)] = &[
     (
         "SELECT name, value FROM setting ORDER BY rowid",
@@ -94,169 +60,90 @@ const COPIED: &[(&str, &str)] = &[
         "SELECT kind, name, text, answer FROM batch ORDER BY rowid",
         "INSERT INTO batch VALUES (?1, ?2, ?3, ?4)",
     ),
+    (
+        "SELECT host_id, seqno, text, reply FROM kept4 ORDER BY seqno",
+        "INSERT OR REPLACE INTO kept VALUES (?1, ?2, ?3, ?4)",
+    ),
 ];
 
-/// Inserts the rows that one statement reads by another statement.
-fn copy_rows<F: Alter, T: Alter>(
+/// Shows the rows of each table of the newest schema that the first schema has too.
+#[derive(Clone, Copy)]
+struct ReadTables;
+
+impl Deed for ReadTables {
+    type Shown = Vec<Vec<Row>>;
+
+    fn over<S: Alter + Leaves + Drop>(
+        self,
+        alloc: Global,
+        mut conn: Connection<S>,
+    ) -> Result<Vec<Vec<Row>>, Fail> {
+        read_tables(alloc, &mut conn)
+    }
+}
+
+/// The rows of each table of the newest schema that the first schema has too.
+fn read_tables<S: Alter>(alloc: Global, conn: &mut Connection<S>) -> Result<Vec<Vec<Row>>, Fail> {
+    let mut tables = Vec::new(alloc);
+    for (read, _) in COPIED {
+        tables.push(conn.query_all(read, &[])?)?;
+    }
+    Ok(tables)
+}
+
+/// Inserts a row by a statement.
+fn insert_row<S: Alter>(
     alloc: Global,
-    from: &mut Connection<F>,
-    to: &mut Connection<T>,
-    read: &str,
-    put: &str,
+    conn: &mut Connection<S>,
+    sql: &str,
+    row: &Row,
 ) -> Result<(), Fail> {
-    for row in &from.query_all(read, &[])? {
-        let mut values = Vec::new(alloc);
-        for at in 0..row.column_count() {
-            values.push(row.get_ref(at)?)?;
-        }
-        run(to, put, &values)?;
+    let mut values = Vec::new(alloc);
+    for at in 0..row.column_count() {
+        values.push(row.get_ref(at)?)?;
+    }
+    run(conn, sql, &values)?;
+    Ok(())
+}
+
+/// Inserts rows by a statement.
+fn insert_rows<S: Alter>(
+    alloc: Global,
+    conn: &mut Connection<S>,
+    sql: &str,
+    rows: &[Row],
+) -> Result<(), Fail> {
+    for row in rows {
+        insert_row(alloc, conn, sql, row)?;
     }
     Ok(())
 }
 
-/// Makes tables of an earlier schema in an empty database, with the rows of these tables of the newest one.
-fn make_former<F: Alter, T: Alter>(
+/// Makes tables of the first schema in an empty database, with these rows of each table.
+fn make_first<S: Alter>(
     alloc: Global,
-    newest: &mut Connection<F>,
-    conn: &mut Connection<T>,
-    former: Former,
+    conn: &mut Connection<S>,
+    tables: &[Vec<Row>],
 ) -> Result<(), Fail> {
     conn.execute_batch(SCHEMA_1)?;
-    if let Former::Second = former {
-        conn.execute_batch(KEPT4)?;
+    for ((_, insert), rows) in COPIED.iter().zip(tables) {
+        insert_rows(alloc, conn, insert, rows)?;
     }
-    for (read, put) in COPIED {
-        copy_rows(alloc, newest, conn, read, put)?;
-    }
-    let (read, put) = former.calls();
-    copy_rows(alloc, newest, conn, read, put)?;
-    run(conn, former.numbering(), &[])?;
+    run(
+        conn,
+        "UPDATE setting SET value = 1 WHERE name = 'schema'",
+        &[],
+    )?;
     Ok(())
 }
 
-/// Tables of an earlier schema in memory, with the rows of these tables of the newest one.
-fn former_of<F: Alter>(
-    alloc: Global,
-    newest: &mut Connection<F>,
-    former: Former,
-) -> Result<Connection<MemStore>, Fail> {
-    let mut conn = Connection::open_in_memory(alloc)?;
-    make_former(alloc, newest, &mut conn, former)?;
-    Ok(conn)
-}
-
-/// The same with the rows of a project in which a host called twice.
-fn filled_former(alloc: Global, former: Former) -> Result<Connection<MemStore>, Fail> {
-    former_of(
-        alloc,
-        &mut filled_with(alloc, lines(alloc)?.as_bytes())?,
-        former,
-    )
-}
-
-/// The answers to lines over the tables of a database.
-fn told_over<S: Alter + Drop>(
-    alloc: Global,
-    conn: Connection<S>,
-    lines: &str,
-) -> Result<String, Fail> {
-    let (printed, _) = replayed_over(alloc, Tables::open(alloc, conn)?, lines.as_bytes())?;
-    Ok(String::from_str(alloc, str::from_utf8(&printed).unwrap_or(""))?)
-}
-
-/// The answers to lines over tables that were upgraded.
-fn told_upgraded(alloc: Global, schema: Former, lines: &str) -> Result<String, Fail> {
-    let mut conn = filled_former(alloc, schema)?;
-    let schema = upgrade(alloc, &mut conn)?;
-    let again = upgrade(alloc, &mut conn)?;
-    if schema != 3 || again != 3 {
-        return Err(Fail::new("the newest schema has another number"));
-    }
-    told_over(alloc, conn, lines)
-}
-
-/// The first call of Ann's host, which gets a job of each workunit.
-fn first(alloc: Global) -> Result<String, Fail> {
-    Ok(format!(in alloc; "{CALL_START},\"work_req_seconds\":7200}}\n")?)
-}
-
-/// The replies to the first call and to the second, as they were given first.
-fn replies(alloc: Global) -> Result<String, Fail> {
-    let told = told_over(alloc, filled_with(alloc, &[])?, lines(alloc)?.as_str())?;
-    let mut replies = String::new(alloc);
-    for line in told.as_str().lines().skip(4) {
-        replies.push_str(line)?;
-        replies.push_str("\n")?;
-    }
-    Ok(replies)
-}
-
-#[test]
-fn an_upgrade_of_the_first_schema_keeps_the_last_call_of_a_host(
-    rt: HostRuntime,
-) -> Result<(), Fail> {
-    let alloc = rt.alloc();
-    let first = first(alloc)?;
-    let lines = format!(in alloc; "{SECOND}{first}{THIRD}{SECOND}{first}")?;
-    let told = told_upgraded(alloc, Former::First, lines.as_str())?;
-    let replies = replies(alloc)?;
-    let second = replies.as_str().lines().last();
-    let mut answers = told.as_str().lines();
-    assert!(rt; second.is_some_and(|reply| reply.starts_with("200 {\"end_word\":")));
-    assert!(rt; answers.next() == second);
-    assert!(rt; answers.next() == Some("409 {\"error\":\"stale\",\"last\":2,\"number\":10}"));
-    assert!(rt;
-        answers
-            .next()
-            .is_some_and(|answer| answer.starts_with("200 {\"end_word\":"))
-    );
-    assert!(rt; answers.next() == second);
-    assert!(rt; answers.next() == Some("409 {\"error\":\"stale\",\"last\":3,\"number\":10}"));
-    Ok(())
-}
-
-#[test]
-fn an_upgrade_of_the_second_schema_keeps_all_calls(rt: HostRuntime) -> Result<(), Fail> {
-    let alloc = rt.alloc();
-    let lines = format!(in alloc; "{}{SECOND}", first(alloc)?)?;
-    let told = told_upgraded(alloc, Former::Second, lines.as_str())?;
-    let replies = replies(alloc)?;
-    assert_eq!(rt; told.as_str().lines().count(), 2);
-    assert!(rt; told == replies);
-    Ok(())
-}
-
-/// The number of the schema of a database's tables, found by opening them; none if they are of no schema, or have a bad
-/// row.
-fn schema_of<S: Alter + Drop>(alloc: Global, conn: Connection<S>) -> Option<u32> {
-    match Tables::open(alloc, conn).err() {
-        Some(OpenFault::OldSchema(number)) => Some(number),
-        Some(_) => None,
-        None => Some(3),
-    }
-}
-
-#[test]
-fn tables_of_an_earlier_schema_are_old(rt: HostRuntime) -> Result<(), Fail> {
-    let alloc = rt.alloc();
-    assert_eq!(rt;
-        schema_of(alloc, filled_former(alloc, Former::First)?),
-        Some(1)
-    );
-    assert_eq!(rt;
-        schema_of(alloc, filled_former(alloc, Former::Second)?),
-        Some(2)
-    );
-    let mut conn = Connection::open_in_memory(alloc)?;
-    assert_eq!(rt; upgrade(alloc, &mut conn).err(), Some(OpenFault::NotTables));
-    Ok(())
-}
-
-/// Makes tables of the first schema, with the rows of a project in which a host called twice.
+/// Makes tables of the first schema, with these rows of each table.
 #[derive(Clone, Copy)]
-struct MakeFirst;
+struct MakeFirst<'a> {
+    tables: &'a [Vec<Row>],
+}
 
-impl Deed for MakeFirst {
+impl Deed for MakeFirst<'_> {
     type Shown = Image;
 
     fn over<S: Alter + Leaves + Drop>(
@@ -264,8 +151,7 @@ impl Deed for MakeFirst {
         alloc: Global,
         mut conn: Connection<S>,
     ) -> Result<Image, Fail> {
-        let mut newest = filled_with(alloc, lines(alloc)?.as_bytes())?;
-        make_former(alloc, &mut newest, &mut conn, Former::First)?;
+        make_first(alloc, &mut conn, self.tables)?;
         conn.into_store().closed(alloc)
     }
 }
@@ -295,27 +181,111 @@ impl Deed for Upgrade {
     }
 }
 
-/// Shows the number of the schema of whole tables, found by opening them; none if they are of no schema, or have a bad
+/// What a project in which a host called twice prints, and its files in the first schema.
+#[derive(Drop)]
+struct First {
+    printed: Vec<u8>,
+    image: Image,
+}
+
+/// A project in which a host called twice, in the first schema.
+fn first_schema(alloc: Global) -> Result<First, Fail> {
+    let lines = format!(in alloc;
+        "{PROJECT}{WORKUNITS}{CALL_START},\"work_req_seconds\":7200}}\n{SECOND}"
+    )?;
+    let ((printed, _), newest) = filled_with(alloc, lines.as_bytes())?;
+    let tables = done_in(alloc, &newest, LASTING, ReadTables)?;
+    let image = done_in(alloc, &empty(alloc), LASTING, MakeFirst { tables: &tables })?;
+    Ok(First { printed, image })
+}
+
+/// What the files of tables hold after an upgrade and one more.
+fn upgraded(alloc: Global, image: &Image) -> Result<Image, Fail> {
+    let (ended, image) = done_in(alloc, image, LASTING, Upgrade)?;
+    let (again, image) = done_in(alloc, &image, LASTING, Upgrade)?;
+    if ended != Ok(3) || again != Ok(3) {
+        return Err(Fail::new("the newest schema has another number"));
+    }
+    Ok(image)
+}
+
+/// Whether the line of this index is this one.
+fn line_is(lines: &str, at: usize, wanted: &str) -> bool {
+    match lines.lines().nth(at) {
+        None => false,
+        Some(line) => line.as_bytes() == wanted.as_bytes(),
+    }
+}
+
+/// Whether the line of this index is a reply.
+fn is_reply(lines: &str, at: usize) -> bool {
+    match lines.lines().nth(at) {
+        None => false,
+        Some(line) => line.starts_with("200 {\"end_word\":"),
+    }
+}
+
+/// Whether answers after an upgrade are these: the reply to the second call as it was given first, a refusal of the first
+/// call, a reply to a third, and then the second's again and the refusal with the third's number.
+fn are_answers(told: &str, second: &str) -> bool {
+    is_reply(told, 0)
+        && line_is(told, 0, second)
+        && line_is(
+            told,
+            1,
+            "409 {\"error\":\"stale\",\"last\":2,\"number\":10}",
+        )
+        && is_reply(told, 2)
+        && line_is(told, 3, second)
+        && line_is(
+            told,
+            4,
+            "409 {\"error\":\"stale\",\"last\":3,\"number\":10}",
+        )
+}
+
+/// Whether an upgrade of the first schema keeps the last call of a host, with its reply, and no earlier one.
+fn keeps_the_last_call(alloc: Global) -> Result<bool, Fail> {
+    let First { printed, image } = first_schema(alloc)?;
+    let image = upgraded(alloc, &image)?;
+    let call = format!(in alloc; "{CALL_START},\"work_req_seconds\":7200}}\n")?;
+    let lines = format!(in alloc; "{SECOND}{call}{THIRD}{SECOND}{call}")?;
+    let replay = Replay {
+        settings: None,
+        lines: lines.as_bytes(),
+    };
+    let ((told, _), _) = done_in(alloc, &image, LASTING, replay)?;
+    let before = str::from_utf8(&printed).unwrap_or("");
+    let second = before.lines().last().unwrap_or("");
+    Ok(are_answers(str::from_utf8(&told).unwrap_or(""), second))
+}
+
+#[test]
+fn an_upgrade_of_the_first_schema_keeps_the_last_call_of_a_host(
+    rt: HostRuntime,
+) -> Result<(), Fail> {
+    assert!(rt; keeps_the_last_call(rt.alloc())?);
+    Ok(())
+}
+
+/// The number of the schema of the tables in files, found by opening them; none if they are of no schema, or have a bad
 /// row.
-#[derive(Clone, Copy)]
-struct TellSchema;
-
-impl Deed for TellSchema {
-    type Shown = Option<u32>;
-
-    fn over<S: Alter + Leaves + Drop>(
-        self,
-        alloc: Global,
-        conn: Connection<S>,
-    ) -> Result<Option<u32>, Fail> {
-        Ok(schema_of(alloc, conn))
+fn schema_in(alloc: Global, image: &Image) -> Result<Option<u32>, Fail> {
+    let opening = Refusal {
+        sql: None,
+        settings: None,
+    };
+    match done_in(alloc, image, LASTING, opening)? {
+        Some(OpenFault::OldSchema(number)) => Ok(Some(number)),
+        Some(_) => Ok(None),
+        None => Ok(Some(3)),
     }
 }
 
 /// The number of the schema that a stop of an upgrade left, if its tables are whole and can be upgraded to these rows.
 /// None if they are of no schema, or are upgraded to others.
 fn schema_left(alloc: Global, left: &Image, rows: &str) -> Result<Option<u32>, Fail> {
-    let schema = done_in(alloc, left, LASTING, TellSchema)?;
+    let schema = schema_in(alloc, left)?;
     let (ended, image) = done_in(alloc, left, LASTING, Upgrade)?;
     if ended == Ok(3) && done_in(alloc, &image, LASTING, ShowRows)?.as_str() == rows {
         return Ok(schema);
@@ -326,12 +296,15 @@ fn schema_left(alloc: Global, left: &Image, rows: &str) -> Result<Option<u32>, F
 /// The numbers of the schemas that were left whole when the log, or the database file, stopped at each call of an
 /// upgrade in turn. None if one stop left no schema whole.
 fn schemas_left(alloc: Global, in_log: bool) -> Result<Option<Vec<u32>>, Fail> {
-    let image = done_in(alloc, &empty(alloc), LASTING, MakeFirst)?;
+    let First {
+        printed: _printed,
+        image,
+    } = first_schema(alloc)?;
     let (_, whole) = done_in(alloc, &image, LASTING, Upgrade)?;
     let rows = done_in(alloc, &whole, LASTING, ShowRows)?;
     let mut schemas = Vec::new(alloc);
     for calls in 0..MOST_CALLS {
-        let (ended, left) = done_in(alloc, &image, Fuses::behind(calls, in_log), Upgrade)?;
+        let (ended, left) = done_in(alloc, &image, Fuses::after(calls, in_log), Upgrade)?;
         if ended.is_ok() {
             return Ok(Some(schemas));
         }
