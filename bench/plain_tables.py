@@ -10,9 +10,10 @@ tables of the first schema to the newest.
 
 Settings and applications are cached. All else is looked up by the statements of the proved program, as often
 as the program does. Rows of accounts and workunits, and versions, stay cached until such a row is put. Rows
-of instances and hosts stay cached, as they are put. So do the credit of users and how many jobs a host was
-sent on a day. The slot for a host's next call and the first places of what waits stay cached until anything
-is put. With --once no look-up is cached from one message to the next, and no statement runs twice for one
+of instances and hosts stay cached, as they are put. So do the credit of users, how many jobs a host was sent
+on a day, what hosts hold, and the first places of what waits. Hosts by account and client, and workunits by
+name, stay cached until such a row is put with another key or name. The slot for a host's next call stays
+cached until anything is put. With --once no look-up is cached from one message to the next, and no statement runs twice for one
 message. Each message that changes anything is one transaction, which is on the disk before the answer
 (journal_mode WAL, synchronous FULL).
 """
@@ -20,6 +21,7 @@ import socket
 import sqlite3
 import sys
 import time
+from bisect import insort
 from collections import Counter, namedtuple
 
 sys.dont_write_bytecode = True
@@ -117,12 +119,21 @@ LOOK_UPS = {
 }
 SLOTS = 4  # how many calls of a host are kept
 # the look-ups whose rows are cached, how many rows of each kind, and how many versions
-KEPT = ("account by authenticator", "host by number", "workunit", "mark of a workunit", "instances of a workunit")
+KEPT = (
+    "account by authenticator",
+    "host by account and client",
+    "host by number",
+    "workunit by name",
+    "workunit",
+    "mark of a workunit",
+    "instances of a workunit",
+)
 MOST_KEPT, MOST_VERSIONS = 1000, 100
 DAY = 86400
 LAST_DEADLINE = 250_100_000_000
 LEAST_DEADLINE = "SELECT min(deadline) FROM instance WHERE lapse = 0 AND outcome IS NULL"
 MOST_LOOKS = 8  # how many workunits are looked up by key before all that the user had are listed
+MOST_PLACES = 64  # how many places a page of what waits has at most
 MOST_NOTED = 16  # how many offered workunits are cached in one pass through what waits
 
 
@@ -313,12 +324,15 @@ class Tables:
         for pragma in pragmas:
             self.connection.execute(f"PRAGMA {pragma}").fetchall()
         self.once, self.slot, self.noted = once, None, []
-        # the page of waiting places that was read last: the place that it begins with, and its places
-        self.page = None, []
+        # the page of waiting places that was read last: the place that it begins with, the one before which it
+        # ends (None: it has all), and its places
+        self.page = None
         self.seen = {kind: Kept(MOST_KEPT) for kind in (LOOK_UPS if once else KEPT)}
         self.versions = Kept(MOST_VERSIONS)
         # the credit of users by account; and by host: a day, and how many jobs the host was sent on it
         self.credits, self.sent = Kept(MOST_KEPT), Kept(MOST_KEPT)
+        # the places of the jobs that hosts hold, in order
+        self.held = Kept(MOST_KEPT)
         # no held instance has a deadline before the mark; `asked` is the moment that was asked about last
         (least_deadline,) = self.connection.execute(LEAST_DEADLINE).fetchone()
         self.mark, self.asked = LAST_DEADLINE if least_deadline is None else least_deadline, 0
@@ -337,23 +351,30 @@ class Tables:
 
     def forget(self):
         """Clears the cache of look-ups."""
-        for seen in (*self.seen.values(), self.versions, self.credits, self.sent):
+        for seen in (*self.seen.values(), self.versions, self.credits, self.sent, self.held):
             seen.clear()
-        self.page = None, []
+        self.page = None
 
     def note(self, table, row):
         """Brings the cache up to date after a row was put: the cached row is replaced or removed."""
         key = row[:1]
         if table in ("unit", "unit_mark"):
-            self.seen["workunit"].pop(key, None)
+            known = self.seen["workunit"].pop(key, None)
             self.seen["mark of a workunit"].pop(key, None)
+            if table == "unit" and (not known or known[0][1] != row[1]):
+                self.seen["workunit by name"].clear()
         elif table == "instance":
             number, known = row[1], self.seen["instances of a workunit"].pop(key, None)
             self.move_sent(known, row)
-            if known is not None and number < len(known):
+            self.move_held(known, row)
+            self.move_page(row)
+            if known is not None and number <= len(known):
                 self.seen["instances of a workunit"].keep(key, [*known[:number], row, *known[number + 1 :]])
         elif table == "host":
-            self.move_credit(self.seen["host by number"].pop(key, None), row)
+            known = self.seen["host by number"].pop(key, None)
+            if not known or known[0][1:3] != row[1:3]:
+                self.seen["host by account and client"].clear()
+            self.move_credit(known, row)
             self.seen["host by number"].keep(key, [row])
         elif table == "account":
             self.seen["account by authenticator"].clear()
@@ -388,6 +409,38 @@ class Tables:
         elif before != after:
             self.sent.clear()
 
+    def move_held(self, known, row):
+        """If the workunit's instances were cached, moves the place from the cached list of the host that held
+        it to that of the host that holds it."""
+        if known is None:
+            self.held.clear()
+            return
+        place, old = row[:2], known[row[1]] if row[1] < len(known) else None
+        before, after = (None if it is None or it[5] != 0 or it[6] is not None else it[2] for it in (old, row))
+        if before == after:
+            return
+        if before in self.held:
+            self.held[before] = [it for it in self.held[before] if it != place]
+        if after in self.held:
+            insort(self.held[after], place)
+
+    def is_on_page(self, place):
+        """Returns whether a place is one that the cached page of what waits would have, if it waited."""
+        if self.page is None:
+            return False
+        begin, end, _ = self.page
+        return begin <= place and (end is None or place < end)
+
+    def move_page(self, row):
+        """Puts the place of an instance into the cached page of what waits, or takes it out of it."""
+        place, waits = row[:2], row[9] == 1
+        if not self.is_on_page(place):
+            return
+        begin, end, places = self.page
+        places = sorted({*places, place} if waits else {*places} - {place})
+        is_kept = len(places) <= MOST_PLACES and (places or end is None)
+        self.page = (begin, end, places) if is_kept else None
+
     def credit_of_user(self, account):
         """Returns the credit of a user."""
         if account not in self.credits:
@@ -419,7 +472,7 @@ class Tables:
 
     def put(self, rows):
         """Puts rows in one transaction. Each is a table and its values."""
-        self.slot, self.page = None, (None, [])
+        self.slot = None
         for table, row in rows:
             if table == "instance" and row[2] is not None and row[5] == 0 and row[6] is None:
                 self.mark = min(self.mark, row[4])
@@ -486,7 +539,9 @@ class Tables:
     def held_by(self, host):
         """Returns the places of a host's held jobs, in order. The look-up goes from the newest job on."""
         held = self.held_count(host)
-        return sorted(self.shown("what a host holds", host, held)) if held else []
+        if held and host not in self.held:
+            self.held.keep(host, sorted(self.shown("what a host holds", host, held)))
+        return list(self.held[host]) if held else []
 
     def due_from_mark(self, now):
         """Returns the places of the jobs held past their deadline. The look-up starts at the mark, which
@@ -544,25 +599,27 @@ class Tables:
             self.seen["mark of a workunit"].keep((unit,), mark)
         self.noted.clear()
 
-    def first_page(self, *place):
-        """Returns the first waiting places from a place on. If the cached page begins with the place or has
-        it, returns that page, which may begin earlier."""
-        begin, places = self.page
-        if place != begin and place not in places:
-            places = self.shown(f"what waits, {FIRST_PAGE} places", *place)
-            self.page = place, places
-        return places
+    def read_page(self, size, *place):
+        """Returns so many waiting places from a place on, and the place before which they end: None if there
+        are no more."""
+        places = self.shown(f"what waits, {size} places", *place)
+        if len(places) < size:
+            return places, None
+        unit, number = places[-1]
+        return places, (unit, number + 1)
 
     def waiting(self, *place):
         """Yields the places of waiting instances, from a place on."""
-        page, size = self.first_page(*place), FIRST_PAGE
-        places = page[page.index(place) :] if place in page else page
+        if not self.is_on_page(place):
+            places, end = self.read_page(FIRST_PAGE, *place)
+            self.page = place, end, places
+        _, end, places = self.page
+        places = [it for it in places if it >= place]
         while True:
             yield from places
-            if len(page) < size:
+            if end is None:
                 return
-            size, (unit, number) = FURTHER_PAGE, page[-1]
-            places = page = self.shown(f"what waits, {size} places", unit, number + 1)
+            places, end = self.read_page(FURTHER_PAGE, *end)
 
 
 class Page:
