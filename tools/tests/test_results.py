@@ -51,7 +51,7 @@ def test_results_are_those_of_the_plain_scheduler(
         ]
     wanted = [(name, reason and REASONS[reason], *more) for name, reason, *more in decided_by(lived)]
     assert told == wanted
-    assert len(wanted) > 10
+    assert wanted  # a life in which nothing was decided would show nothing
 
 
 def test_both_forms_have_the_hosts_users_and_credits_of_the_plain_scheduler(tmp_path: Path) -> None:
