@@ -32,7 +32,7 @@ holds host x = go (is_held x)
     go true = and_comm (option_any (λ n. n == host) (host_of x)) true
     go false = and_comm (option_any (λ n. n == host) (host_of x)) false
 
--- ---- holders, of which one is another one
+-- ---- the holders, one of them changed
 
 module _ (holders : ℕ → ℕ → Option ℕ) (unit number : ℕ) where
   pub holder_there : (holder : Option ℕ) → with_holder holders unit number holder unit number ≡ holder

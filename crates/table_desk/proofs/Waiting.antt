@@ -240,7 +240,7 @@ module _ (w : World) where
   offered_on None = refl
   offered_on (Some from) = unsent_waiting w from
 
-  -- the page, and what waits behind its last place
+  -- the page, and what waits after its last place
   module _ (n : ℕ) (from : Place) (page : List Place) (is : page ≡ take (suc n) (waiting w from)) where
     pub parted : (o : Option Place) → slice_get page n ≡ o → waiting w from ≡ page ++ waiting_on w (option_map behind o)
     parted o at =
