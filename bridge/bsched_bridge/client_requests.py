@@ -27,11 +27,11 @@ WITHOUT_STATUS = 1  # the exit status that is reported if a result did not end w
 # The client puts what a program wrote to its standard error between these tags, after lines of its own. The
 # text is in a CDATA section, as it was written. Only bytes beyond ASCII are changed: each is written as a
 # character reference.
-STANDARD_ERROR = re.compile(r"<stderr_txt>(.*)</stderr_txt>", re.DOTALL)
+TEXT_BEGINS, TEXT_ENDS = "<stderr_txt>", "</stderr_txt>"
 BYTE = re.compile(rb"&#(12[89]|1[3-9][0-9]|2[0-4][0-9]|25[0-5]);")
 SECTION_BEGINS, SECTION_ENDS, ERROR_ENDS = "<![CDATA[", "]]>", "</stderr_out>"
 # A program may mark its answer, in case something else writes to its standard error too.
-ANSWER = re.compile(r"<answer>(.*?)</answer>", re.DOTALL)
+ANSWER_BEGINS, ANSWER_ENDS = "<answer>", "</answer>"
 
 
 class RequestFault(Exception):
@@ -136,6 +136,21 @@ def with_whole_sections(text: str) -> str:
     return ERROR_ENDS.join(parts)
 
 
+def between(text: str, begins: str, ends: str, to_the_last: bool = False) -> str | None:
+    """Returns what is between the first begin and the first end after it, or the last end. Returns None if
+    there is no such pair.
+
+    Each place of the text is looked at once. A pattern such as `<a>(.*?)</a>` goes to the end of the text for
+    each begin, and keeps all threads waiting meanwhile.
+    """
+    place = text.find(begins)
+    if place < 0:
+        return None
+    first = place + len(begins)
+    last = text.rfind(ends, first) if to_the_last else text.find(ends, first)
+    return None if last < 0 else text[first:last]
+
+
 def with_bytes(text: str) -> str:
     """Returns a standard error with its bytes beyond ASCII. Bytes that are not UTF-8 are replaced."""
     return BYTE.sub(lambda told: bytes([int(told[1])]), text.encode()).decode(errors="replace")
@@ -149,10 +164,10 @@ def output_of(result: Element) -> str:
     if told is None:
         return ""
     text = "".join([told.text or "", *(part.tail or "" for part in told)])
-    if inner := STANDARD_ERROR.search(text):
-        text = inner[1]
-    if marked := ANSWER.search(text):
-        text = marked[1]
+    inner = between(text, TEXT_BEGINS, TEXT_ENDS, to_the_last=True)
+    text = text if inner is None else inner
+    marked = between(text, ANSWER_BEGINS, ANSWER_ENDS)
+    text = text if marked is None else marked
     return cut_to_bytes(with_bytes(text).strip(), MOST_OUTPUT)
 
 

@@ -1,12 +1,15 @@
 """What the bridge reads from XML, and what it refuses."""
+import re
 import time
 from pathlib import Path
 
 import pytest
+from hypothesis import example, given
+from hypothesis import strategies as st
 from messages import request
 
 from bsched_bridge import client_requests
-from bsched_bridge.client_requests import Report, RequestFault, read_request
+from bsched_bridge.client_requests import Report, RequestFault, between, read_request
 
 RECORDED = Path(__file__).parent / "requests"
 
@@ -95,6 +98,27 @@ def test_sections_are_looked_at_once():
         with pytest.raises(RequestFault):
             read_request(body)
     assert time.process_time() - began < 60  # each section is looked at once; otherwise it would take hours
+
+
+PARTS = ["<t>", "</t>", "<", ">", "t", "/", "\n", "\r", "\u2028", "é"]
+
+
+@given(st.lists(st.sampled_from(PARTS), max_size=12).map("".join))
+@example("</t><t>a<t>b</t>c</t>d")
+@example("<t></t>")
+@example("<t>a")
+def test_what_is_between_two_tags(text):
+    for pattern, to_the_last in (("<t>(.*?)</t>", False), ("<t>(.*)</t>", True)):
+        found = re.search(pattern, text, re.DOTALL)
+        assert between(text, "<t>", "</t>", to_the_last) == (found and found[1])
+
+
+@pytest.mark.parametrize("tag", ["<answer>", "<stderr_txt>", "<stderr_txt><answer>"])
+def test_tags_that_are_never_closed(tag):
+    output = tag * (600_000 // tag.count("<"))
+    assert read_request(request(reports=[("u1_0", "")]).replace(
+        "<stderr_txt>\n\n</stderr_txt>", output
+    ).encode()).results[0].output == output[:1024]
 
 
 @pytest.mark.parametrize("told, status", [
