@@ -2,6 +2,7 @@
 
 Two modules keep their rows in it: `counts` the keys of bsched with their calls, and `members` the accounts.
 """
+import os
 import sqlite3
 import threading
 from collections.abc import Iterator
@@ -59,6 +60,16 @@ class StateFault(Exception):
     """Raised if the state file can't be used."""
 
 
+def make_private(path: Path) -> None:
+    """Makes an empty file that only its owner can read, if there is no file. SQLite gives its log the same
+    mode.
+    """
+    try:
+        os.close(os.open(path, os.O_WRONLY | os.O_CREAT | os.O_EXCL, 0o600))
+    except FileExistsError:
+        pass
+
+
 class StateFile:
     """A connection to the state file. Only one process at a time can have it. The threads of that process
     take turns.
@@ -66,6 +77,10 @@ class StateFile:
 
     def __init__(self, path: Path) -> None:
         self._lock = threading.Lock()
+        try:
+            make_private(path)
+        except OSError as error:
+            raise StateFault(f"{path}: {error.strerror}") from None
         try:
             self._connection = sqlite3.connect(path, isolation_level=None, check_same_thread=False, timeout=1)
         except sqlite3.Error as error:

@@ -1,4 +1,5 @@
 """The state file: only one bridge has it, older formats are upgraded, and other files are refused."""
+import os
 import re
 import sqlite3
 
@@ -61,6 +62,20 @@ def test_one_bridge_has_the_file(tmp_path):
     with pytest.raises(StateFault, match="no other bridge"):
         StateFile(tmp_path / "state.db")
     file.close()
+
+
+def test_only_the_owner_can_read_a_new_file(tmp_path):
+    mask = os.umask(0)
+    try:
+        file = StateFile(tmp_path / "state.db")
+    finally:
+        os.umask(mask)
+    modes = {path.name: path.stat().st_mode & 0o777 for path in tmp_path.iterdir()}
+    assert modes == {"state.db": 0o600, "state.db-wal": 0o600}
+    file.close()
+    (tmp_path / "state.db").chmod(0o640)  # as an operator wants it
+    StateFile(tmp_path / "state.db").close()
+    assert (tmp_path / "state.db").stat().st_mode & 0o777 == 0o640
 
 
 def test_another_file_is_refused(tmp_path):
