@@ -25,7 +25,7 @@ class CommandLine(argparse.ArgumentParser):
     def error(self, message: str) -> NoReturn:
         """Prints what is wrong, and ends the program."""
         self.print_usage(sys.stderr)
-        self.exit(BAD_COMMAND_LINE, f"bsched_bridge: {message}\n")
+        self.exit(BAD_COMMAND_LINE, f"bsched-bridge: {message}\n")
 
 
 def words() -> argparse.ArgumentParser:
@@ -87,13 +87,13 @@ def main() -> int:
         else:
             serve(told.config, told.check)
     except (OperatorFault, StateFault) as fault:
-        print(f"bsched_bridge: {fault}", file=sys.stderr)
+        print(f"bsched-bridge: {fault}", file=sys.stderr)
         return FAULT
     except KeyFault as fault:
-        print(f"bsched_bridge: {told.key} {fault}", file=sys.stderr)
+        print(f"bsched-bridge: {told.key} {fault}", file=sys.stderr)
         return FAULT
     except (OSError, UnicodeDecodeError) as error:
-        print(f"bsched_bridge: {error}", file=sys.stderr)
+        print(f"bsched-bridge: {error}", file=sys.stderr)
         return FAULT
     return 0
 

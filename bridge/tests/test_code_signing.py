@@ -79,6 +79,20 @@ def test_the_commands(tmp_path):
     told = ordered(tmp_path, "sign", "program", "--key", "code_sign_public")
     assert (told.returncode, told.stderr) == (
         1,
-        "bsched_bridge: code_sign_public has 256 bytes, and a private key has 704\n",
+        "bsched-bridge: code_sign_public has 256 bytes, and a private key has 704\n",
     )
     assert ordered(tmp_path, "sign", "nothing", "--key", "code_sign_private").returncode == 1
+
+
+@pytest.mark.parametrize("there", ["code_sign_private", "code_sign_public"])
+def test_no_key_is_made_without_its_other_half(tmp_path, there):
+    (tmp_path / there).write_text("older")
+    told = ordered(tmp_path, "keygen")
+    assert (told.returncode, told.stderr) == (1, f"bsched-bridge: [Errno 17] File exists: '{there}'\n")
+    assert [(path.name, path.read_text()) for path in tmp_path.iterdir()] == [(there, "older")]
+
+
+@pytest.mark.parametrize("public", ["no folder/public", "code_sign_private"])
+def test_a_public_key_that_can_not_be_written(tmp_path, public):
+    assert ordered(tmp_path, "keygen", "--public", public).returncode == 1
+    assert list(tmp_path.iterdir()) == []

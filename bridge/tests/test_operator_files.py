@@ -235,7 +235,7 @@ def test_the_command_line(project):
     told = ordered(project, "--config", "bridge.toml")
     assert (told.returncode, told.stderr) == (
         1,
-        "bsched_bridge: catalogue.toml: line 1: code_sign_key is missing\n",
+        "bsched-bridge: catalogue.toml: line 1: code_sign_key is missing\n",
     )
     for words in ([], ["nothing"], ["sign", "files/two.txt"], ["--other"]):
         assert ordered(project, *words).returncode == 64
