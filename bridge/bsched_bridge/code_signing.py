@@ -7,6 +7,7 @@ Keys and signatures are written as hexadecimal digits, 32 bytes a line, followed
 begins with one more line, its number of bits. The client accepts keys of at most 1024 bits. A number of such
 a key has 128 bytes, one that belongs to a prime has 64.
 """
+import errno
 import hashlib
 import os
 import re
@@ -123,15 +124,31 @@ def new_key() -> rsa.RSAPrivateKey:
     return rsa.generate_private_key(public_exponent=65537, key_size=BITS)
 
 
-def write_new_keys(private_path: Path, public_path: Path) -> None:
-    """Writes a new pair of keys. Neither file may exist, and only the owner may read the private one."""
-    key = new_key()
-    for path, text, mode in (
-        (private_path, private_key_text(key), 0o600),
-        (public_path, public_key_text(key.public_key()), 0o644),
-    ):
-        with os.fdopen(os.open(path, os.O_WRONLY | os.O_CREAT | os.O_EXCL, mode), "w") as file:
+def write_new_file(path: Path, text: str, mode: int) -> None:
+    """Writes a file that does not exist yet. If that fails, no part of it stays."""
+    descriptor = os.open(path, os.O_WRONLY | os.O_CREAT | os.O_EXCL, mode)
+    try:
+        with os.fdopen(descriptor, "w") as file:
             file.write(text)
+    except OSError:
+        path.unlink()
+        raise
+
+
+def write_new_keys(private_path: Path, public_path: Path) -> None:
+    """Writes a new pair of keys, or neither of them. Neither file may exist, and only the owner may read the
+    private one.
+    """
+    for path in (private_path, public_path):
+        if os.path.lexists(path):
+            raise FileExistsError(errno.EEXIST, os.strerror(errno.EEXIST), str(path))
+    key = new_key()
+    write_new_file(private_path, private_key_text(key), 0o600)
+    try:
+        write_new_file(public_path, public_key_text(key.public_key()), 0o644)
+    except OSError:
+        private_path.unlink()
+        raise
 
 
 # ---- Signatures
