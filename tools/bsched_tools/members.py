@@ -42,14 +42,28 @@ class User:
         return sum(host.millicredits for host in self.hosts.values())
 
 
-def add_host(host: Host, row: tuple[int, int, int, int, int | None, int | None, int | None]) -> None:
+@dataclass(frozen=True, slots=True)
+class HostRow:
+    """What a file says about a host, in the order of the query."""
+
+    fpops: int
+    memory: int
+    disk: int
+    millicredits: int
+    first_sent: int | None
+    last_sent: int | None
+    last_call: int | None
+
+
+def add_host(host: Host, row: HostRow) -> None:
     """Adds what a file says about a host. The file that was named last describes the host."""
-    host.fpops, host.memory, host.disk, credit, first, last, seqno = row
-    host.millicredits += credit
-    if first is not None:
+    host.fpops, host.memory, host.disk = row.fpops, row.memory, row.disk
+    host.millicredits += row.millicredits
+    if row.first_sent is not None:
+        first = row.first_sent
         host.first_sent = first if host.first_sent is None else min(first, host.first_sent)
-    host.last_sent = max(host.last_sent, last or 0)
-    host.calls.append(seqno or 0)
+    host.last_sent = max(host.last_sent, row.last_sent or 0)
+    host.calls.append(row.last_call or 0)
 
 
 def users_of(all_tables: Iterable[Tables]) -> dict[str, User]:
@@ -60,8 +74,7 @@ def users_of(all_tables: Iterable[Tables]) -> dict[str, User]:
             users.setdefault(authenticator, User(authenticator, name)).name = name
         for authenticator, cpid, *row in tables.rows(HOSTS):
             hosts = users[authenticator].hosts
-            fpops, memory, disk, credit, first, last, seqno = row
-            add_host(hosts.setdefault(cpid, Host(cpid)), (fpops, memory, disk, credit, first, last, seqno))
+            add_host(hosts.setdefault(cpid, Host(cpid)), HostRow(*row))
     return users
 
 
