@@ -3,6 +3,7 @@
 An element that means yes is written `<x>1</x>`. The client reads that as it reads `<x/>`.
 """
 import logging
+from dataclasses import dataclass
 from xml.etree.ElementTree import Element, SubElement, indent, tostring
 
 from .catalogue import App, Catalogue, MissingFile, StoredFile, Version, Work
@@ -24,8 +25,19 @@ NO_JOBS = {
     "no_eligible_work": "No tasks are available for this computer",
 }
 
-Files = dict[str, tuple[StoredFile, str | None, bool]]  # with the signature, and whether it is a program
 log = logging.getLogger(__name__)
+
+
+@dataclass(frozen=True, slots=True)
+class NeededFile:
+    """A file that a client downloads for its jobs."""
+
+    file: StoredFile
+    signature: str | None  # input files have none
+    is_program: bool
+
+
+Files = dict[str, NeededFile]  # by name
 
 
 def add(parent: Element, name: str, value: object) -> None:
@@ -116,8 +128,8 @@ class ReplyWriter:
                 add_message(root, f"The project lacks a file for the job {job.name}.", "low")
         for app in apps.values():
             self._add_app(root, app)
-        for file, signature, is_program in files.values():
-            self._add_file(root, file, signature, is_program)
+        for needed in files.values():
+            self._add_file(root, needed)
         for version in versions.values():
             self._add_version(root, version, request)
         workunits = set()
@@ -142,9 +154,9 @@ class ReplyWriter:
         inputs = [self.catalogue.folder.stored(file.name) for file in work.input_files]
         apps[app.name], versions[key] = app, version
         for item in version.files:
-            files[item.file.name] = item.file, item.signature, item.is_main_program
+            files[item.file.name] = NeededFile(item.file, item.signature, item.is_main_program)
         for file in inputs:
-            files.setdefault(file.name, (file, None, False))
+            files.setdefault(file.name, NeededFile(file, None, False))
         return app, work
 
     def _add_app(self, root: Element, app: App) -> None:
@@ -153,15 +165,15 @@ class ReplyWriter:
         add(element, "name", app.name)
         add(element, "user_friendly_name", app.title)
 
-    def _add_file(self, root: Element, file: StoredFile, signature: str | None, is_program: bool) -> None:
+    def _add_file(self, root: Element, needed: NeededFile) -> None:
         """Adds a file that the client downloads."""
-        element = SubElement(root, "file_info")
+        element, file = SubElement(root, "file_info"), needed.file
         add(element, "name", file.name)
         add(element, "url", f"{self.url}download/{file.name}")
-        if is_program:
+        if needed.is_program:
             add(element, "executable", 1)
-        if signature is not None:
-            add(element, "file_signature", "\n" + signature)
+        if needed.signature is not None:
+            add(element, "file_signature", "\n" + needed.signature)
         add(element, "nbytes", file.size)
         add(element, "md5_cksum", file.md5)
 
