@@ -30,7 +30,6 @@ MOST_EMAIL = 254  # characters
 MANAGER_EMAIL = re.compile(r"[^@]+@[^@.]+\.[^@]{2,}")
 NO_EMAIL = re.compile(r"[\s\x00-\x1f\x7f\ufffd]")
 NO_NAME = re.compile("[\\s\x00-\x1f\x7f-\x9f\ufffd]+")
-IMPORT_ATTEMPTS = 2
 WAIT_SECONDS = 3.0  # for another message about the same address
 
 log = logging.getLogger(__name__)
@@ -259,28 +258,28 @@ class Accounts:
 
     def _import(self, member: Member) -> None:
         """Imports an account. If it was imported before, nothing changes."""
-        answer: Refusal | None = None
-        for _ in range(IMPORT_ATTEMPTS):
-            assert member.batch is not None
-            answer = self.scheduler.import_accounts(member.batch, account_import(member), self._operator_key)
-            if answer is None or answer.error == "duplicate_name":  # the key is random, so it is this account
-                if not member.is_imported:
-                    self.members.imported(member)
-                return
-            if answer.error == "batch_reused":
-                member = self.members.with_new_batch(member)
-                continue
-            if answer.error == "table_full" and not member.is_imported:
-                self.members.deleted(member)
-                log.error("no account can be made: bsched has as many as it can have")
-                raise AccountFault(Fault.PROJECT_FULL)
-            break
-        assert answer is not None
+        refusal = self._refusal_of(member)
+        if refusal is not None and refusal.error == "batch_reused":
+            refusal = self._refusal_of(self.members.with_new_batch(member))
+        if refusal is None or refusal.error == "duplicate_name":  # the key is random, so it is this account
+            if not member.is_imported:
+                self.members.imported(member)
+            return
+        if refusal.error == "table_full" and not member.is_imported:
+            self.members.deleted(member)
+            log.error("no account can be made: bsched has as many as it can have")
+            raise AccountFault(Fault.PROJECT_FULL)
         # an earlier import may have counted, so the row stays
         log.error(
-            "bsched refuses the import of account %s as %s", shown_key(member.authenticator), answer.error
+            "bsched refuses the import of account %s as %s", shown_key(member.authenticator), refusal.error
         )
         raise AccountFault(Fault.NO_ANSWER)
+
+    def _refusal_of(self, member: Member) -> Refusal | None:
+        """Sends the import of an account, and returns its refusal, or None if bsched has the account."""
+        if member.batch is None:
+            raise ValueError("the operator imports this account")
+        return self.scheduler.import_accounts(member.batch, account_import(member), self._operator_key)
 
     # ---- Resending
 

@@ -181,11 +181,10 @@ class Members:
 
     def with_new_batch(self, member: Member) -> Member:
         """Gives the account another import name from now on, and returns the account."""
+        batch = new_batch_name()
         with self.file.transaction() as connection:
-            connection.execute("UPDATE member SET batch = ? WHERE id = ?", (new_batch_name(), member.id))
-        again = self.of_key(member.authenticator)
-        assert again is not None
-        return again
+            connection.execute("UPDATE member SET batch = ? WHERE id = ?", (batch, member.id))
+        return replace(member, batch=batch)
 
     def deleted(self, member: Member) -> None:
         """Deletes an account that was not imported."""
