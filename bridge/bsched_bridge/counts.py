@@ -2,7 +2,8 @@
 
 A key is an authenticator and a host_cpid. For each key the state file has the number of its last call. Until
 an answer comes it also has the bytes of that call. Both are on the disk before the call is sent. It also has
-the jobs in hand: those of an answer that came when no client waited for it any more.
+the jobs in hand, which the client may lack: those of an answer that came when no client waited for it any
+more, and those of the latest reply.
 """
 import json
 import time
@@ -190,7 +191,7 @@ class Counts:
             first_heard(connection, key.authenticator, reply.user_name, now)
 
     def jobs_in_hand(self, key: Key) -> list[Job]:
-        """Returns the jobs of an answer that came when no client waited for it."""
+        """Returns the jobs that the client may lack."""
         row = self._of_key("jobs_in_hand", key)
         return [] if row is None else [Job(**job) for job in json.loads(cast(str, row[0]))]
 

@@ -4,6 +4,10 @@ A request becomes a call under the next number of its key. The call's bytes are 
 sent, and stay there until an answer comes. Until then the next request of the key sends them again first, and
 so does the resending of open calls. bsched then answers with its kept reply. The jobs of such a late answer
 are kept in hand for the client's next reply.
+
+Nor does the bridge know whether a reply reaches its client, which may have gone. So the jobs of a reply stay
+in hand, too, until the client's next request. If its list lacks one of them, the job goes out once more. A
+client that sends no list can't say what it lacks, so none of its jobs goes out twice.
 """
 import logging
 import threading
@@ -152,7 +156,7 @@ class Exchange:
                 return too_many_hosts(many.count)
             answer = self._answer(key, call)
             if isinstance(answer, Reply):
-                self.counts.answered(key, answer, [])
+                self.counts.answered(key, answer, [] if request.other_results is None else answer.results)
                 return replace(answer, results=jobs_with(answer, in_hand))
             refusal = answer
             self.counts.refused(key)

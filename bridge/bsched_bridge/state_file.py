@@ -18,7 +18,7 @@ CREATE TABLE host (
   hostid INTEGER,             -- bsched's number of the host, once a reply told it
   last_number INTEGER NOT NULL,  -- the rpc_seqno of the last call
   open_call BLOB,             -- its bytes, where no answer came yet
-  jobs_in_hand TEXT NOT NULL DEFAULT '[]',  -- as JSON, as replies have them
+  jobs_in_hand TEXT NOT NULL DEFAULT '[]',  -- those that the client may lack, as JSON, as replies have them
   -- as the last reply told them, and when
   user_name TEXT, user_credit INTEGER, host_credit INTEGER, heard_at INTEGER,
   PRIMARY KEY (authenticator, host_cpid)

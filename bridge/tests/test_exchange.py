@@ -138,6 +138,40 @@ def test_jobs_of_an_answer_that_came_too_late_are_kept(project, monkeypatch, res
     twin.close()
 
 
+@pytest.mark.parametrize("is_restarted", [True, False])
+def test_jobs_of_a_reply_that_the_client_lost_go_out_once_more(project, monkeypatch, is_restarted):
+    from conftest import Bridge
+
+    twin = Twin(resend_lost_results=False)
+    bridge = Bridge(project, twin)
+    assert jobs(bridge.call(request(seconds=61))) == ["u1_0", "u2_0"]
+    if is_restarted:
+        bridge.restart()
+    # the client has only one of them; for bsched it has both, and the seconds of the other one are there
+    reply = bridge.call(request(hostid=1, listed=["u1_0"], seconds=61))
+    assert jobs(reply) == ["u2_0", "u3_0"]
+    assert twin.calls()[1]["other_results"] == ["u1_0", "u2_0"]
+    assert twin.calls()[1]["work_req_seconds"] == 1
+    # this reply is lost, too: only the job that went out once goes out again
+    assert jobs(bridge.call(request(hostid=1, listed=["u1_0"], seconds=0))) == ["u3_0"]
+    assert jobs(bridge.call(request(hostid=1, listed=["u1_0"], seconds=0))) == []
+    bridge.file.close()
+    twin.close()
+
+
+def test_jobs_that_the_client_reports_are_not_in_hand(bridge, twin):
+    assert jobs(bridge.call(request())) == ["u1_0"]
+    reply = bridge.call(request(hostid=1, listed=[], reports=[("u1_0", "42")], seconds=0))
+    assert (jobs(reply), names(reply, "result_ack")) == ([], ["u1_0"])
+    assert twin.calls()[1]["other_results"] == []
+
+
+def test_a_client_that_lists_nothing_gets_no_job_twice(bridge, twin):
+    assert jobs(bridge.call(request(listed=None))) == ["u1_0"]
+    assert jobs(bridge.call(request(hostid=1, listed=None))) == ["u2_0"]
+    assert twin.calls()[1]["work_req_seconds"] == 60
+
+
 def test_a_stop_between_a_call_and_its_answer(bridge, twin):
     """When bsched gets a call, the call's bytes are in the state file. So a stop at that moment leaves enough
     to continue.
