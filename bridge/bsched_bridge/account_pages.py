@@ -12,7 +12,7 @@ from .markup import Markup, Number, element, joined, page, paragraphs, table
 from .members import Member
 from .passwords import client_hash
 from .settings import Settings
-from .statements import HostStatus, Statements
+from .statements import MOST_HOSTS, AccountStatus, Statements
 from .texts import credits_text, moment_text
 from .words import in_small_letters
 
@@ -167,7 +167,7 @@ class AccountPages:
     def _account(self, member: Member, done: str = "", sent: Form | None = None) -> Answer:
         """Returns the page of an account."""
         sent = sent or Form()
-        hosts = self.statements.of_account(member.authenticator)
+        status = self.statements.of_account(member.authenticator)
         name = Input(
             "name", "Name", value=sent.told.get("name", member.name), note="Everybody can see it.", most=64
         )
@@ -188,7 +188,7 @@ class AccountPages:
                 class_="note",
             ),
             element("h2", "Credit"),
-            *hosts_markup(hosts.hosts, hosts.with_results),
+            *hosts_markup(status),
             element("h2", "Your name"),
             form(
                 "account_finish.php",
@@ -252,17 +252,20 @@ class AccountPages:
         return page(f"{self.settings.name}: terms of use", paragraphs(terms), links=BACK)
 
 
-def hosts_markup(hosts: list[HostStatus], with_results: bool) -> list[Markup]:
+def hosts_markup(status: AccountStatus) -> list[Markup]:
     """Returns the hosts of an account with their credit, and with their results if these are known."""
+    hosts = status.recent.hosts
+    together = element("p", "Together ", element("strong", credits_text(status.credit)), ".")
     if not hosts:
-        return [element("p", "None of your computers has called yet.")]
+        return [together] if status.credit else [element("p", "None of your computers has called yet.")]
     header = ["computer", "called last (UTC)", "credit"]
     rows: list[list[object]] = [
         [Number(one.host.hostid), moment_text(one.host.heard_at), Number(credits_text(one.credit))]
         for one in hosts
     ]
-    if with_results:
+    if status.recent.with_results:
         header += ["out", "waiting", "done", "late", "failed"]
         rows = [[*row, one.out, one.waiting, one.done, one.late, one.failed] for row, one in zip(rows, hosts)]
-    credit = sum(one.credit for one in hosts)
-    return [element("p", "Together ", element("strong", credits_text(credit)), "."), table(header, rows)]
+    note = f"The table has the {len(hosts)} computers that called last."
+    notes = [element("p", note, class_="note")] if len(hosts) >= MOST_HOSTS else []
+    return [together, table(header, rows), *notes]

@@ -54,7 +54,7 @@ class Application:
         rules: Callable[[], HostRules] | None = None, passwords: Passwords | None = None,
     ):
         self.settings, self.catalogue, self.scheduler = settings, catalogue, scheduler
-        counts, self.members = Counts(file), Members(file)
+        counts, self.members, archives = Counts(file), Members(file), read_archives(settings.archives)
         self.accounts: Accounts | None = None
         if settings.accounts is not None and settings.operator_key is not None:
             self.accounts = Accounts(
@@ -64,10 +64,12 @@ class Application:
         self.exchange = Exchange(
             counts, scheduler, settings.retry_delay, rules or (lambda: settings.host_rules),
             self.accounts.is_imported_again if self.accounts else lambda _authenticator: False,
-            read_archives(settings.archives),
+            archives,
         )
         self.writer = ReplyWriter(catalogue, settings.name, settings.url)
-        self.statements = Statements(counts, self.members, scheduler, settings.operator_key, settings.counts)
+        self.statements = Statements(
+            counts, self.members, scheduler, settings.operator_key, settings.counts, archives
+        )
         self._handlers = self._new_handlers()
 
     def _new_handlers(self) -> dict[str, Handler]:

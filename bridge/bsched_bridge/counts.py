@@ -16,7 +16,7 @@ from .scheduler import Job, Reply
 from .state_file import StateFile
 
 MOST_NUMBER = 2**31 - 1
-HEARD = "authenticator, hostid, user_name, user_credit, host_credit, heard_at"
+HEARD = "authenticator, host_cpid, hostid, user_name, user_credit, host_credit, heard_at"
 
 
 class CountEnded(Exception):
@@ -47,11 +47,17 @@ class HeardHost:
     """A host as the latest reply described it."""
 
     authenticator: str  # of its account, since users may have the same name; it is a secret
+    host_cpid: str
     hostid: int
     user_name: str
     user_credit: int
     host_credit: int
     heard_at: int
+
+    @property
+    def key(self) -> Key:
+        """The key of the host."""
+        return Key(self.authenticator, self.host_cpid)
 
 
 class Counts:
@@ -207,7 +213,7 @@ class Counts:
             rows = self.file.rows(f"{query} {order}", most)
         else:
             rows = self.file.rows(f"{query} AND authenticator = ? {order}", authenticator, most)
-        return [HeardHost(*cast("tuple[str, int, str, int, int, int]", row)) for row in rows]
+        return [HeardHost(*cast("tuple[str, str, int, str, int, int, int]", row)) for row in rows]
 
     def count_of_hosts(self) -> int:
         """Returns how many hosts have had a reply."""

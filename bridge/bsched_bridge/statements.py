@@ -1,5 +1,5 @@
-"""The status of hosts and users, from bsched's statements (docs/PROFILE.md, "The statement of a host") and
-from replies.
+"""The status of hosts and users, from bsched's statements (docs/PROFILE.md, "The statement of a host"), from
+replies, and from archives.
 """
 import csv
 import io
@@ -11,12 +11,14 @@ from dataclasses import dataclass, replace
 from decimal import Decimal, InvalidOperation
 from pathlib import Path
 
+from .archives import Archives
 from .counts import Counts, HeardHost
 from .members import Members
 from .scheduler import NoAnswer, Scheduler
 
 MOST_HOSTS = 50
 KEPT_SECONDS = 60  # how long what was read is shown again, so that a page costs bsched nothing
+READ_SECONDS = 30.0  # for the statements of a page
 MOST_KEPT = 200  # accounts whose hosts are kept for that time
 MOST_COUNTS = 1_048_576  # bytes of a file of counts
 MOST_MOMENT = 250_000_000_000  # seconds; years have four digits
@@ -43,6 +45,14 @@ class Hosts:
     hosts: list[HostStatus]
     with_results: bool  # whether statements could be read
     read_at: float
+
+
+@dataclass(frozen=True, slots=True)
+class AccountStatus:
+    """The status of an account."""
+
+    recent: Hosts  # its hosts that called last
+    credit: int  # of all its hosts, in millicredits
 
 
 @dataclass(frozen=True, slots=True)
@@ -116,6 +126,7 @@ class Statements:
         scheduler: Scheduler,
         operator_key: str | None,
         unit_counts: Path | None,
+        archives: Archives,
     ):
         self.counts, self.members, self.scheduler, self.operator_key = (
             counts,
@@ -123,19 +134,18 @@ class Statements:
             scheduler,
             operator_key,
         )
-        self.unit_counts = unit_counts
+        self.unit_counts, self.archives = unit_counts, archives
         self._lock, self._accounts_lock = threading.Lock(), threading.Lock()
         self._kept: tuple[Status, float] | None = None  # with the moment until which it is shown
-        self._accounts: OrderedDict[str, tuple[Hosts, float]] = OrderedDict()
+        self._accounts: OrderedDict[str, tuple[AccountStatus, float]] = OrderedDict()
 
     def status(self) -> Status:
         """Returns the status of the project. What was read a short time ago is shown again. While
-        somebody else reads, the older status is shown.
+        somebody else reads, the older status is shown. If there is none, what replies said is shown.
         """
         kept = self._kept
-        if not self._lock.acquire(blocking=kept is None):
-            assert kept is not None
-            return kept[0]
+        if not self._lock.acquire(blocking=False):
+            return self._read(with_statements=False) if kept is None else kept[0]
         try:
             if self._kept is None or time.monotonic() > self._kept[1]:
                 self._kept = self._read(), time.monotonic() + KEPT_SECONDS
@@ -143,25 +153,42 @@ class Statements:
         finally:
             self._lock.release()
 
-    def of_account(self, authenticator: str) -> Hosts:
-        """Returns the status of the hosts of an account. What was read a short time ago is shown again."""
+    def of_account(self, authenticator: str) -> AccountStatus:
+        """Returns the status of an account. What was read a short time ago is shown again."""
         with self._accounts_lock:
             kept = self._accounts.get(authenticator)
         if kept is not None and time.monotonic() <= kept[1]:
             return kept[0]
-        hosts = self._hosts(self.counts.heard_hosts(MOST_HOSTS, authenticator))
+        status = self._read_account(authenticator)
         with self._accounts_lock:
-            self._accounts[authenticator] = hosts, time.monotonic() + KEPT_SECONDS
+            self._accounts[authenticator] = status, time.monotonic() + KEPT_SECONDS
             self._accounts.move_to_end(authenticator)
             if len(self._accounts) > MOST_KEPT:
                 self._accounts.popitem(last=False)
-        return hosts
+        return status
 
-    def _read(self) -> Status:
+    def _read_account(self, authenticator: str) -> AccountStatus:
+        """Reads the status of an account.
+
+        Its credit is that of the latest reply to one of its hosts. Since then its hosts may have got more, so
+        the credit of those that are shown, and of the others in the archives, is summed, too. Credit never
+        falls, so the greater number is the later one.
+        """
+        heard = self.counts.heard_hosts(MOST_HOSTS, authenticator)
+        recent = self._hosts(heard)
+        shown = sum(one.credit for one in recent.hosts)
+        others = self.archives.users[authenticator] - sum(self.archives.hosts[host.key] for host in heard)
+        told = heard[0].user_credit if heard else 0
+        return AccountStatus(recent, max(told, shown + others))
+
+    def _read(self, with_statements: bool = True) -> Status:
         """Reads the status of the project."""
         names = self.members.names()
-        heard = self.counts.heard_hosts(MOST_HOSTS)
-        recent = self._hosts([replace(host, user_name=names.get(host.authenticator, "?")) for host in heard])
+        heard = [
+            replace(host, user_name=names.get(host.authenticator, "?"))
+            for host in self.counts.heard_hosts(MOST_HOSTS)
+        ]
+        recent = self._hosts(heard) if with_statements else self._heard_only(heard)
         ranking = [(names.get(key, "?"), credit) for key, credit in self.counts.user_credits()]
         return Status(
             recent, self.counts.count_of_hosts(), sorted(ranking, key=lambda user: (-user[1], user[0])),
@@ -174,14 +201,40 @@ class Statements:
         """
         if self.operator_key is not None:
             try:
-                return Hosts([self._host(host, self.operator_key) for host in heard], True, time.time())
+                return Hosts(self._with_results(heard, self.operator_key), True, time.time())
             except NoAnswer:
                 pass
-        return Hosts([HostStatus(host, host.host_credit) for host in heard], False, time.time())
+        return self._heard_only(heard)
+
+    def _heard_only(self, heard: list[HeardHost]) -> Hosts:
+        """Returns the status of hosts without their results."""
+        return Hosts([self._without_results(host) for host in heard], False, time.time())
+
+    def _without_results(self, host: HeardHost) -> HostStatus:
+        """Returns the status of a host that has no results in bsched's file, or whose results are not known.
+        """
+        return HostStatus(host, max(host.host_credit, self.archives.hosts[host.key]))
+
+    def _with_results(self, heard: list[HeardHost], operator_key: str) -> list[HostStatus]:
+        """Reads the status of hosts from their statements, within a time limit."""
+        ends = time.monotonic() + READ_SECONDS
+        read = []
+        for host in heard:
+            if time.monotonic() > ends:
+                raise NoAnswer("the statements take too long")
+            read.append(self._host(host, operator_key))
+        return read
 
     def _host(self, host: HeardHost, operator_key: str) -> HostStatus:
-        """Reads the status of a host from its statement."""
+        """Reads the status of a host from its statement.
+
+        The number of the host may be from an earlier file of the project. In the present one another user's
+        host may have that number, so bsched is asked first.
+        """
+        if not self.scheduler.has_host(host.authenticator, host.host_cpid, host.hostid):
+            return self._without_results(host)
         statement = self.scheduler.statement(host.hostid, operator_key)
         if statement is None:
             raise NoAnswer("the statement is refused")
-        return read_statement(host, statement)
+        told = read_statement(host, statement)
+        return replace(told, credit=told.credit + self.archives.hosts[host.key])

@@ -1,9 +1,13 @@
-"""Credit from earlier files of the project is added to replies and to the status page."""
+"""Credit from earlier files of the project is added to replies and to pages, and host numbers of such files
+name no host of the present one.
+"""
+import re
 import sqlite3
 
 import plain_tables
 import pytest
 from messages import request, value
+from twin import Twin
 
 from bsched_bridge.archives import Archives, read_archives
 from bsched_bridge.counts import Key
@@ -61,11 +65,41 @@ def test_settings(project):
 
 def test_replies_and_the_page_have_the_credit(project, bridge):
     assert value(bridge.call(request()), "user_total_credit") == "0.000"
-    archive(project / "2026.db", {("ann-key", "c1"): 5000, ("ann-key", "other"): 2500})
+    archive(project / "2026.db", {("ann-key", "c1"): 4000, ("ann-key", "other"): 2500})
     with (project / "bridge.toml").open("a") as file:
         file.write('archives = ["2026.db"]\n')
     bridge.restart()
     told = bridge.call(request(hostid=1))
-    assert (value(told, "user_total_credit"), value(told, "host_total_credit")) == ("7.500", "5.000")
-    _, _, page = bridge.got("/p/status")
-    assert b">7.500</td>" in page and b">5.000</td>" in page
+    assert (value(told, "user_total_credit"), value(told, "host_total_credit")) == ("6.500", "4.000")
+    # the user's credit in the latest reply; the host's credit by its statement, which is 5.000 in the twin
+    assert shown(bridge, "status") == ["1", "6.500", "1", "9.000", *"11111", "all", "", *"11111"]
+
+
+def shown(bridge, page):
+    """Returns the numbers in the tables of a page."""
+    return re.findall('<td class="number">([^<]*)</td>', bridge.got(f"/p/{page}")[2].decode())
+
+
+ANN = "account_finish.php?auth=ann-key"
+
+
+def test_a_new_file_in_which_another_user_has_the_number_of_a_host(project, open_bridge, twin):
+    open_bridge.call(request())
+    archive(project / "2026.db", {("ann-key", "c1"): 4000, ("ann-key", "other"): 2500})
+    text = (project / "bridge.toml").read_text()
+    (project / "bridge.toml").write_text(f'archives = ["2026.db"]\n{text}')
+    open_bridge.restart()
+    new = Twin()
+    twin.service = new.service
+    new.close()
+    open_bridge.call(request(key="bob-key", cpid="c2"))
+    assert [host.number for host in twin.service.machine.hosts.values()] == [1]
+    # Ann's host had the number 1 in the archive: it has its credit from there, and no results
+    assert shown(open_bridge, ANN) == ["1", "4.000", *"00000"]
+    assert "Together <strong>6.500</strong>." in open_bridge.got(f"/p/{ANN}")[2].decode()
+    assert "4.000" in shown(open_bridge, "status")
+    open_bridge.call(request(hostid=1))
+    open_bridge.application.statements._accounts.clear()
+    assert shown(open_bridge, ANN) == ["2", "9.000", *"11111"]
+    # 5.000 by the statement of this host, and 6.500 of both hosts in the archive
+    assert "Together <strong>11.500</strong>." in open_bridge.got(f"/p/{ANN}")[2].decode()

@@ -1,6 +1,7 @@
 """The pages for people: what they show, their forms, and what a browser may do with them."""
 import json
 import re
+import threading
 from html.parser import HTMLParser
 from urllib.parse import urlencode
 
@@ -147,6 +148,20 @@ def test_the_page_of_an_account(open_bridge, twin):
     assert "Together 5.000." in page.text  # the twin's statement
     assert "ann@sums.example" not in page.text
     assert twin.service.machine.rows["accounts"][key].name == name
+
+
+def test_the_credit_of_more_hosts_than_the_page_shows(open_bridge, monkeypatch):
+    for module in ("statements", "account_pages"):
+        monkeypatch.setattr(f"bsched_bridge.{module}.MOST_HOSTS", 1)
+    for number in range(2):
+        open_bridge.call(request(cpid=f"c{number}"))
+    page = page_of(open_bridge.got("/p/account_finish.php?auth=ann-key"), has_key=True)
+    assert "Together 5.000." in page.text and "The table has the 1 computers that called last." in page.text
+    with open_bridge.file.transaction() as connection:  # as the latest reply has it
+        connection.execute("UPDATE host SET user_credit = 123456")
+    open_bridge.application.statements._accounts.clear()
+    page = page_of(open_bridge.got("/p/account_finish.php?auth=ann-key"), has_key=True)
+    assert "Together 123.456." in page.text
 
 
 def test_an_account_of_the_operator_has_a_page(open_bridge):
@@ -337,6 +352,25 @@ def test_a_scheduler_that_is_silent(open_bridge, twin):
     again = page_of(open_bridge.got("/p/status")).text
     since = re.compile(r"The scheduler has given no answer since (2\d\d\d-\d\d-\d\d \d\d:\d\d:\d\d) UTC")
     assert since.search(first)[1] == since.search(again)[1]
+
+
+def test_nobody_waits_while_somebody_else_reads_the_status(open_bridge):
+    open_bridge.call(request())
+    with open_bridge.application.statements._lock:
+        pages = []
+        reading = threading.Thread(target=lambda: pages.append(open_bridge.got("/p/status")), daemon=True)
+        reading.start()
+        reading.join(10)
+        page = page_of(pages[0])
+    assert "Ann" in page.text and "waiting" not in page.text
+    assert "waiting" in page_of(open_bridge.got("/p/status")).text
+
+
+def test_statements_that_take_too_long(open_bridge, monkeypatch):
+    open_bridge.call(request())
+    monkeypatch.setattr("bsched_bridge.statements.READ_SECONDS", -1.0)
+    page = page_of(open_bridge.got("/p/status"))
+    assert "Ann" in page.text and "waiting" not in page.text
 
 
 @pytest.mark.parametrize(
