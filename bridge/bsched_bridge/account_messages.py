@@ -8,13 +8,13 @@ import logging
 from collections.abc import Callable
 from xml.etree.ElementTree import Element, SubElement
 
-from .accounts import AccountFault, Accounts, Fault
+from .accounts import AccountFault, Accounts, Fault, at_work
 from .catalogue import Catalogue
 from .client_replies import add, written
 from .http_messages import (
     NO_STORE, XML, Answer, Environ, HttpFault, has_method, is_of_no_browser, log_fault, query_of,
 )
-from .limits import is_loopback, network_of
+from .limits import Places, is_loopback, network_of
 from .scheduler import NoAnswer, Scheduler
 from .settings import Settings
 from .words import in_small_letters, is_word
@@ -79,11 +79,13 @@ def account_error(fault: Fault) -> bytes:
 
 class AccountMessages:
     """Answers clients that ask about accounts. If volunteers make no accounts, clients can only ask about
-    keys.
+    keys. Wrong keys are not counted then, since no setting says how a proxy gives the client's address.
     """
 
-    def __init__(self, settings: Settings, accounts: Accounts | None, scheduler: Scheduler) -> None:
-        self.accounts, self.scheduler = accounts, scheduler
+    def __init__(
+        self, settings: Settings, accounts: Accounts | None, scheduler: Scheduler, places: Places
+    ) -> None:
+        self.accounts, self.scheduler, self.places = accounts, scheduler, places
         self._address_field = settings.accounts.address_field if settings.accounts else None
 
     def create(self, environ: Environ) -> Answer:
@@ -108,7 +110,8 @@ class AccountMessages:
         disk, the client is asked to try again.
         """
         try:
-            return Answer(XML, account_out(find(environ, query_of(environ))), NO_STORE)
+            with at_work(self.places):
+                return Answer(XML, account_out(find(environ, query_of(environ))), NO_STORE)
         except AccountFault as told:
             fault = told.fault
         except HttpFault:
@@ -133,8 +136,11 @@ class AccountMessages:
         a volunteer types as the user name.
         """
         name = told.get("authenticator", "") or told.get("email_addr", "")
-        if self.accounts is None or is_word(name):
+        if self.accounts is None:
             return self._known_key(name)
+        if is_word(name):
+            with self.accounts.wrong_keys_counted(self.client(environ)):
+                return self._known_key(name)
         return self.accounts.look_up(
             in_small_letters(name), told.get("passwd_hash", "").lower(), self.client(environ)
         ).authenticator

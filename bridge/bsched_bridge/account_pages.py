@@ -6,8 +6,9 @@ through its visitors.
 from dataclasses import dataclass, field, replace
 
 from .account_messages import LEAST_PASSWORD, client_of
-from .accounts import AccountFault, Accounts, Fault, clean_name, is_email
+from .accounts import AccountFault, Accounts, Fault, at_work, clean_name, is_email
 from .http_messages import Answer, Environ, form_of, has_method, query_of
+from .limits import Places
 from .markup import Markup, Number, element, joined, page, paragraphs, table
 from .members import Member
 from .passwords import client_hash
@@ -97,8 +98,10 @@ NEW_PASSWORD = Input(
 class AccountPages:
     """Answers people who ask about accounts."""
 
-    def __init__(self, settings: Settings, accounts: Accounts, statements: Statements) -> None:
-        self.settings, self.accounts, self.statements = settings, accounts, statements
+    def __init__(
+        self, settings: Settings, accounts: Accounts, statements: Statements, places: Places
+    ) -> None:
+        self.settings, self.accounts, self.statements, self.places = settings, accounts, statements, places
         self._field = settings.accounts.address_field if settings.accounts else None
 
     # ---- An account
@@ -110,10 +113,13 @@ class AccountPages:
         has_method(environ, "GET", "HEAD", "POST")
         if environ["REQUEST_METHOD"] == "POST":
             return self._changed(environ)
-        member = self.accounts.of_key(query_of(environ).get("auth", ""))
-        if member is None:
-            return self._entrance(Form(faults={"key": Fault.WRONG_KEY.text}), 404)
-        return self._account(member)
+        key, client = query_of(environ).get("auth", ""), client_of(environ, self._field)
+        try:
+            with at_work(self.places):
+                return self._account(self.accounts.of_owner(key, client))
+        except AccountFault as fault:
+            status = 404 if fault.fault is Fault.WRONG_KEY else 200
+            return self._entrance(Form(faults={"key": fault.fault.text}), status)
 
     def account(self, environ: Environ) -> Answer:
         """Shows an account, found by its key or by address and password. Without them it asks for them."""
@@ -122,14 +128,18 @@ class AccountPages:
             return self._entrance(Form())
         sent, client = Form(form_of(environ)), client_of(environ, self._field)
         try:
-            if "key" in sent.told:
-                return self._account(self.accounts.of_owner(sent.text("key"), client))
-            email = in_small_letters(sent.text("email"))
-            told = client_hash(sent.told.get("password", ""), email)
-            return self._account(self.accounts.look_up(email, told, client))
+            with at_work(self.places):
+                return self._account(self._member(sent, client))
         except AccountFault as fault:
             sent.faults["key" if "key" in sent.told else "password"] = fault.fault.text
             return self._entrance(sent)
+
+    def _member(self, sent: Form, client: str) -> Member:
+        """Returns the account whose key, or address and password, a form has."""
+        if "key" in sent.told:
+            return self.accounts.of_owner(sent.text("key"), client)
+        email = in_small_letters(sent.text("email"))
+        return self.accounts.look_up(email, client_hash(sent.told.get("password", ""), email), client)
 
     def _entrance(self, sent: Form, status: int = 200) -> Answer:
         """Returns the page that asks for a key, or for an address and a password."""
@@ -152,17 +162,18 @@ class AccountPages:
         """Changes the name of an account, and whether statistics sites may show it. The owner sends the key.
         """
         sent, client = Form(form_of(environ)), client_of(environ, self._field)
-        name = clean_name(sent.text("name"))
+        name, is_exported = clean_name(sent.text("name")), sent.text("is_exported") == "1"
         try:
-            member = self.accounts.of_owner(sent.text("key"), client)
-            if not name:
-                sent.faults["name"] = "Give a name."
-                return self._account(member, sent=sent)
-            self.accounts.members.changed(member, name, sent.text("is_exported") == "1")
+            with at_work(self.places):
+                member = self.accounts.of_owner(sent.text("key"), client)
+                if not name:
+                    sent.faults["name"] = "Give a name."
+                    return self._account(member, sent=sent)
+                self.accounts.members.changed(member, name, is_exported)
+                member = replace(member, name=name, is_exported=is_exported)
+                return self._account(member, "Your changes are saved.")
         except AccountFault as fault:
             return self._entrance(Form(faults={"key": fault.fault.text}))
-        member = self.accounts.of_key(member.authenticator) or member
-        return self._account(member, "Your changes are saved.")
 
     def _account(self, member: Member, done: str = "", sent: Form | None = None) -> Answer:
         """Returns the page of an account."""
@@ -219,7 +230,8 @@ class AccountPages:
         if sent.faults:
             return self._password_form(sent)
         try:
-            self.accounts.has_password(sent.text("key"), email, client_hash(password, email), client)
+            with at_work(self.places):
+                self.accounts.has_password(sent.text("key"), email, client_hash(password, email), client)
         except AccountFault as fault:
             sent.faults["email" if fault.fault is Fault.TAKEN else "key"] = fault.fault.text
             return self._password_form(sent)

@@ -8,14 +8,13 @@ does that, or the resending of open messages. Only then does the client get the 
 import logging
 import re
 import secrets
-import threading
 import time
 from collections.abc import Iterator
 from contextlib import contextmanager
 from enum import Enum
 
 from .key_locks import Busy, KeyLocks
-from .limits import RecentCounts
+from .limits import NoPlace, Places, RecentCounts
 from .members import DayIsFull, EmailTaken, Member, Members
 from .passwords import Passwords, TooBusy, is_client_hash
 from .scheduler import NoAnswer, Refusal, Scheduler
@@ -101,8 +100,20 @@ def account_import(member: Member) -> bytes:
     return f'authenticator,name\n{member.authenticator},"{name}"\n'.encode()
 
 
+@contextmanager
+def at_work(places: Places) -> Iterator[None]:
+    """Takes a place for a message about accounts. They have only a few places, so that clients' calls still
+    find a free thread.
+    """
+    try:
+        with places.taken():
+            yield
+    except NoPlace:
+        raise AccountFault(Fault.TOO_BUSY) from None
+
+
 class Accounts:
-    """Makes accounts and finds them."""
+    """Makes accounts and finds them. Each message about them has a place, which it takes by at_work."""
 
     def __init__(
         self,
@@ -111,12 +122,10 @@ class Accounts:
         scheduler: Scheduler,
         operator_key: str,
         passwords: Passwords,
-        most_at_once: int,
     ):
         self.settings, self.members, self.scheduler, self.passwords = settings, members, scheduler, passwords
         self._operator_key = operator_key
         self._locks = KeyLocks(WAIT_SECONDS)
-        self._places = threading.BoundedSemaphore(most_at_once)
         self._new = RecentCounts(settings.most_from_address, DAY)
         self._wrong = RecentCounts(MOST_WRONG_PASSWORDS, HOUR)
 
@@ -132,7 +141,7 @@ class Accounts:
             raise AccountFault(Fault.ODD_ADDRESS)
         if not is_client_hash(told, email):
             raise AccountFault(Fault.NO_PASSWORD)
-        with self._at_work(email):
+        with self._held(email):
             member = self.members.of_email(email)
             if member is None:
                 return self._made(email, told, name, has_consent, client)
@@ -144,26 +153,20 @@ class Accounts:
         """Returns the account with this address and password."""
         if not is_email(email) or not is_client_hash(told, email):
             raise AccountFault(Fault.WRONG)
-        with self._at_work(email):
+        with self._held(email):
             member = self.members.of_email(email)
             if not self._is_right(email, told, member, client) or member is None:
                 raise AccountFault(Fault.WRONG)
             return self._finished(member)
 
     @contextmanager
-    def _at_work(self, email: str) -> Iterator[None]:
-        """Holds an address for the block. Only a few messages may do so at once, so that clients' calls still
-        find a free thread.
-        """
-        if not self._places.acquire(blocking=False):
-            raise AccountFault(Fault.TOO_BUSY)
+    def _held(self, email: str) -> Iterator[None]:
+        """Holds an address for the block."""
         try:
             with self._locks.held(email):
                 yield
         except (Busy, TooBusy):
             raise AccountFault(Fault.TOO_BUSY) from None
-        finally:
-            self._places.release()
 
     def of_key(self, authenticator: str) -> Member | None:
         """Returns the account with a key, if the bridge knows it and bsched has it."""
@@ -173,7 +176,7 @@ class Accounts:
     def has_password(self, authenticator: str, email: str, told: str, client: str) -> Member:
         """Sets the address and the password of an account, and returns it. The owner sends the key."""
         member = self.of_owner(authenticator, client)
-        with self._at_work(email):
+        with self._held(email):
             try:
                 self.members.has_password(member, email, self.passwords.new_secret(told))
             except EmailTaken:
@@ -182,13 +185,28 @@ class Accounts:
 
     def of_owner(self, authenticator: str, client: str) -> Member:
         """Returns the account with a key that somebody sends. After too many wrong keys it refuses."""
+        with self.wrong_keys_counted(client):
+            member = self.of_key(authenticator)
+            if member is None:
+                raise AccountFault(Fault.WRONG_KEY)
+            return member
+
+    @contextmanager
+    def wrong_keys_counted(self, client: str) -> Iterator[None]:
+        """Counts one more wrong key for a client if the block ends with that fault. After too many of them it
+        refuses the client.
+        """
         if not self._wrong.take(("client", client)):
             raise AccountFault(Fault.TOO_MANY)
-        member = self.of_key(authenticator)
-        if member is None:
-            raise AccountFault(Fault.WRONG_KEY)
-        self._wrong.give_back(("client", client))
-        return member
+        is_wrong = False
+        try:
+            yield
+        except AccountFault as fault:
+            is_wrong = fault.fault is Fault.WRONG_KEY
+            raise
+        finally:
+            if not is_wrong:
+                self._wrong.give_back(("client", client))
 
     def _is_right(self, email: str, told: str, member: Member | None, client: str) -> bool:
         """Returns whether a password is that of an account. Wrong ones are counted for the client and for the

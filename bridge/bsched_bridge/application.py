@@ -30,6 +30,7 @@ from .http_messages import (
     has_method,
     log_fault,
 )
+from .limits import Places
 from .members import Members
 from .passwords import Passwords
 from .scheduler import Scheduler
@@ -55,11 +56,11 @@ class Application:
     ):
         self.settings, self.catalogue, self.scheduler = settings, catalogue, scheduler
         counts, self.members, archives = Counts(file), Members(file), read_archives(settings.archives)
+        self.account_places = Places(max(1, settings.threads // 2))
         self.accounts: Accounts | None = None
         if settings.accounts is not None and settings.operator_key is not None:
             self.accounts = Accounts(
-                settings.accounts, self.members, scheduler, settings.operator_key, passwords or Passwords(),
-                max(1, settings.threads // 2),
+                settings.accounts, self.members, scheduler, settings.operator_key, passwords or Passwords()
             )
         self.exchange = Exchange(
             counts, scheduler, settings.retry_delay, rules or (lambda: settings.host_rules),
@@ -74,7 +75,7 @@ class Application:
 
     def _new_handlers(self) -> dict[str, Handler]:
         """Returns the handler for each path below the master URL."""
-        messages = AccountMessages(self.settings, self.accounts, self.scheduler)
+        messages = AccountMessages(self.settings, self.accounts, self.scheduler, self.account_places)
         handlers: dict[str, Handler] = {
             "": self._master_page,
             "cgi": self._scheduler,
@@ -85,7 +86,7 @@ class Application:
             "get_passwd.php": self._no_passwords,
         }
         if self.accounts is not None:
-            people = AccountPages(self.settings, self.accounts, self.statements)
+            people = AccountPages(self.settings, self.accounts, self.statements, self.account_places)
             handlers |= {
                 "account": people.account,
                 "account_finish.php": people.finish,

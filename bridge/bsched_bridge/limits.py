@@ -1,11 +1,33 @@
-"""How often somebody did something lately, and for whom a message counts."""
+"""How many do something at once, how often somebody did it lately, and for whom a message counts."""
 import ipaddress
 import threading
 import time
 from collections import OrderedDict
-from collections.abc import Callable, Hashable
+from collections.abc import Callable, Hashable, Iterator
+from contextlib import contextmanager
 
 MOST_KEYS = 100_000
+
+
+class NoPlace(Exception):
+    """Raised if all places are taken."""
+
+
+class Places:
+    """A few places, for what only so many may do at once."""
+
+    def __init__(self, most: int) -> None:
+        self._places = threading.BoundedSemaphore(most)
+
+    @contextmanager
+    def taken(self) -> Iterator[None]:
+        """Takes a place for the block, and waits for none."""
+        if not self._places.acquire(blocking=False):
+            raise NoPlace
+        try:
+            yield
+        finally:
+            self._places.release()
 
 
 class RecentCounts:

@@ -271,6 +271,34 @@ def test_right_passwords_do_not_count(open_bridge):
     assert [look_up(open_bridge) for _ in range(30)] == [key] * 30
 
 
+def of_key(bridge, key, client=CLIENT):
+    """Returns the key or the error number from a look-up of a key."""
+    return told(bridge.got(f"/p/lookup_account.php?email_addr={key}&passwd_hash=00", REMOTE_ADDR=client))
+
+
+def test_wrong_keys_of_a_client(open_bridge, twin):
+    key = create(open_bridge)
+    assert [of_key(open_bridge, key) for _ in range(30)] == [key] * 30  # right keys do not count
+    page = f"/p/account_finish.php?auth={key}"
+    for number in range(5):
+        assert of_key(open_bridge, "nobody") == -155
+        assert open_bridge.got("/p/account_finish.php?auth=nobody", REMOTE_ADDR=CLIENT)[0].startswith("404")
+    asked = len(twin.heard)
+    assert of_key(open_bridge, key) == look_up(open_bridge) == -183
+    status, _, body = open_bridge.got(page, REMOTE_ADDR=CLIENT)
+    assert status == "200 OK" and key.encode() not in body and b"Too many wrong passwords or keys" in body
+    assert len(twin.heard) == asked
+    assert of_key(open_bridge, key, "198.51.100.8") == key
+    assert key.encode() in open_bridge.got(page, REMOTE_ADDR="198.51.100.8")[2]
+
+
+def test_a_key_about_which_bsched_gives_no_answer_does_not_count(open_bridge, twin):
+    key = create(open_bridge)
+    twin.faults = ["unavailable"] * 20
+    assert [of_key(open_bridge, "nobody") for _ in range(20)] == [-183] * 20
+    assert of_key(open_bridge, key) == key
+
+
 def test_old_counts_and_surplus_keys_are_forgotten(monkeypatch):
     now = [0.0]
     counts = RecentCounts(2, 60, lambda: now[0])
@@ -420,8 +448,14 @@ def test_account_messages_leave_threads_for_calls(open_bridge):
         threads = [threading.Thread(target=lambda: answers.append(create(open_bridge))) for _ in range(4)]
         for thread in threads:
             thread.start()
-        wait_until(lambda: not open_bridge.application.accounts._places._value)
+        wait_until(lambda: not open_bridge.application.account_places._places._value)
         assert create(open_bridge, "bob@sums.example") == look_up(open_bridge) == -183
+        assert told(open_bridge.got("/p/lookup_account.php?email_addr=ann-key&passwd_hash=00")) == -183
+        for page in ("account_finish.php?auth=ann-key", "account", "get_passwd.php"):
+            method = "GET" if "?" in page else "POST"
+            form = b"key=ann-key&email=bob%40sums.example&password=secret1"
+            kind = "application/x-www-form-urlencoded"
+            assert b"The project is busy" in open_bridge.got(f"/p/{page}", method, form, CONTENT_TYPE=kind)[2]
         assert answers == []
         assert value(open_bridge.call(request()), "hostid") == "1"
     for thread in threads:

@@ -47,6 +47,13 @@ def test_an_account_is_looked_up_by_its_key(bridge):
         assert (told.tag, told.findtext("error_num")) == ("error", "-155")
         assert told.findtext("error_num") not in HANGING_ERRORS
     assert bridge.twin.service.machine.hosts == {}  # asking makes no host
+    for _ in range(20):  # without [accounts] the peer may be a proxy, so wrong keys don't count
+        account_answer(bridge, "lookup_account.php?authenticator=nobody")
+    assert account_answer(bridge, "lookup_account.php?authenticator=ann-key").tag == "account_out"
+    with bridge.application.account_places.taken(), bridge.application.account_places.taken():
+        with bridge.application.account_places.taken(), bridge.application.account_places.taken():
+            told = account_answer(bridge, "lookup_account.php?authenticator=ann-key")
+    assert told.findtext("error_num") == "-183"
     bridge.twin.close()
     assert account_answer(bridge, "lookup_account.php?authenticator=ann-key").findtext("error_num") == "-183"
 
