@@ -14,9 +14,9 @@ from .accounts import Accounts
 from .archives import read_archives
 from .catalogue import Catalogue, MissingFile, read_catalogue
 from .client_replies import ReplyWriter
-from .client_requests import RequestFault, read_request
+from .client_requests import ClientRequest, RequestFault, read_request
 from .counts import Counts
-from .exchange import HOUR, Exchange, PutOff, Resending
+from .exchange import HOUR, TOO_BUSY, Exchange, PutOff, Resending
 from .host_rules import HostRuleReader
 from .http_messages import (
     BYTES,
@@ -30,6 +30,7 @@ from .http_messages import (
     has_method,
     log_fault,
 )
+from .key_locks import Busy, KeyLocks
 from .limits import Places
 from .members import Members
 from .passwords import Passwords
@@ -41,6 +42,8 @@ from .statements import Statements
 # from a byte to the end of the file: a client asks so when it resumes a download
 REST_OF_FILE = re.compile(r"bytes=([0-9]{1,18})-")
 BLOCK = 65536
+# Reading the XML of a request takes many times its bytes. A large one waits for its turn.
+LARGE_BYTES, LARGE_SECONDS = 1024 * 1024, 5.0
 
 log = logging.getLogger(__name__)
 StartResponse = Callable[[str, list[tuple[str, str]]], Any]
@@ -71,6 +74,7 @@ class Application:
         self.statements = Statements(
             counts, self.members, scheduler, settings.operator_key, settings.counts, archives
         )
+        self._large = KeyLocks(LARGE_SECONDS)
         self._handlers = self._new_handlers()
 
     def _new_handlers(self) -> dict[str, Handler]:
@@ -143,17 +147,27 @@ class Application:
     def _scheduler(self, environ: Environ) -> Answer:
         """Answers a scheduler_request. The client always gets a scheduler_reply."""
         has_method(environ, "POST")
-        body = body_of(environ)
         try:
-            request = read_request(body)
+            request = self._request(body_of(environ))
         except RequestFault as fault:
             return Answer(XML, self.writer.put_off(PutOff(f"Error in request message: {fault}", HOUR)))
+        except Busy:
+            return Answer(XML, self.writer.put_off(PutOff(TOO_BUSY, self.settings.retry_delay)))
         reply = self.exchange.answer(request)
         if isinstance(reply, PutOff):
             return Answer(XML, self.writer.put_off(reply))
         member = self.members.of_key(request.authenticator)  # the user may have chosen another name
         reply = reply if member is None else replace(reply, user_name=member.name)
         return Answer(XML, self.writer.reply(request, reply))
+
+    def _request(self, body: bytes) -> ClientRequest:
+        """Reads a request. Large ones are read one after the other, since anybody can send them, and several
+        at once could use up the memory.
+        """
+        if len(body) <= LARGE_BYTES:
+            return read_request(body)
+        with self._large.held("large"):
+            return read_request(body)
 
     def _download(self, environ: Environ, start_response: StartResponse, name: str) -> Iterable[bytes]:
         """Sends a file, or the rest of it from a byte on."""

@@ -41,6 +41,7 @@ class PutOff:
 
 NO_ANSWER = "The project's scheduler gives no answer at the moment."
 BUSY = "Another scheduler instance is running for this host."
+TOO_BUSY = "The project is busy at the moment."
 REFUSALS = {
     "bad_account": PutOff(
         "Invalid or missing account key. To fix this, remove and add this project.", DAY, "notice"

@@ -197,6 +197,17 @@ def test_what_is_no_message(bridge, monkeypatch):
     assert bridge.got("/p/", "HEAD")[2] == b""
 
 
+def test_large_requests_are_read_one_after_the_other(bridge, monkeypatch):
+    large = request(extra=" " * 1024 * 1024)
+    monkeypatch.setattr(bridge.application._large, "wait_seconds", 0.01)
+    with bridge.application._large.held("large"):
+        reply = bridge.call(large)
+        assert value(reply, "message") == "The project is busy at the moment."
+        assert (value(reply, "request_delay"), jobs(reply)) == ("60.000000", [])
+        assert value(bridge.call(request()), "hostid") == "1"  # a small one need not wait
+    assert jobs(bridge.call(large)) == ["u1_0"]
+
+
 def test_a_fault_of_the_bridge_is_no_answer_to_a_client(bridge, monkeypatch):
     monkeypatch.setattr(bridge.application.exchange, "answer", lambda _request: 1 // 0)
     assert bridge.got("/p/cgi", "POST", request().encode())[0] == "500 Internal Server Error"
