@@ -25,6 +25,7 @@ from .words import shown_key
 
 COUNT_ATTEMPTS = 3  # calls of one request, if bsched's count is ahead or it has lost the account
 HOUR, DAY = 3600, 86400
+END_SECONDS = 60.0  # for the message that is being sent at the end
 
 log = logging.getLogger(__name__)
 
@@ -241,4 +242,4 @@ class Resending(threading.Thread):
     def end(self) -> None:
         """Ends the thread after the message that it is sending."""
         self._ending.set()
-        self.join()
+        self.join(END_SECONDS)

@@ -9,6 +9,7 @@ import time
 import urllib.request
 from pathlib import Path
 
+ORDER_SECONDS, END_SECONDS = 120, 10
 BRIDGE = Path(__file__).resolve().parent.parent
 CLIENT_OPTIONS = ["--allow_multiple_clients", "--skip_cpu_benchmarks", "--no_gpus", "--no_info_fetch"]
 CLIENT_CONFIG = """\
@@ -29,6 +30,7 @@ class TrialFault(Exception):
 def listens(port: int) -> bool:
     """Returns whether something listens on a port of 127.0.0.1."""
     with socket.socket() as probe:
+        probe.settimeout(1)
         return probe.connect_ex(("127.0.0.1", port)) == 0
 
 
@@ -64,7 +66,7 @@ class Program:
         """Kills the program, which gets no time to do anything."""
         if self.process is not None and self.process.poll() is None:
             self.process.send_signal(signal.SIGKILL)
-            self.process.wait()
+            self.process.wait(END_SECONDS)
 
 
 class Scheduler(Program):
@@ -77,7 +79,9 @@ class Scheduler(Program):
 
     def order(self, *words: str) -> str:
         """Runs a subcommand, and returns what it prints."""
-        told = subprocess.run([self.program, *words], cwd=self.folder, capture_output=True, text=True)
+        told = subprocess.run(
+            [self.program, *words], cwd=self.folder, capture_output=True, text=True, timeout=ORDER_SECONDS
+        )
         if told.returncode:
             raise TrialFault(
                 f"bsched {' '.join(words)}: status {told.returncode}, {told.stdout}{told.stderr}"
@@ -118,6 +122,7 @@ class Bridge(Program):
             check=True,
             capture_output=True,
             text=True,
+            timeout=ORDER_SECONDS,
         ).stdout
 
 

@@ -1,6 +1,7 @@
 """What the trials share: the programs of a project, waiting, and a network and a folder of their own."""
 import os
 import shutil
+import signal
 import subprocess
 import sys
 import tempfile
@@ -15,6 +16,7 @@ from .proxy import Message, Proxy
 CLIENTS_PORT, BRIDGE_PORT, CALLS_PORT, SCHEDULER_PORT, GUI_PORT = 8081, 8082, 8083, 8084, 31501
 URL = f"http://127.0.0.1:{CLIENTS_PORT}/"
 STEP_SECONDS = 60  # how long a client may take for one step
+MOST_SECONDS, END_SECONDS = 1800, 60  # for the steps of a trial, and for its end
 NEEDED = {"boinc": "boinc-client", "boinccmd": "boinc-client", "unshare": "util-linux", "ip": "iproute2"}
 MODULES = {
     "waitress": "python3-waitress", "defusedxml": "python3-defusedxml", "cryptography": "python3-cryptography"
@@ -118,6 +120,22 @@ def missing(needed: dict[str, str]) -> list[str]:
     return sorted(lacks)
 
 
+def too_long(_number: int, _frame: object) -> None:
+    """Ends a trial that takes too long."""
+    raise TrialFault(f"the trial has run for {MOST_SECONDS} seconds")
+
+
+def status_inside(script: str) -> int:
+    """Runs the same script in a network of its own, and returns its status."""
+    network = ["unshare", "-n"] if os.geteuid() == 0 else ["unshare", "-rn"]
+    words = [*network, sys.executable, os.path.abspath(script), INSIDE, *sys.argv[1:]]
+    try:
+        return subprocess.run(words, timeout=MOST_SECONDS + END_SECONDS).returncode
+    except subprocess.TimeoutExpired:
+        print(f"bridge/{Path(script).name}: the trial does not end, and was killed", file=sys.stderr)
+        return 1
+
+
 def main(script: str, usage: str | None, kind: type[Run], more_needed: dict[str, str] | None = None) -> int:
     """Runs a trial in a network of its own."""
     name = Path(script).name
@@ -129,19 +147,19 @@ def main(script: str, usage: str | None, kind: type[Run], more_needed: dict[str,
         print(f"bridge/{name}: it needs from Debian: {' '.join(lacks)}", file=sys.stderr)
         return 1
     if INSIDE not in sys.argv:
-        network = ["unshare", "-n"] if os.geteuid() == 0 else ["unshare", "-rn"]
-        return subprocess.run(
-            [*network, sys.executable, os.path.abspath(script), INSIDE, *sys.argv[1:]]
-        ).returncode
+        return status_inside(script)
     subprocess.run(["ip", "link", "set", "lo", "up"], check=True, timeout=10)
     folder = Path(tempfile.mkdtemp(prefix=f"bridge_{name}_"))
     trial = kind(os.path.abspath(words[0]), folder)
+    signal.signal(signal.SIGALRM, too_long)
+    signal.alarm(MOST_SECONDS)
     try:
         trial.run()
     except (TrialFault, OSError, subprocess.SubprocessError) as fault:
         print(f"bridge/{name}: {fault}\nthe files are in {folder}", file=sys.stderr)
         return 1
     finally:
+        signal.alarm(0)
         trial.end()
     if KEEP in sys.argv:
         seen(f"the files are in {folder}")
