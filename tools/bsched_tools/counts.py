@@ -6,6 +6,7 @@ from contextlib import ExitStack
 from dataclasses import dataclass, field
 from pathlib import Path
 
+from .faults import Fault
 from .schemas import SCHEMA_NUMBER
 from .tables import COPY_NAME, Tables, copies_in, moment_of, opened
 
@@ -46,6 +47,7 @@ class Counts:
     workunits: Counter[str] = field(default_factory=Counter)
     instances: Counter[str] = field(default_factory=Counter)
     people: dict[str, int] = field(default_factory=dict)
+    calls_unknown: str = ""  # why it is not known who called in the last day; empty if it is known
     millicredits: int = 0
     limits: dict[str, Limit] = field(default_factory=dict)  # of the tables that were named last
     bytes: int = 0
@@ -84,11 +86,17 @@ def last_calls(tables: Tables) -> dict[HostKey, int]:
     return {(user, cpid): number for user, cpid, number in tables.rows(LAST_CALLS)}
 
 
-def hosts_that_called(tables: Tables, before: Path) -> set[HostKey]:
-    """Returns the hosts that called since a copy was taken."""
-    with opened(before) as older:
-        known = last_calls(older)
-    return {host for host, number in last_calls(tables).items() if known.get(host) != number}
+def calls_of_a_day_before(tables: Tables) -> dict[HostKey, int]:
+    """Returns the number of the last call of each host a day before. If it is not known, the fault says why.
+    """
+    before = copy_of_a_day_before(tables)
+    if before is None:
+        raise Fault(f"no copy in the folder of {tables.path} is a day older")
+    try:
+        with opened(before) as older:
+            return last_calls(older)
+    except Fault:
+        raise Fault(f"{before} is of another schema, or can't be read") from None
 
 
 def count_people(all_tables: list[Tables], counts: Counts) -> None:
@@ -98,18 +106,20 @@ def count_people(all_tables: list[Tables], counts: Counts) -> None:
     given: set[HostKey] = set()
     called: set[HostKey] = set()
     users: set[str] = set()
-    is_known = True
     for tables in all_tables:
         hosts |= host_keys(tables, OWNERS)
         users |= {user for user, in tables.rows("SELECT auth FROM account")}
         given |= host_keys(tables, GIVEN, tables.moment - DAY)
-        before = copy_of_a_day_before(tables)
-        is_known = is_known and before is not None
-        called |= hosts_that_called(tables, before) if before is not None else set()
+        try:
+            known = calls_of_a_day_before(tables)
+        except Fault as fault:
+            counts.calls_unknown = str(fault)
+            continue
+        called |= {host for host, number in last_calls(tables).items() if known.get(host) != number}
     counts.people = {"hosts": len(hosts), "users": len(users)}
     counts.people |= {"hosts with a job of the last day": len(given)}
     counts.people |= {"users with a job of the last day": len(users_of(given))}
-    if is_known:
+    if not counts.calls_unknown:
         counts.people |= {"hosts that called in the last day": len(called)}
         counts.people |= {"users that called in the last day": len(users_of(called))}
 
@@ -148,6 +158,8 @@ def as_lines(counts: Counts) -> Iterator[str]:
     rows += [(f"workunits {status}", str(number)) for status, number in counts.workunits.items()]
     rows += [(f"instances {state}", str(number)) for state, number in counts.instances.items()]
     rows += [(what, str(number)) for what, number in counts.people.items()]
+    if counts.calls_unknown:
+        rows.append(("hosts that called in the last day", f"unknown: {counts.calls_unknown}"))
     rows += [("credit", f"{counts.millicredits / 1000:.3f}")]
     for name, limit in counts.limits.items():
         share = 100 * limit.used // limit.most

@@ -106,7 +106,11 @@ def counts_part(counts: Counts, entries: list[Entry]) -> str:
     for kind, now, before in kinds:
         rows += [(kind + name, number, change_text(number, before.get(name))) for name, number in now.items()]
     when = f"since {moment_text(older.moment)}" if older else "within a day"
-    return section("Counts", table(("what", "number", when), rows))
+    parts = [table(("what", "number", when), rows)]
+    if counts.calls_unknown:
+        said = "no copy that is a day older can be read"
+        parts.append(f"<p>How many hosts called in the last day is unknown: {said}.</p>\n")
+    return section("Counts", *parts)
 
 
 def history_part(title: str, name: str, entries: list[Entry], series: dict[str, list[float]]) -> str:

@@ -2,8 +2,10 @@
 import json
 import os
 import re
+from collections.abc import Callable
 from pathlib import Path
 
+import plain_tables
 import pytest
 from hypothesis import given, settings, strategies
 from lives import Stored, life_of, stored_life
@@ -15,6 +17,7 @@ STATUSES = {
     "open": "open", "done": "done", "errors": "failed by errors", "success": "failed by successes",
     "total": "failed by the total",
 }
+LATELY = ("hosts with a job of the last day", "users with a job of the last day")
 SAMPLE = re.compile(r'bsched_[a-z_]+(\{[a-z]+="[a-z_]+"\})? [0-9.]+')
 
 
@@ -68,6 +71,41 @@ def test_who_called_in_the_last_day(project: Path, twin: Twin, copies: Path) -> 
     assert told["hosts that called in the last day"] == 3
     assert told["users that called in the last day"] == 2
     assert told["hosts"] == 4
+
+
+def of_an_older_schema(path: Path, project: Path) -> None:
+    plain_tables.make_former(str(path), str(project))
+
+
+def spoiled(path: Path, project: Path) -> None:
+    path.write_bytes(project.read_bytes()[:4096] + b"\xa5" * 8192)
+
+
+@pytest.mark.parametrize("make", [of_an_older_schema, spoiled])
+def test_who_called_is_unknown_if_the_older_copy_is_no_help(
+    project: Path, copies: Path, tmp_path: Path, make: Callable[[Path, Path], None],
+) -> None:
+    make(copies / "project-20200101T000000.000Z.db", project)
+    copying.copy_tables(project, copies)
+    status, told, fault = tools("counts", "--tables", copies)
+    assert (status, fault) == (0, "")
+    unknown, = [line for line in told.splitlines() if "called in the last day" in line]
+    assert re.search(r" unknown: \S*20200101\S* is of another schema, or can't be read$", unknown)
+    status, told, _ = tools("counts", "--tables", copies, "--json")
+    assert status == 0 and set(json.loads(told)["people"]) == {"hosts", "users", *LATELY}
+    status, told, _ = tools("counts", "--tables", copies, "--prometheus")
+    assert status == 0 and "bsched_people" in told and "called" not in told
+    page = tmp_path / "page"
+    page.mkdir()
+    assert tools("report", "--tables", copies, "--to", page)[0] == 0
+    assert "called in the last day is unknown" in (page / "index.html").read_text()
+
+
+def test_who_called_is_unknown_without_an_older_copy(project: Path, copies: Path) -> None:
+    copying.copy_tables(project, copies)
+    told = tools("counts", "--tables", copies)[1]
+    unknown, = [line for line in told.splitlines() if "called in the last day" in line]
+    assert re.search(r" unknown: no copy in the folder of \S*/project-\S* is a day older$", unknown)
 
 
 def test_several_files_have_each_user_and_host_once(tmp_path: Path) -> None:
