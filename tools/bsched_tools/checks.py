@@ -150,7 +150,7 @@ def values_of_rows(tables: Tables) -> Iterator[Wrong]:
 
 def gaps(tables: Tables) -> Iterator[Wrong]:
     """Yields rows whose numbers have a gap before them, and tables with too many rows."""
-    most = {**MOST, "host": tables.settings.get("max_hosts", 0)}
+    most = {**MOST, "host": tables.settings["max_hosts"]}
     for table in WITHOUT_GAPS:
         numbered = f"SELECT id, row_number() OVER (ORDER BY id) AS nth FROM {table}"
         row = next(tables.rows(f"SELECT id FROM ({numbered}) WHERE id <> nth LIMIT 1"), None)
@@ -265,12 +265,21 @@ def valid_hosts(unit: Unit, good: list[Instance]) -> list[int | None]:
     return [one.host for one in good if agree(unit.agreement, best.text, one.text)]
 
 
+def values_and_relations(tables: Tables) -> Iterator[Wrong]:
+    """Yields the rows that are wrong by themselves, or do not fit other rows."""
+    yield from values_of_rows(tables)
+    yield from gaps(tables)
+    yield from relations(tables)
+
+
 def wrong_rows(tables: Tables) -> Iterator[Wrong]:
-    """Yields each row that is wrong. Workunits are checked only if nothing else is wrong."""
+    """Yields each row that is wrong. The settings are checked first, since they are the limits of other rows.
+    Other rows are checked only if the settings are right, and workunits only if nothing else is wrong."""
     add_functions(tables.connection)
-    found = False
-    for wrong in (*settings_rows(tables), *values_of_rows(tables), *gaps(tables), *relations(tables)):
-        found = True
-        yield wrong
-    if not found:
-        yield from workunits(tables)
+    for look in (settings_rows, values_and_relations, workunits):
+        found = False
+        for wrong in look(tables):
+            found = True
+            yield wrong
+        if found:
+            return

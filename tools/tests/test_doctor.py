@@ -95,9 +95,25 @@ def test_secrets_are_not_printed(tmp_path: Path) -> None:
     path = short_life(tmp_path / "project.db")
     with closing(sqlite3.connect(path, isolation_level=None)) as connection:
         connection.execute("UPDATE account SET auth = 'my secret' WHERE id = 1")
+    told = "\n".join(told_of(path))
+    assert "row 1 of account: auth is 'a value'" in told and "my secret" not in told
+    with closing(sqlite3.connect(path, isolation_level=None)) as connection:
         connection.execute("UPDATE setting SET value = 'short' WHERE name = 'operator_key'")
     told = "\n".join(told_of(path))
-    assert "row 1 of account: auth is 'a value'" in told and "my secret" not in told and "'short'" not in told
+    assert "row operator_key of setting: value is another text" in told and "'short'" not in told
+
+
+@pytest.mark.parametrize("value", ["'200'", "x'c8'", "2.5", "0"])
+@pytest.mark.parametrize("name", ["daily_result_quota", "max_hosts", "max_wus_to_send"])
+def test_settings_of_another_type(tmp_path: Path, name: str, value: str) -> None:
+    """The column takes values of any type."""
+    path = short_life(tmp_path / "project.db")
+    with closing(sqlite3.connect(path, isolation_level=None)) as connection:
+        connection.execute(f"UPDATE setting SET value = {value} WHERE name = '{name}'")
+    status, told, fault = tools("doctor", "--tables", path)
+    wrong, advice = told.splitlines()
+    assert (status, fault) == (1, "") and "restore a copy" in advice
+    assert f": row {name} of setting: value is " in wrong and ": it must be a whole number from 1 to " in wrong
 
 
 @pytest.mark.parametrize("statement", statements_of("OTHERS"))
