@@ -86,8 +86,8 @@ def place(taken: Taken, source: Source, target: Path) -> None:
 
 def project_of(path: Path) -> tuple[frozenset[object], frozenset[object]]:
     """Returns what identifies a project among copies: its settings, and its imports, which are only ever
-    added to."""
-    with tables.opened(path) as copy:
+    added to. Both have the same form in each schema, and an upgrade changes neither."""
+    with tables.opened(path, is_any_schema=True) as copy:
         settings = {item for item in copy.settings.items() if item[0] != "schema"}
         return frozenset(settings), frozenset(copy.rows("SELECT kind, name, length(text) FROM batch"))
 

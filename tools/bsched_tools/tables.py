@@ -153,13 +153,13 @@ def schema_fault(connection: sqlite3.Connection) -> str | None:
 
 
 @contextmanager
-def opened(path: Path) -> Iterator[Tables]:
-    """Yields the tables of a copy."""
+def opened(path: Path, is_any_schema: bool = False) -> Iterator[Tables]:
+    """Yields the tables of a copy. They must be of the newest schema, unless any schema is right."""
     path = found_copy(path)
     check_file(path)
     with faults_of(path), closing(connected(path)) as connection:
         connection.execute("BEGIN")
-        if fault := schema_fault(connection):
+        if not is_any_schema and (fault := schema_fault(connection)):
             raise Fault(f"{path}: {fault}")
         settings = dict(connection.execute("SELECT name, value FROM setting"))
         yield Tables(path, connection, moment_of(path), settings)

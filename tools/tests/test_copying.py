@@ -12,6 +12,7 @@ from collections.abc import Callable
 from pathlib import Path
 from typing import Any
 
+import plain_tables
 import pytest
 from small_project import END, TOOLS, Twin, make_tables, rows_of, tools
 
@@ -349,6 +350,17 @@ def test_keep_removes_older_copies_of_the_project_alone(project: Path, copies: P
     copied = copying.copy_tables(project, copies, keep=2)
     assert copied.removed == paths[2::-1]
     assert sorted(copies.iterdir()) == sorted([spoiled, of_other, paths[3], copied.path])
+
+
+def test_keep_removes_copies_of_an_older_schema(project: Path, copies: Path) -> None:
+    """As after `bsched upgrade`."""
+    older = copies / "project-20200101T000000.000Z.db"
+    plain_tables.make_former(str(older), str(project))
+    second = copies / "project-20200102T000000.000Z.db"
+    plain_tables.make_former(str(second), str(project))
+    plain_tables.upgrade(second, 2)
+    copied = copying.copy_tables(project, copies, keep=2)
+    assert copied.removed == [older] and sorted(copies.iterdir()) == [second, copied.path]
 
 
 def test_the_newest_good_copy_is_never_removed(project: Path, copies: Path) -> None:
