@@ -130,8 +130,9 @@ def state_of(folder: Path) -> Path:
 
 
 def export(paths: Iterable[Path], folder: Path, agreed: Path | None, everybody: bool) -> Exported:
-    """Writes the files of some tables into a folder. tables.xml is written last, because sites look at it
-    first."""
+    """Writes the files of some tables into a folder. Sites know users and hosts by their numbers, so the
+    numbers are stored before they are published. tables.xml is written last, because sites look at it first.
+    """
     folder = Path(os.path.abspath(folder))
     if not folder.is_dir():
         raise Fault(f"{folder}: no such folder: make it first")
@@ -143,9 +144,9 @@ def export(paths: Iterable[Path], folder: Path, agreed: Path | None, everybody: 
         made = Export(averages, moment, who)
         for user in users_of(all_tables).values():
             made.add(user)
+        averages.write()
         replace_file(folder / "user.gz", listed("users", made.users), moment)
         replace_file(folder / "team.gz", listed("teams", []), moment)
         replace_file(folder / "host.gz", listed("hosts", made.hosts), moment)
         replace_file(folder / "tables.xml", [made.totals().encode()])
-        averages.write()
     return Exported(made.count, len(made.users), len(made.hosts))

@@ -4,6 +4,7 @@ import gzip
 import json
 import os
 from pathlib import Path
+from typing import Any
 from xml.etree import ElementTree
 
 import plain_tables
@@ -140,10 +141,30 @@ def test_no_half_file(tmp_path: Path, folder: Path, monkeypatch: pytest.MonkeyPa
         raise OSError(28, "No space left on device")
 
     monkeypatch.setattr(files.os, "fsync", full)
-    with pytest.raises(Fault, match="user.gz: No space left on device"):
+    with pytest.raises(Fault, match="stats-averages.json: No space left on device"):
         exports.export([path], folder, None, False)
     assert {one.name: one.read_bytes() for one in folder.iterdir()} == before
     assert exports.state_of(folder).read_bytes() == kept
+
+
+def test_numbers_are_stored_before_they_are_published(
+    tmp_path: Path, folder: Path, monkeypatch: pytest.MonkeyPatch,
+) -> None:
+    path = stored_life(life_of(11), tmp_path / "project.db")
+    replace_file = exports.replace_file
+
+    def full_at_the_end(path: Path, *words: Any) -> None:
+        if path.name == "tables.xml":
+            raise Fault("tables.xml: No space left on device")
+        replace_file(path, *words)
+
+    monkeypatch.setattr(exports, "replace_file", full_at_the_end)
+    with pytest.raises(Fault, match="tables.xml"):
+        exports.export([path], folder, None, True)
+    published = read(folder, "user.gz"), read(folder, "host.gz")
+    monkeypatch.undo()
+    exports.export([path], folder, None, True)
+    assert (read(folder, "user.gz"), read(folder, "host.gz")) == published
 
 
 def test_what_is_kept(tmp_path: Path, folder: Path) -> None:
