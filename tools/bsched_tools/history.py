@@ -1,4 +1,8 @@
-"""What earlier reports counted, in a small file. Each report appends a line to it."""
+"""What earlier reports counted, in a small file. Each report appends a line to it.
+
+A second file has the last report's line, too, and which instances were held then. It is written first, by one
+rename. If a stop comes before the line is appended, the next report appends it. So each result counts once.
+"""
 import json
 from dataclasses import asdict, dataclass, field
 from pathlib import Path
@@ -57,6 +61,20 @@ class History:
             found = (entry_of(line) for line in self.path.read_text(errors="replace").splitlines())
             self.entries = [entry for entry in found if entry is not None]
 
+    def _finish(self) -> None:
+        """Appends the line of the last report, if a stop came before that."""
+        try:
+            last = entry_of(json.dumps(json.loads(self.held_path.read_text())["entry"]))
+        except (OSError, ValueError, KeyError, TypeError):
+            return
+        if last is not None and (not self.entries or self.entries[-1].moment < last.moment):
+            self._append(last)
+
+    def _append(self, entry: Entry) -> None:
+        """Appends the line of a report."""
+        append_line(self.path, json.dumps(asdict(entry)).encode())
+        self.entries.append(entry)
+
     def held_before(self) -> tuple[int, set[str]] | None:
         """Returns when the last report was, and which instances were held then."""
         try:
@@ -79,13 +97,14 @@ class History:
 
     def add(self, tables: Tables, counts: Counts) -> None:
         """Appends what a report counted. A second report over one copy adds nothing."""
+        self._finish()
         if self.entries and tables.moment <= self.entries[-1].moment:
             return
         entry = Entry(
             tables.moment, dict(counts.workunits), dict(counts.instances), counts.people, counts.millicredits,
             counts.bytes, self.turnaround(tables),
         )
-        append_line(self.path, json.dumps(asdict(entry)).encode())
-        held = {"moment": tables.moment, "held": [f"{unit}.{num}" for unit, num in tables.rows(HELD)]}
-        replace_file(self.held_path, [json.dumps(held).encode()])
-        self.entries.append(entry)
+        held = [f"{unit}.{num}" for unit, num in tables.rows(HELD)]
+        told = {"moment": tables.moment, "held": held, "entry": asdict(entry)}
+        replace_file(self.held_path, [json.dumps(told).encode()])
+        self._append(entry)

@@ -2,7 +2,7 @@
 import json
 import os
 import re
-from collections.abc import Iterable
+from collections.abc import Callable, Iterable
 from html.parser import HTMLParser
 from pathlib import Path
 from typing import Any
@@ -19,6 +19,7 @@ from bsched_tools.faults import Fault
 
 Attributes = list[tuple[str, str | None]]
 VOID = {"meta", "br"}
+DONE = [{"name": "w1_0", "exit_status": 0, "output": "42"}]
 
 
 class Read(HTMLParser):
@@ -77,6 +78,13 @@ def reported(path: Path, folder: Path, moment: float | None = None) -> Read:
     if moment is not None:
         os.utime(path, (moment, moment))
     return Read(page.write_report(path, folder).read_text())
+
+
+def called(path: Path, now: int, call: bytes) -> None:
+    """Has a host call at a moment."""
+    tables = plain_tables.Tables(path, synchronous="OFF")
+    plain_tables.Service(tables).scheduler(call, now)
+    tables.connection.close()
 
 
 def lived_in_parts(tmp_path: Path, folder: Path, parts: int = 4) -> tuple[Project, Path, Read]:
@@ -159,16 +167,45 @@ def test_turnaround_is_at_most_what_it_is_said(tmp_path: Path, folder: Path) -> 
     make_tables(path, units=4)
 
     def run(now: int, call: bytes) -> Any:
-        tables = plain_tables.Tables(path, synchronous="OFF")
-        plain_tables.Service(tables).scheduler(call, now)
-        tables.connection.close()
+        called(path, now, call)
         reported(path, folder, now + 60)
         return json.loads((folder / "history.jsonl").read_text().splitlines()[-1])["turnaround"]
 
-    done = [{"name": "w1_0", "exit_status": 0, "output": "42"}]
     assert sum(run(10_000, request(1, 1, work_req_seconds=1))) == 0
-    assert run(13_000, request(1, 2, results=done)) == [1, 0, 0, 0, 0, 0, 0]  # after at most 3,060 seconds
+    assert run(13_000, request(1, 2, results=DONE)) == [1, 0, 0, 0, 0, 0, 0]  # after at most 3,060 seconds
     assert sum(run(13_200, request(1, 3))) == 0
+
+
+@pytest.mark.parametrize("writes", [0, 1])
+def test_a_stop_in_a_report_makes_no_result_count_twice(
+    tmp_path: Path, folder: Path, monkeypatch: pytest.MonkeyPatch, writes: int,
+) -> None:
+    path = make_tables(tmp_path / "project.db", units=4)
+    called(path, 10_000, request(1, 1, work_req_seconds=1))
+    reported(path, folder, 10_060)
+    called(path, 13_000, request(1, 2, results=DONE))
+    left = [None] * writes
+
+    def stopped_after(write: Callable[..., None]) -> Callable[..., None]:
+        def written(*words: Any) -> None:
+            if not left:
+                raise Fault("a stop")
+            left.pop()
+            write(*words)
+        return written
+
+    for name in ("append_line", "replace_file"):
+        monkeypatch.setattr(history, name, stopped_after(getattr(history, name)))
+    with pytest.raises(Fault, match="a stop"):
+        reported(path, folder, 13_060)
+    monkeypatch.undo()
+    called(path, 13_100, request(1, 3))
+    for moment in (13_160, 13_200):
+        reported(path, folder, moment)
+    entries = history.History(folder).entries
+    moments = [10_060, 13_060, 13_160, 13_200] if writes else [10_060, 13_160, 13_200]
+    assert [entry.moment for entry in entries] == moments
+    assert sum(sum(entry.turnaround) for entry in entries) == 1
 
 
 def test_names_are_text(tmp_path: Path, folder: Path) -> None:

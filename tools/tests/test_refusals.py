@@ -104,7 +104,7 @@ def test_tables_that_a_program_serves(project: Path, twin: Twin, tmp_path: Path,
     (["results", "--cursor", "DISK/cursor"], "cursor"),
     (["results", "--to", "DISK/new"], "new"),
     (["statistics", "--to", "DISK"], "user.gz"),
-    (["report", "--to", "DISK"], "history.jsonl"),
+    (["report", "--to", "DISK"], "held.json"),
 ])
 def test_a_full_disk(project: Path, small_disk: Path, words: list[str], wanted: str) -> None:
     with (small_disk / "full").open("wb", buffering=0) as full, contextlib.suppress(OSError):
