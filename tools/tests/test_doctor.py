@@ -113,7 +113,8 @@ def test_settings_of_another_type(tmp_path: Path, name: str, value: str) -> None
     status, told, fault = tools("doctor", "--tables", path)
     wrong, advice = told.splitlines()
     assert (status, fault) == (1, "") and "restore a copy" in advice
-    assert f": row {name} of setting: value is " in wrong and ": it must be a whole number from 1 to " in wrong
+    assert f": row {name} of setting: value is " in wrong
+    assert ": it must be a whole number from 1 to " in wrong
 
 
 @pytest.mark.parametrize("statement", statements_of("OTHERS"))
