@@ -1,6 +1,7 @@
-"""Tests that a release agrees with itself: versions, man pages and the command line."""
+"""Tests that a release agrees with itself: versions, man pages, command lines, program and sources."""
 import re
 import subprocess
+from collections.abc import Callable
 from pathlib import Path
 
 import pytest
@@ -49,3 +50,112 @@ def test_the_man_page_of_the_settings_has_each_key_of_the_profile() -> None:
 ])
 def test_completion(line: str, offered: str) -> None:
     assert words_of(line) == offered
+
+
+# ---- The program and its sources
+
+
+class Clone:
+    """A repository with little in it, and a program that a stand-in for `rt` builds."""
+
+    def __init__(self, folder: Path) -> None:
+        self.folder, self.tools = folder / "clone", folder / "tools"
+        self.program = self.folder / "crates" / "bsched" / "out" / "bsched"
+        self.tools.mkdir()
+        (self.tools / "rt").write_text("#!/bin/sh\nmkdir -p out && cat main.rt > out/bsched\n")
+        (self.tools / "rt").chmod(0o755)
+        for name in ("build", "program"):
+            self.write(f"packaging/{name}", (TOP / "packaging" / name).read_text()).chmod(0o755)
+        self.write("VERSION", "1.0.0\n")
+        self.write("debian/changelog", "bsched (1.0.0) bookworm; urgency=medium\n")
+        self.write("debian/control", "Source: bsched\nBuild-Depends: no-such-package\n\nPackage: bsched\n")
+        self.write("CHANGELOG.md", "# Changelog\n\n## [Unreleased]\n\n## [1.0.0] - 2026-11-28\n\nFirst.\n")
+        self.write("crates/bsched/main.rt", "one\n")
+        self.write("crates.txt", "bsched\n")
+        self.write("HANDLES", "Handles allowed: Net.\n")
+        self.write(".gitignore", "out/\n")
+        self.run("git", "init", "--quiet")
+        self.commit()
+        assert self.run("packaging/program").returncode == 0
+
+    def write(self, name: str, text: str) -> Path:
+        """Writes a file."""
+        path = self.folder / name
+        path.parent.mkdir(parents=True, exist_ok=True)
+        path.write_text(text)
+        return path
+
+    def run(self, *words: str) -> "subprocess.CompletedProcess[str]":
+        """Runs a command in the repository."""
+        path = {"PATH": f"{self.tools}:/usr/sbin:/usr/bin:/sbin:/bin", "HOME": str(self.tools)}
+        return subprocess.run(words, cwd=self.folder, env=path, capture_output=True, text=True, timeout=60)
+
+    def commit(self) -> None:
+        """Commits all files."""
+        self.run("git", "add", "--all")
+        words = ["git", "-c", "user.name=T", "-c", "user.email=t@t", "commit", "--quiet", "--message=Change"]
+        assert self.run(*words).returncode == 0
+
+    def build(self, *words: str) -> str:
+        """Begins to make packages, and returns why that ends. It ends at the latest for want of a package."""
+        told = self.run("packaging/build", *words, "../made")
+        assert told.returncode == 1
+        return told.stderr
+
+
+@pytest.fixture
+def clone(tmp_path: Path) -> Clone:
+    """Makes a repository whose commit can be released."""
+    return Clone(tmp_path)
+
+
+GOOD = re.compile("packaging/build: (packages of Debian are missing: .*|dpkg-buildpackage is missing.*)\n")
+
+
+def change(clone: Clone, name: str, text: str) -> None:
+    """Commits a change of a file."""
+    clone.write(name, text)
+    clone.commit()
+
+
+@pytest.mark.parametrize("spoil, wanted", [
+    (lambda clone: clone.write("new", ""), "there are uncommitted changes"),
+    (lambda clone: change(clone, "CHANGELOG.md", "## [Unreleased]\n\n- More.\n\n## [1.0.0] - 2026\n"),
+     "CHANGELOG.md has changes under [Unreleased]"),
+    (lambda clone: clone.program.write_text("other"), "is not the program of this commit"),
+    (lambda clone: change(clone, "crates/bsched/main.rt", "two\n"), "is not the program of this commit"),
+    (lambda clone: change(clone, "HANDLES", "Handles allowed: none.\n"), "is not the program of this commit"),
+    (lambda clone: clone.program.with_name("bsched.sources").unlink(), "nothing says from which sources"),
+])
+def test_what_is_no_release(clone: Clone, spoil: Callable[[Clone], object], wanted: str) -> None:
+    spoil(clone)
+    said = clone.build()
+    assert wanted in said and "--trial" in said.splitlines()[-1]
+    assert GOOD.fullmatch(clone.build("--trial"))
+
+
+def test_what_is_a_release(clone: Clone) -> None:
+    assert GOOD.fullmatch(clone.build())
+    change(clone, "README.md", "Other words.\n")
+    assert GOOD.fullmatch(clone.build())
+    change(clone, "crates/bsched/main.rt", "two\n")
+    assert clone.run("packaging/program").returncode == 0
+    assert GOOD.fullmatch(clone.build()) and clone.program.read_text() == "two\n"
+
+
+def test_a_version_that_differs_is_refused_in_a_trial_too(clone: Clone) -> None:
+    change(clone, "VERSION", "1.0.1\n")
+    assert "have different versions" in clone.build() and "have different versions" in clone.build("--trial")
+
+
+def test_no_program_of_sources_that_are_not_committed(clone: Clone) -> None:
+    clone.write("crates/bsched/main.rt", "two\n")
+    told = clone.run("packaging/program")
+    assert told.returncode == 1 and "are not committed" in told.stderr
+    assert clone.program.read_text() == "one\n"
+
+
+def test_no_program_if_the_proof_fails(clone: Clone) -> None:
+    (clone.tools / "rt").write_text("#!/bin/sh\nexit 1\n")
+    assert clone.run("packaging/program").returncode == 1
+    assert "nothing says from which sources" in clone.build()
