@@ -1,6 +1,8 @@
 """Tests that a release agrees with itself: versions, man pages, command lines, program and sources."""
+import os
 import re
 import subprocess
+import sys
 from collections.abc import Callable
 from pathlib import Path
 
@@ -39,6 +41,79 @@ def test_the_man_page_of_the_settings_has_each_key_of_the_profile() -> None:
     keys = re.findall(r"^\| `(\w+)` \|", profile, re.MULTILINE)
     page = (TOP / "packaging" / "man" / "bsched-settings.5").read_text()
     assert len(keys) == 7 and re.findall(r"^\.TP\n\.B (\w+)$", page, re.MULTILINE) == keys
+
+
+def synopsis(page: str) -> dict[str, set[str]]:
+    """Returns the options in the synopsis of a man page, by command. Without a command the name is empty."""
+    text = (TOP / "packaging" / "man" / page).read_text()
+    text = text.partition("\n.SH SYNOPSIS\n")[2].partition("\n.SH ")[0]
+    plain = re.sub(r"\\f[A-Z]|^\.\w+ ?", "", text.replace("\\-", "-"), flags=re.MULTILINE)
+    found: dict[str, set[str]] = {}
+    for line in re.split(r"\n(?=bsched)", plain):
+        command = re.match(r"bsched[a-z-]* ?([a-z]*)", line)
+        assert command is not None
+        found.setdefault(command[1], set()).update(re.findall(r"--[a-z-]+", line))
+    return found
+
+
+def offered_by(*words: str) -> set[str]:
+    """Returns the options that the help of a command names."""
+    path = {"PYTHONPATH": f"{TOP}/bridge:{TOP}/tools", "PYTHONDONTWRITEBYTECODE": "1"}
+    command = [*words, "--help"]
+    told = subprocess.run(command, env=path, capture_output=True, text=True, timeout=60, check=True)
+    return set(re.findall(r"--[a-z-]+", told.stdout)) - {"--help"}
+
+
+@pytest.mark.parametrize("module", ["bsched_tools", "bsched_bridge"])
+def test_each_synopsis_has_the_options_of_the_help(module: str) -> None:
+    page = synopsis(f"{module.replace('_', '-')}.1")
+    assert len(page) > 2
+    for command, options in page.items():
+        words = [command] if command else []
+        assert offered_by(sys.executable, "-m", module, *words) == options, command
+
+
+def test_the_synopsis_of_bsched_project_has_the_options_of_its_help() -> None:
+    assert synopsis("bsched-project.8") == {"": offered_by(f"{TOP}/packaging/bsched-project")}
+
+
+def test_the_synopsis_of_bsched_has_the_options_of_the_profile() -> None:
+    profile = (TOP / "docs" / "PROFILE.md").read_text()
+    commands = re.findall(r"^\| `bsched (\w+)([^`]*)`", profile, re.MULTILINE)
+    told = {command: set(re.findall(r"--[a-z-]+", rest)) for command, rest in commands}
+    page = synopsis("bsched.1")
+    assert set(told) == set(COMMANDS) and page | {"replay": page[""]} == told | {"": page[""]}
+
+
+# ---- Installed pages
+
+
+def installed_pages() -> dict[str, str]:
+    """Returns the documents that the packages install, each with its place below /usr/share/doc/bsched."""
+    places = {name: name for name in (TOP / "debian" / "bsched.docs").read_text().split()}
+    for line in (TOP / "debian" / "bsched.install").read_text().splitlines():
+        source, target = line.split()
+        if target.startswith("usr/share/doc/bsched/"):
+            folder = target.removeprefix("usr/share/doc/bsched/")
+            places |= {str(one.relative_to(TOP)): f"{folder}/{one.name}" for one in TOP.glob(source)}
+    for line in (TOP / "debian" / "bsched-tools.links").read_text().splitlines():
+        _, target = line.split()
+        places["bridge/README.md"] = target.removeprefix("usr/share/doc/bsched/")
+    return places
+
+
+def test_installed_pages_link_to_installed_pages() -> None:
+    places = installed_pages()
+    assert "CONTRIBUTING.md" in places and len(places) > 12
+    for name, place in places.items():
+        if name.endswith(".md"):
+            for link in re.findall(r"\]\((?!https?:)([^)#]+)", (TOP / name).read_text()):
+                target = os.path.normpath(Path(place).parent / link)
+                is_source = target.startswith("crates/")  # in a clone alone
+                assert is_source or target in places.values(), f"{name} links to {link}"
+
+
+# ---- Completion
 
 
 @pytest.mark.parametrize("line, offered", [
