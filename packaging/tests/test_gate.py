@@ -24,7 +24,7 @@ def lacking(tmp_path: Path) -> Path:
     return tmp_path
 
 
-def tested(folder: Path, *words: str) -> tuple[int, list[str]]:
+def outcome(folder: Path, *words: str) -> tuple[int, list[str]]:
     """Runs the script, and returns its status and what it prints."""
     path = {"PATH": f"{folder}/bin:/usr/bin:/bin"}
     command = [str(folder / "test"), *words]
@@ -34,19 +34,19 @@ def tested(folder: Path, *words: str) -> tuple[int, list[str]]:
 
 
 def test_python_tests_that_can_not_run_fail(lacking: Path) -> None:
-    status, lines = tested(lacking, "python")
+    status, lines = outcome(lacking, "python")
     assert status == 1 and lines[-1].startswith("test: the Python tests did not run: ")
 
 
 def test_the_gate_says_at_its_end_that_they_are_skipped(lacking: Path) -> None:
-    status, lines = tested(lacking)
+    status, lines = outcome(lacking)
     assert status == 0 and lines[-1] == "7 passed, 0 failed"
     assert lines[-2].startswith("test: the Python tests are skipped: ")
 
 
 def test_proofs_alone(lacking: Path) -> None:
-    assert tested(lacking, "proofs") == (0, ["7 passed, 0 failed"])
+    assert outcome(lacking, "proofs") == (0, ["7 passed, 0 failed"])
 
 
 def test_a_bad_word(lacking: Path) -> None:
-    assert tested(lacking, "nothing")[0] == 64
+    assert outcome(lacking, "nothing")[0] == 64

@@ -49,10 +49,8 @@ def synopsis(page: str) -> dict[str, set[str]]:
     text = text.partition("\n.SH SYNOPSIS\n")[2].partition("\n.SH ")[0]
     plain = re.sub(r"\\f[A-Z]|^\.\w+ ?", "", text.replace("\\-", "-"), flags=re.MULTILINE)
     found: dict[str, set[str]] = {}
-    for line in re.split(r"\n(?=bsched)", plain):
-        command = re.match(r"bsched[a-z-]* ?([a-z]*)", line)
-        assert command is not None
-        found.setdefault(command[1], set()).update(re.findall(r"--[a-z-]+", line))
+    for command, rest in re.findall(r"^bsched[a-z-]* ?([a-z]*)(.*(?:\n(?!bsched).*)*)", plain, re.MULTILINE):
+        found.setdefault(command, set()).update(re.findall(r"--[a-z-]+", rest))
     return found
 
 
