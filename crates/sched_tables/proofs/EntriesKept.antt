@@ -37,12 +37,13 @@ use Rattle.table_meaning.specs.Worlds.{BatchText, SlotCalls, call_row, HoldWorld
 use Rattle.table_meaning.proofs.Keys.{key_itself}
 use Rattle.sched_tables.specs.Commits.{Imports, Keeps, apps_with}
 use Rattle.sched_tables.specs.Entries.{IsRowOf, MakesWith, kept_batch, calls_of, batches_of}
-use Rattle.sched_tables.specs.Slots.{calls_in_slots, IsSlotFor, with_slot}
+use Rattle.sched_tables.specs.Slots.{calls_in_slots, with_slot}
+use Rattle.table_cache.specs.NextSlot.{IsSlotFor}
 use Rattle.sched_tables.specs.Held.{AreWellKept, AreInMemory}
 use Rattle.sched_tables.specs.DueFrom.{NothingIsDueBefore}
-use Rattle.sched_tables.specs.Remembering.{AreRemembered}
+use Rattle.table_cache.specs.Remembering.{IsCacheOf}
 use Rattle.sched_tables.specs.Views.{held_in}
-use Rattle.sched_tables.specs.declared.remembered.Remembered.{Remembered}
+use Rattle.table_cache.specs.declared.cache.Cache.{Cache}
 use Rattle.table_worlds.specs.Readable.{IsReadable}
 use Rattle.table_worlds.specs.StoredWorld.{world_in}
 use Rattle.table_worlds.proofs.WorldReadBack.{held_is_read_back}
@@ -270,7 +271,7 @@ module _ (old new : State) (w : World) (cs : List Change) (e : Entry) (kept : Ar
   }
 
   -- what is in memory agrees with the world, with the applications that the changes bring
-  pub beside_then : (calls : SlotCalls) (settings : Settings) (apps apps' : List App) (read read' : Remembered) (due_from due_from' : ℕ) → AreInMemory w calls settings apps read due_from → apps' ≡ apps_with apps cs → AreRemembered (world_in new.now.trees) (calls_in new.now.trees) read' → NothingIsDueBefore (world_in new.now.trees) due_from'
+  pub beside_then : (calls : SlotCalls) (settings : Settings) (apps apps' : List App) (read read' : Cache) (due_from due_from' : ℕ) → AreInMemory w calls settings apps read due_from → apps' ≡ apps_with apps cs → IsCacheOf (world_in new.now.trees) (calls_in new.now.trees) read' → NothingIsDueBefore (world_in new.now.trees) due_from'
       → AreInMemory (world_in new.now.trees) (calls_in new.now.trees) settings apps' read' due_from'
   beside_then calls settings apps apps' read read' due_from due_from' beside brought rows marked = record {
     settings_are = beside.settings_are ∙ sym (all_settings_stay w cs) ∙ sym (ap (λ u. u.settings) world_then);

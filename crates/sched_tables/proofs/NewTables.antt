@@ -21,9 +21,9 @@ use Rattle.table_worlds.specs.RowsOf.{setting_rows}
 use Rattle.table_worlds.proofs.NewWorld.{new_world}
 use Rattle.sched_book.specs.declared.world.World.{World}
 use Rattle.sched_tables.specs.Held.{AreWellKept, AreInMemory}
-use Rattle.sched_tables.specs.Remembering.{AreRemembered}
+use Rattle.table_cache.specs.Remembering.{IsCacheOf}
 use Rattle.sched_tables.specs.Reopening.{CanBeOpened}
-use Rattle.sched_tables.specs.declared.remembered.Remembered.{Remembered}
+use Rattle.table_cache.specs.declared.cache.Cache.{Cache}
 use Rattle.table_meaning.specs.Kept.{calls_in, batches_in}
 use Rattle.table_meaning.proofs.UpgradedWorlds.{hold_same}
 use Rattle.sched_tables.proofs.EntriesKept.{calls_back, batches_back, held_with_kept}
@@ -62,7 +62,7 @@ module _ (s : Settings) (st : State) (rests : st.now ≡ st.committed) (just : H
       held_can_be_opened st.now (empty_world s) (λ _ _. None) (λ _ _. None) sound (record { calls_fit = λ host slot. tt; imports_fit = λ kind text. tt }) held
       (subst (λ (db : Database). AreUtf8 db.trees) (sym rests) (just_utf8 st.committed (setting_rows s) just utf8))
 
-  pub new_beside : (settings : Settings) (apps : List App) (read : Remembered) → settings ≡ s → apps ≡ [] → ((w : World) (calls : SlotCalls) → AreRemembered w calls read) → AreInMemory (world_in st.now.trees) (calls_in st.now.trees) settings apps read 0
+  pub new_beside : (settings : Settings) (apps : List App) (read : Cache) → settings ≡ s → apps ≡ [] → ((w : World) (calls : SlotCalls) → IsCacheOf w calls read) → AreInMemory (world_in st.now.trees) (calls_in st.now.trees) settings apps read 0
   new_beside settings apps read same none nothing = record { settings_are = same ∙ sym (ap (λ w. w.settings) new_world_is); apps_are = none ∙ sym (ap (λ w. w.apps) new_world_is); rows_are = nothing _ _; due_from_is = none_before (world_in st.now.trees) }
 
   pub new_held : IsNew s (held_in st.now.trees)

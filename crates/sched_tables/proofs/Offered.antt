@@ -18,12 +18,12 @@ use Rattle.table_desk.specs.Skips.{covers, least_place, SkipPlaces, IsCovered}
 use Rattle.sched_book.specs.Offers.{OrSkips}
 use Rattle.table_desk.proofs.Jumps.{all_implied, some_implied}
 use Rattle.table_worlds.proofs.ByPlace.{nth_next}
-use Rattle.sched_tables.specs.Covering.{jobs_of, IsSkipFor}
+use Rattle.table_cache.specs.Covering.{jobs_of, IsSkipFor}
 use Rattle.table_desk.specs.WaitingPage.{waiting_of}
 use Rattle.sched_tables.specs.Offering.{IsCandidateOf, MaySkip}
-use Rattle.sched_tables.specs.Remembering.{IsUnitOf}
+use Rattle.table_cache.specs.Remembering.{IsUnitOf}
 use Rattle.sched_tables.specs.declared.offering.Noting.{Noting}
-use Rattle.sched_tables.proofs.HadBy.{had_if_given}
+use Rattle.table_cache.proofs.HadBy.{had_if_given}
 
 -- ---- each candidate has the workunit at its place, and waits
 

@@ -15,8 +15,8 @@ use Rattle.table_worlds.specs.StoredWorld.{world_in}
 use Rattle.table_worlds.proofs.StaysReadable.{sound_is_readable}
 use Rattle.sched_tables.specs.Held.{IsHonest, AreWellKept, AreInMemory}
 use Rattle.sched_tables.specs.DueFrom.{NothingIsDueBefore}
-use Rattle.sched_tables.specs.Remembering.{AreRemembered}
-use Rattle.sched_tables.specs.declared.remembered.Remembered.{Remembered}
+use Rattle.table_cache.specs.Remembering.{IsCacheOf}
+use Rattle.table_cache.specs.declared.cache.Cache.{Cache}
 
 -- a connection as it was taken, and as a reading left it
 module _ (taken read : State) (opens : HasCleanDisk taken → Opens taken) (known : HasCleanDisk taken → AreKnown taken.now) (reads : Reads taken read) (honest : IsHonest read) where
@@ -48,7 +48,7 @@ module _ (taken read : State) (opens : HasCleanDisk taken → Opens taken) (know
       readable = sound_is_readable (world_in read.now.trees) opened_sound;
     }
 
-    pub opened_beside : (settings : Settings) (apps : List App) (rows : Remembered) (due_from : ℕ) → settings ≡ (world_in taken.now.trees).settings → apps ≡ (world_in taken.now.trees).apps → ((v : World) (calls : SlotCalls) → AreRemembered v calls rows)
+    pub opened_beside : (settings : Settings) (apps : List App) (rows : Cache) (due_from : ℕ) → settings ≡ (world_in taken.now.trees).settings → apps ≡ (world_in taken.now.trees).apps → ((v : World) (calls : SlotCalls) → IsCacheOf v calls rows)
         → NothingIsDueBefore (world_in taken.now.trees) due_from → AreInMemory (world_in read.now.trees) (calls_in read.now.trees) settings apps rows due_from
     opened_beside settings apps rows due_from of_world also nothing none = record {
       settings_are = of_world ∙ sym (ap (λ (v : World). v.settings) opened_world);

@@ -21,7 +21,7 @@ told store t after says asked honest kept =
 
 module _ {S : Type 0} (store : Ghosts S) (first mid : Tables S) (on : AreReadOn store first mid) (honest : IsHonest (state_of store mid)) (kept : AreKept store first) where
   pub kept_on : AreKept store mid
-  kept_on = stays_both (state_of store first) (state_of store mid) on.0 honest first.settings mid.settings first.apps mid.apps first.remembered mid.remembered first.due_from mid.due_from on.1 on.2 (on.3 honest kept) (on.4 honest kept) kept
+  kept_on = stays_both (state_of store first) (state_of store mid) on.0 honest first.settings mid.settings first.apps mid.apps first.cache mid.cache first.due_from mid.due_from on.1 on.2 (on.3 honest kept) (on.4 honest kept) kept
 
   pub same_on : world_of store mid ≡ world_of store first
   same_on = stays_same (state_of store first) (state_of store mid) on.0 honest kept.0
@@ -33,7 +33,7 @@ read_on store first mid last on later = (
   later.2 ∙ on.2,
   λ honest kept.
       let then = was_honest (state_of store mid) (state_of store last) later.0 honest in
-      rows_before (state_of store first) (state_of store mid) on.0 then kept.0 last.remembered (later.3 honest (kept_on store first mid on then kept)),
+      rows_before (state_of store first) (state_of store mid) on.0 then kept.0 last.cache (later.3 honest (kept_on store first mid on then kept)),
   λ honest kept.
       let then = was_honest (state_of store mid) (state_of store last) later.0 honest in
       due_from_before (state_of store first) (state_of store mid) on.0 then kept.0 last.due_from (later.4 honest (kept_on store first mid on then kept)),

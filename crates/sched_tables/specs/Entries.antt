@@ -14,7 +14,8 @@ use Rattle.table_meaning.specs.declared.rows.StoredRow.TheVariants as stored
 use Rattle.table_meaning.specs.Kept.{calls_in, batches_in}
 use Rattle.table_meaning.specs.Worlds.{BatchText, SlotCalls, call_row}
 use Rattle.sched_tables.specs.Commits.{ArePut, Makes}
-use Rattle.sched_tables.specs.Slots.{calls_in_slots, IsSlotFor}
+use Rattle.sched_tables.specs.Slots.{calls_in_slots}
+use Rattle.table_cache.specs.NextSlot.{IsSlotFor}
 
 -- An entry puts a call into the slot for it, an import at its kind and name, or nothing.
 abbrev pub IsRowOf : SlotCalls → Entry → Option StoredRow → Type 0

@@ -10,8 +10,8 @@ use Rattle.table_meaning.specs.Worlds.{SlotCalls, HoldWorld}
 use Rattle.table_meaning.specs.Kept.{calls_in, batches_in}
 use Rattle.table_worlds.specs.Readable.{IsReadable}
 use Rattle.sched_tables.specs.DueFrom.{NothingIsDueBefore}
-use Rattle.sched_tables.specs.Remembering.{AreRemembered}
-use Rattle.sched_tables.specs.declared.remembered.Remembered.{Remembered}
+use Rattle.table_cache.specs.Remembering.{IsCacheOf}
+use Rattle.table_cache.specs.declared.cache.Cache.{Cache}
 
 -- the disk returned what was written, and no fault of it has shut the connection
 abbrev pub IsHonest : State → Type 0
@@ -26,10 +26,10 @@ pub record AreWellKept (s : State) (w : World) : Type 0 where
 
 -- What is in memory agrees with the tables. The settings and the applications are the world's, what is remembered is what the tables
 -- hold, and nothing is due in the world before `due_from`.
-pub record AreInMemory (w : World) (calls : SlotCalls) (settings : Settings) (apps : List App) (read : Remembered) (due_from : ℕ) : Type 0 where
+pub record AreInMemory (w : World) (calls : SlotCalls) (settings : Settings) (apps : List App) (read : Cache) (due_from : ℕ) : Type 0 where
   pub settings_are : settings ≡ w.settings
   pub apps_are : apps ≡ w.apps
-  pub rows_are : AreRemembered w calls read
+  pub rows_are : IsCacheOf w calls read
   pub due_from_is : NothingIsDueBefore w due_from
 
 -- The store under the tables never fails: it counts no fault, and it is clean.

@@ -2,16 +2,10 @@ pub mod Slots
 pub mod Commits
 pub mod Entries
 pub mod Held
-pub mod Carrying
-pub mod Keys
-pub mod Covering
-pub mod Holding
 pub mod Offering
 pub mod DueFrom
 pub mod Refusals
 pub mod ReadLaws
-pub mod Remembering
-pub mod RowsRead
 pub mod Reopening
 pub mod Stops
 pub mod StopLaws

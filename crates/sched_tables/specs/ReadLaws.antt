@@ -16,8 +16,8 @@ use Rattle.sched_tables.specs.Entries.{calls_of, batches_of}
 use Rattle.sched_tables.specs.Views.{held_in}
 use Rattle.sched_tables.specs.Held.{IsHonest, AreWellKept, AreInMemory}
 use Rattle.sched_tables.specs.DueFrom.{NothingIsDueBefore}
-use Rattle.sched_tables.specs.Remembering.{AreRemembered}
-use Rattle.sched_tables.specs.declared.remembered.Remembered.{Remembered}
+use Rattle.table_cache.specs.Remembering.{IsCacheOf}
+use Rattle.table_cache.specs.declared.cache.Cache.{Cache}
 
 -- ---- tables whose rows stay as they are
 
@@ -36,12 +36,12 @@ module _ (old new : State) (shown : new.now ≡ old.now) (committed : new.commit
   }
 
   -- and what is in memory still agrees with the world
-  pub left_in_memory : (settings settings' : Settings) (apps apps' : List App) (read read' : Remembered) (due_from due_from' : ℕ) → settings' ≡ settings → apps' ≡ apps → AreRemembered (world_in old.now.trees) (calls_in old.now.trees) read'
+  pub left_in_memory : (settings settings' : Settings) (apps apps' : List App) (read read' : Cache) (due_from due_from' : ℕ) → settings' ≡ settings → apps' ≡ apps → IsCacheOf (world_in old.now.trees) (calls_in old.now.trees) read'
       → NothingIsDueBefore (world_in old.now.trees) due_from' → AreInMemory (world_in old.now.trees) (calls_in old.now.trees) settings apps read due_from → AreInMemory (world_in new.now.trees) (calls_in new.now.trees) settings' apps' read' due_from'
   left_in_memory settings settings' apps apps' read read' due_from due_from' same also rows marked beside = record {
     settings_are = same ∙ beside.settings_are ∙ sym (ap (λ w. w.settings) left_world);
     apps_are = also ∙ beside.apps_are ∙ sym (ap (λ w. w.apps) left_world);
-    rows_are = subst (λ (db : Database). AreRemembered (world_in db.trees) (calls_in db.trees) read') (sym shown) rows;
+    rows_are = subst (λ (db : Database). IsCacheOf (world_in db.trees) (calls_in db.trees) read') (sym shown) rows;
     due_from_is = subst (λ w. NothingIsDueBefore w due_from') (sym left_world) marked;
   }
 
@@ -61,7 +61,7 @@ module _ (old new : State) (reads : Reads old new) (honest : IsHonest new) (kept
   pub stays_kept : AreWellKept new (world_in new.now.trees)
   stays_kept = left_kept old new stays_shown stays_committed kept (reads.idle kept.idle)
 
-  pub stays_in_memory : (settings settings' : Settings) (apps apps' : List App) (read read' : Remembered) (due_from due_from' : ℕ) → settings' ≡ settings → apps' ≡ apps → AreRemembered (world_in old.now.trees) (calls_in old.now.trees) read'
+  pub stays_in_memory : (settings settings' : Settings) (apps apps' : List App) (read read' : Cache) (due_from due_from' : ℕ) → settings' ≡ settings → apps' ≡ apps → IsCacheOf (world_in old.now.trees) (calls_in old.now.trees) read'
       → NothingIsDueBefore (world_in old.now.trees) due_from' → AreInMemory (world_in old.now.trees) (calls_in old.now.trees) settings apps read due_from → AreInMemory (world_in new.now.trees) (calls_in new.now.trees) settings' apps' read' due_from'
   stays_in_memory = left_in_memory old new stays_shown stays_committed kept
 
@@ -85,16 +85,16 @@ reads_hold old new reads honest kept =
     }
 
 -- well kept tables stay so, if what was read is the world's and nothing is due before `due_from`
-pub stays_both : (old new : State) → Reads old new → IsHonest new → (settings settings' : Settings) (apps apps' : List App) (read read' : Remembered) (due_from due_from' : ℕ) → settings' ≡ settings → apps' ≡ apps
-    → AreRemembered (world_in old.now.trees) (calls_in old.now.trees) read' → NothingIsDueBefore (world_in old.now.trees) due_from' → AreWellKept old (world_in old.now.trees) × AreInMemory (world_in old.now.trees) (calls_in old.now.trees) settings apps read due_from
+pub stays_both : (old new : State) → Reads old new → IsHonest new → (settings settings' : Settings) (apps apps' : List App) (read read' : Cache) (due_from due_from' : ℕ) → settings' ≡ settings → apps' ≡ apps
+    → IsCacheOf (world_in old.now.trees) (calls_in old.now.trees) read' → NothingIsDueBefore (world_in old.now.trees) due_from' → AreWellKept old (world_in old.now.trees) × AreInMemory (world_in old.now.trees) (calls_in old.now.trees) settings apps read due_from
     → AreWellKept new (world_in new.now.trees) × AreInMemory (world_in new.now.trees) (calls_in new.now.trees) settings' apps' read' due_from'
 stays_both old new reads honest settings settings' apps apps' read read' due_from due_from' same also rows marked kept =
     (stays_kept old new reads honest kept.0, stays_in_memory old new reads honest kept.0 settings settings' apps apps' read read' due_from due_from' same also rows marked kept.1)
 
 -- what was read later is what the tables held before, and a later `due_from` is one for the world before
-pub rows_before : (old new : State) → Reads old new → IsHonest new → AreWellKept old (world_in old.now.trees) → (read : Remembered) → AreRemembered (world_in new.now.trees) (calls_in new.now.trees) read
-    → AreRemembered (world_in old.now.trees) (calls_in old.now.trees) read
-rows_before old new reads honest kept read rows = subst (λ (db : Database). AreRemembered (world_in db.trees) (calls_in db.trees) read) (stays_shown old new reads honest kept) rows
+pub rows_before : (old new : State) → Reads old new → IsHonest new → AreWellKept old (world_in old.now.trees) → (read : Cache) → IsCacheOf (world_in new.now.trees) (calls_in new.now.trees) read
+    → IsCacheOf (world_in old.now.trees) (calls_in old.now.trees) read
+rows_before old new reads honest kept read rows = subst (λ (db : Database). IsCacheOf (world_in db.trees) (calls_in db.trees) read) (stays_shown old new reads honest kept) rows
 
 pub due_from_before : (old new : State) → Reads old new → IsHonest new → AreWellKept old (world_in old.now.trees) → (due_from : ℕ) → NothingIsDueBefore (world_in new.now.trees) due_from → NothingIsDueBefore (world_in old.now.trees) due_from
 due_from_before old new reads honest kept due_from marked = subst (λ w. NothingIsDueBefore w due_from) (stays_same old new reads honest kept) marked

@@ -13,7 +13,7 @@ use Rattle.table_meaning.specs.Worlds.{SlotCalls}
 use Rattle.sched_tables.specs.Entries.{calls_of, batches_of}
 use Rattle.sched_tables.specs.Held.{IsHonest, AreWellKept, AreInMemory}
 use Rattle.sched_tables.specs.DueFrom.{NothingIsDueBefore}
-use Rattle.sched_tables.specs.Remembering.{AreRemembered}
+use Rattle.table_cache.specs.Remembering.{IsCacheOf}
 use Rattle.sched_tables.specs.declared.tables.Tables.{Tables}
 
 abbrev pub state_of : {S : Type 0} → Ghosts S → Tables S → State
@@ -35,10 +35,10 @@ held_of store t = held_in (state_of store t).now.trees
 
 -- they are well kept, and what is in memory agrees with their world
 abbrev pub AreKept : {S : Type 0} → Ghosts S → Tables S → Type 0
-AreKept store t = AreWellKept (state_of store t) (world_of store t) × AreInMemory (world_of store t) (slots_of store t) t.settings t.apps t.remembered t.due_from
+AreKept store t = AreWellKept (state_of store t) (world_of store t) × AreInMemory (world_of store t) (slots_of store t) t.settings t.apps t.cache t.due_from
 
 -- Tables after a read. What the connection shows is unchanged, and so are the settings and the applications. If the tables are honest and
 -- were well kept, what is remembered is what they held, and nothing is due in their world before `due_from`.
 abbrev pub AreReadOn : {S : Type 0} → Ghosts S → Tables S → Tables S → Type 0
-AreReadOn store old new = Reads (state_of store old) (state_of store new) × (new.settings ≡ old.settings) × (new.apps ≡ old.apps) × (IsHonest (state_of store new) → AreKept store old → AreRemembered (world_of store old) (slots_of store old) new.remembered)
+AreReadOn store old new = Reads (state_of store old) (state_of store new) × (new.settings ≡ old.settings) × (new.apps ≡ old.apps) × (IsHonest (state_of store new) → AreKept store old → IsCacheOf (world_of store old) (slots_of store old) new.cache)
     × (IsHonest (state_of store new) → AreKept store old → NothingIsDueBefore (world_of store old) new.due_from)

@@ -9,7 +9,7 @@ ghost use Rattle.sched_book.specs.Delta.{applied};
 ghost use Rattle.sched_book.specs.Sound.{Sound};
 ghost use Rattle.sched_tables.specs.Held.{IsHonest};
 ghost use Rattle.sched_tables.specs.DueFrom.{NothingIsDueBefore};
-ghost use Rattle.sched_tables.specs.Remembering.{AreRemembered};
+ghost use Rattle.table_cache.specs.Remembering.{IsCacheOf};
 ghost use Rattle.sched_tables.specs.Reopening.{Reopens};
 ghost use Rattle.stores.specs.Standing.{MayBeKept};
 ghost use Rattle.sched_tables.specs.Views.{state_of, world_of, slots_of, AreKept, AreReadOn};
@@ -118,7 +118,7 @@ impl<S: Alter> Tables<S> {
         ensures idle { (state_of S.Store self.old).in_transaction ≡ false → (state_of S.Store self.new).in_transaction ≡ false }
         ensures settings { self.new.settings ≡ self.old.settings }
         ensures due_from { IsHonest (state_of S.Store self.new) → AreKept S.Store self.old → NothingIsDueBefore (world_of S.Store self.new) self.new.due_from }
-        ensures remembers { IsHonest (state_of S.Store self.new) → AreKept S.Store self.old → AreRemembered (world_of S.Store self.new) (slots_of S.Store self.new) self.new.remembered }
+        ensures remembers { IsHonest (state_of S.Store self.new) → AreKept S.Store self.old → IsCacheOf (world_of S.Store self.new) (slots_of S.Store self.new) self.new.cache }
         ensures apps { OnOk result (self.new.apps ≡ apps_then self.old.apps delta.now) }
         ensures rests { IsHonest (state_of S.Store self.new) → OnOk result ((state_of S.Store self.new).now ≡ (state_of S.Store self.new).committed) }
         ensures made { IsHonest (state_of S.Store self.new) → AreKept S.Store self.old
@@ -139,10 +139,10 @@ impl<S: Alter> Tables<S> {
         let apps = apps_with(&self.apps, delta)?;
         let put = rows.as_slice();
         if put_rows(self.alloc, &mut self.conn, put).is_err() {
-            self.remembered.forget_all();
+            self.cache.forget_all();
             return Err(Unavailable);
         }
-        self.remembered.note_put(self.alloc, put);
+        self.cache.note_put(self.alloc, put);
         keep_apps(&mut self.apps, apps);
         Ok(())
     }

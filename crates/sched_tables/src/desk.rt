@@ -29,14 +29,14 @@ impl<S: Alter> Units for Tables<S> {
     ghost reads = { AreReadOn S.Store };
 
     fn unit_by_name(&mut self, name: &str) -> Result<Option<u32>, Unavailable> {
-        match self.remembered.unit_named(self.alloc, name)? {
+        match self.cache.unit_named(self.alloc, name)? {
             Some(unit) => Ok(Some(unit)),
             None => self.read_unit_named(name),
         }
     }
 
     fn unit(&mut self, alloc: Global, unit: u32) -> Result<Option<Workunit>, Unavailable> {
-        match self.remembered.known_unit(unit)? {
+        match self.cache.known_unit(unit)? {
             Some(row) => Ok(Some(row)),
             None => self.read_unit(alloc, unit),
         }
@@ -55,14 +55,14 @@ impl<S: Alter> Units for Tables<S> {
         unit: u32,
         number: u32,
     ) -> Result<Option<Instance>, Unavailable> {
-        match self.remembered.instance(unit, number)? {
+        match self.cache.instance(unit, number)? {
             Some(found) => Ok(Some(found)),
             None => table_desk::instance_at(alloc, &mut self.conn, unit, number),
         }
     }
 
     fn instances_of(&mut self, alloc: Global, unit: u32) -> Result<Listed<Instance>, Unavailable> {
-        match self.remembered.instances(unit)? {
+        match self.cache.instances(unit)? {
             Some(rows) if rows.len() <= MOST_INSTANCES => Ok(rows),
             _ => self.read_instances(alloc, unit),
         }
@@ -103,7 +103,7 @@ impl<S: Alter> Desk for Tables<S> {
         alloc: Global,
         authenticator: &str,
     ) -> Result<Option<Placed<Account>>, Unavailable> {
-        match self.remembered.account(alloc, authenticator)? {
+        match self.cache.account(alloc, authenticator)? {
             Some(found) => Ok(Some(found)),
             None => self.read_account(alloc, authenticator),
         }
@@ -118,7 +118,7 @@ impl<S: Alter> Desk for Tables<S> {
     }
 
     fn host_by_key(&mut self, account: u32, cpid: &str) -> Result<Option<u32>, Unavailable> {
-        match self.remembered.host_key(self.alloc, account, cpid)? {
+        match self.cache.host_key(self.alloc, account, cpid)? {
             Some(host) => Ok(Some(host)),
             None => self.read_host_key(account, cpid),
         }
@@ -136,7 +136,7 @@ impl<S: Alter> Desk for Tables<S> {
     }
 
     fn held_by(&mut self, alloc: Global, host: u32) -> Result<Listed<Place>, Unavailable> {
-        match self.remembered.held(alloc, host)? {
+        match self.cache.held(alloc, host)? {
             Some(places) => Ok(places),
             None => self.read_held(alloc, host),
         }
@@ -151,7 +151,7 @@ impl<S: Alter> Desk for Tables<S> {
     }
 
     fn sent_on_day(&mut self, host: u32, day: u64) -> Result<u32, Unavailable> {
-        match self.remembered.sent(host, day) {
+        match self.cache.sent(host, day) {
             Some(count) => Ok(count),
             None => self.read_sent(host, day),
         }
@@ -169,7 +169,7 @@ impl<S: Alter> Desk for Tables<S> {
     }
 
     fn credit_of_user(&mut self, account: u32) -> Result<u64, Unavailable> {
-        match self.remembered.credit(account) {
+        match self.cache.credit(account) {
             Some(credit) => Ok(credit),
             None => self.read_credit(account),
         }
@@ -181,7 +181,7 @@ impl<S: Alter> Desk for Tables<S> {
         host: &HostRow,
         app: u32,
     ) -> Result<Option<Version>, Unavailable> {
-        match self.remembered.version(host.platforms.as_slice(), app)? {
+        match self.cache.version(host.platforms.as_slice(), app)? {
             Some(found) => Ok(Some(found)),
             None => self.read_version(alloc, host, app),
         }

@@ -4,16 +4,11 @@
 mod committing;
 mod desk;
 mod due;
-mod holding;
 mod keeping;
-mod keys;
 pub mod laws;
 mod offering;
 mod opening;
 mod reading;
-mod remembered;
-mod rows_read;
-mod skips;
 mod store;
 mod tables;
 mod upgrading;

@@ -7,11 +7,11 @@ ghost use Rattle.sched_book.specs.declared.world.World.{World};
 ghost use Rattle.sched_book.specs.Offers.{OrSkips};
 ghost use Rattle.sched_tables.specs.Held.{IsHonest};
 ghost use Rattle.sched_tables.specs.Offering.{IsCandidateOf, MaySkip};
-ghost use Rattle.sched_tables.specs.Remembering.{IsUnitOf};
+ghost use Rattle.table_cache.specs.Remembering.{IsUnitOf};
 ghost use Rattle.sched_book.specs.Skipping.{HadAllBefore};
 ghost use Rattle.sched_tables.specs.Views.{state_of, world_of, AreKept, AreReadOn};
 
-use crate::remembered::UnitRead;
+use table_cache::UnitRead;
 use crate::tables::Tables;
 use sched_book::{Candidate, Flow, Place, Taker, Unavailable, copy_of};
 use sqlite::Alter;
@@ -52,7 +52,7 @@ impl<'a, T: Taker> Taker for Noting<'a, T> {
     ghost use Rattle.std.specs.Prelude.{◌≡◌, All};
     ghost use Rattle.sched_book.specs.declared.world.World.{World};
     ghost use Rattle.sched_tables.specs.Offering.{IsCandidateOf};
-    ghost use Rattle.sched_tables.specs.Remembering.{IsUnitOf};
+    ghost use Rattle.table_cache.specs.Remembering.{IsUnitOf};
 
     ghost takes = { λ old c flow new. T.takes old.taker.now c flow new.taker.now
         × ((w : World) → IsCandidateOf w c → All (IsUnitOf w) old.noted.now.items → All (IsUnitOf w) new.noted.now.items)
@@ -84,19 +84,19 @@ impl<S: Alter> Tables<S> {
         ensures noted { IsHonest (state_of S.Store self.new) → AreKept S.Store self.old
             → All (IsUnitOf (world_of S.Store self.old)) noted.old.items → All (IsUnitOf (world_of S.Store self.old)) noted.new.items }
     {
-        let mut page = self.remembered.take_page();
+        let mut page = self.cache.take_page();
         let mut noting = Noting { taker, noted };
         let offered = table_desk::unsent_from(
             self.alloc,
             &mut self.conn,
             self.apps.as_slice(),
-            &self.remembered,
-            self.remembered.skip_of(account),
+            &self.cache,
+            self.cache.skip_of(account),
             &mut page,
             from,
             &mut noting,
         );
-        self.remembered.remember_page(page);
+        self.cache.remember_page(page);
         offered
     }
 
@@ -114,7 +114,7 @@ impl<S: Alter> Tables<S> {
     {
         let mut noted = Vec::new(self.alloc);
         let offered = self.offer_from(account, from, taker, &mut noted);
-        self.remembered.remember_units(noted.as_slice());
+        self.cache.remember_units(noted.as_slice());
         offered
     }
 
@@ -124,6 +124,6 @@ impl<S: Alter> Tables<S> {
         ensures reads { (begun : Tables S) → AreReadOn S.Store begun self.old
             → (IsHonest (state_of S.Store self.new) → AreKept S.Store begun → HadAllBefore (world_of S.Store begun) account skip) → AreReadOn S.Store begun self.new }
     {
-        self.remembered.remember_had(self.alloc, account, skip);
+        self.cache.remember_had(self.alloc, account, skip);
     }
 }

@@ -16,7 +16,7 @@ ghost use Rattle.sched_tables.specs.Reopening.{Reopens};
 ghost use Rattle.sched_tables.specs.Stops.{MayBeFound};
 ghost use Rattle.sched_tables.specs.Views.{state_of, world_of, held_of, AreKept};
 
-use crate::remembered::Remembered;
+use table_cache::Cache;
 use crate::tables::Tables;
 use sched_book::{Settings, copy_of};
 use sqlite::{Alter, Connection, MemStore};
@@ -51,7 +51,7 @@ impl<S: Alter + Drop> Tables<S> {
             conn,
             settings: kept,
             apps: Listed::new(alloc),
-            remembered: Remembered::new(alloc),
+            cache: Cache::new(alloc),
             due_from: 0,
             asked: 0,
         })
@@ -86,7 +86,7 @@ impl<S: Alter + Drop> Tables<S> {
                 conn,
                 settings: kept.settings,
                 apps: kept.apps,
-                remembered: Remembered::new(alloc),
+                cache: Cache::new(alloc),
                 due_from: kept.due_from,
                 asked: 0,
             }),

@@ -46,7 +46,7 @@ impl<S: Alter> Tables<S> {
         ensures answer { IsHonest (state_of S.Store self.new) → AreKept S.Store self.old → IfOk result (λ r. r ≡ workunit_at (world_of S.Store self.old) unit) }
     {
         let found = table_desk::unit_at(alloc, &mut self.conn, self.apps.as_slice(), unit)?;
-        self.remembered.remember_unit(unit, &found);
+        self.cache.remember_unit(unit, &found);
         Ok(found)
     }
 
@@ -61,7 +61,7 @@ impl<S: Alter> Tables<S> {
         ensures answer { IsHonest (state_of S.Store self.new) → AreKept S.Store self.old → IfOk result (λ r. r ≡ instances_at (world_of S.Store self.old) unit) }
     {
         let found = table_desk::instances_at(alloc, &mut self.conn, unit)?;
-        self.remembered.remember_instances(unit, &found);
+        self.cache.remember_instances(unit, &found);
         Ok(found)
     }
 
@@ -71,7 +71,7 @@ impl<S: Alter> Tables<S> {
         ensures answer { IsHonest (state_of S.Store self.new) → AreKept S.Store self.old → IfOk result (λ r. r ≡ counted_host_at (world_of S.Store self.old) host) }
     {
         let found = table_desk::counted_host(alloc, &mut self.conn, host)?;
-        self.remembered.remember_host(host, &found);
+        self.cache.remember_host(host, &found);
         Ok(found)
     }
 
@@ -84,7 +84,7 @@ impl<S: Alter> Tables<S> {
         ensures reads { AreReadOn S.Store self.old self.new }
         ensures answer { IsHonest (state_of S.Store self.new) → AreKept S.Store self.old → IfOk result (λ r. r ≡ counted_host_at (world_of S.Store self.old) host) }
     {
-        match self.remembered.host(host)? {
+        match self.cache.host(host)? {
             Some(found) => Ok(Some(found)),
             None => self.read_host(alloc, host),
         }
@@ -112,7 +112,7 @@ impl<S: Alter> Tables<S> {
     {
         let count = self.count_held(host)?;
         let found = places_held(alloc, &mut self.conn, host, count)?;
-        self.remembered.remember_held(alloc, host, &found);
+        self.cache.remember_held(alloc, host, &found);
         Ok(found)
     }
 
@@ -122,7 +122,7 @@ impl<S: Alter> Tables<S> {
         ensures answer { IsHonest (state_of S.Store self.new) → AreKept S.Store self.old → IfOk result (λ r. r ≡ user_credit (world_of S.Store self.old) account) }
     {
         let credit = table_desk::credit_of_user(self.alloc, &mut self.conn, account)?;
-        self.remembered.remember_credit(account, credit);
+        self.cache.remember_credit(account, credit);
         Ok(credit)
     }
 
@@ -132,7 +132,7 @@ impl<S: Alter> Tables<S> {
         ensures answer { IsHonest (state_of S.Store self.new) → AreKept S.Store self.old → IfOk result (λ r. r ≡ sent_on_day (world_of S.Store self.old) host day) }
     {
         let count = table_desk::sent_on_day(self.alloc, &mut self.conn, host, day)?;
-        self.remembered.remember_sent(host, day, count);
+        self.cache.remember_sent(host, day, count);
         Ok(count)
     }
 
@@ -146,7 +146,7 @@ impl<S: Alter> Tables<S> {
         ensures answer { IsHonest (state_of S.Store self.new) → AreKept S.Store self.old → IfOk result (λ r. r ≡ account_by_key (world_of S.Store self.old) authenticator.now) }
     {
         let found = table_desk::account_by_key(alloc, &mut self.conn, authenticator)?;
-        self.remembered
+        self.cache
             .remember_account(alloc, authenticator, &found);
         Ok(found)
     }
@@ -161,7 +161,7 @@ impl<S: Alter> Tables<S> {
         ensures answer { IsHonest (state_of S.Store self.new) → AreKept S.Store self.old → IfOk result (λ r. r ≡ known_host (world_of S.Store self.old) account cpid.now) }
     {
         let found = table_desk::host_by_key(self.alloc, &mut self.conn, account, cpid)?;
-        self.remembered
+        self.cache
             .remember_host_key(self.alloc, account, cpid, found);
         Ok(found)
     }
@@ -172,7 +172,7 @@ impl<S: Alter> Tables<S> {
         ensures answer { IsHonest (state_of S.Store self.new) → AreKept S.Store self.old → IfOk result (λ r. r ≡ unit_named (world_of S.Store self.old) name.now) }
     {
         let found = table_desk::unit_by_name(self.alloc, &mut self.conn, name)?;
-        self.remembered.remember_unit_name(self.alloc, name, found);
+        self.cache.remember_unit_name(self.alloc, name, found);
         Ok(found)
     }
 
@@ -188,7 +188,7 @@ impl<S: Alter> Tables<S> {
     {
         let apps = self.apps.as_slice();
         let found = table_desk::version_for(alloc, &mut self.conn, apps, host, app)?;
-        self.remembered
+        self.cache
             .remember_version(alloc, host.platforms.as_slice(), app, &found);
         Ok(found)
     }

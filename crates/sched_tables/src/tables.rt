@@ -8,7 +8,7 @@ ghost use Rattle.sched_tables.specs.Held.{IsHonest};
 ghost use Rattle.sched_tables.specs.Reopening.{Reopens};
 ghost use Rattle.sched_tables.specs.Views.{state_of};
 
-use crate::remembered::Remembered;
+use table_cache::Cache;
 use sched_book::{App, Settings};
 use sqlite::{Alter, Connection};
 use std::alloc::Global;
@@ -22,7 +22,7 @@ pub struct Tables<S: Alter> {
     pub(crate) conn: Connection<S>,
     pub(crate) settings: Settings,
     pub(crate) apps: Listed<App>,
-    pub(crate) remembered: Remembered,
+    pub(crate) cache: Cache,
     /// No held instance has its deadline before this moment, in seconds since 1970-01-01T00:00:00Z.
     pub(crate) due_from: u64,
     /// The moment for which what is due was last looked up, in seconds since 1970-01-01T00:00:00Z.
@@ -44,7 +44,7 @@ impl<S: Alter> Tables<S> {
             conn,
             settings: _settings,
             apps: _apps,
-            remembered: _remembered,
+            cache: _cache,
             due_from: _,
             asked: _,
         } = self;
@@ -60,7 +60,7 @@ impl<S: Alter + Drop> Drop for Tables<S> {
             conn: _conn,
             settings: _settings,
             apps: _apps,
-            remembered: _remembered,
+            cache: _cache,
             due_from: _,
             asked: _,
         } = self;

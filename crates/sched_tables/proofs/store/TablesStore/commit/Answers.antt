@@ -5,7 +5,7 @@ use Rattle.sched_tables.specs.Commits.{apps_with}
 use Rattle.sched_tables.specs.Entries.{MakesWith, calls_of, batches_of}
 use Rattle.table_meaning.specs.Kept.{calls_in}
 use Rattle.table_worlds.specs.StoredWorld.{world_in}
-use Rattle.sched_tables.specs.Remembering.{AreRemembered}
+use Rattle.table_cache.specs.Remembering.{IsCacheOf}
 use Rattle.sched_tables.specs.DueFrom.{NothingIsDueBefore}
 use Rattle.sched_tables.specs.ReadLaws.{left_world, left_kept, left_in_memory, never_shut}
 use Rattle.sched_tables.specs.Views.{state_of, world_of, AreKept}
@@ -40,14 +40,14 @@ returns-clause-acts g c =
             c.commit.ensures.apps (c.commit.ensures.rests honest) (c.commit.ensures.made honest kept)
             (λ apps rests made. (
               kept_then old new w cs c.args.entry.now kept.0 made rests idle,
-              beside_then old new w cs c.args.entry.now kept.0 made _ after.settings before.apps after.apps before.remembered after.remembered before.due_from after.due_from
+              beside_then old new w cs c.args.entry.now kept.0 made _ after.settings before.apps after.apps before.cache after.cache before.due_from after.due_from
                   (record { settings_are = c.commit.ensures.settings ∙ kept.1.settings_are; apps_are = kept.1.apps_are; rows_are = kept.1.rows_are; due_from_is = kept.1.due_from_is }) apps (c.commit.ensures.remembers honest kept) (c.commit.ensures.due_from honest kept),
             )))
             (c.commit.ensures.left honest kept)
             (λ all. all)
             (λ left. (
               left_kept old new left.0 left.1 kept.0 idle,
-              left_in_memory old new left.0 left.1 kept.0 before.settings after.settings before.apps after.apps before.remembered after.remembered before.due_from after.due_from c.commit.ensures.settings left.2 (subst (λ (db : Database). AreRemembered (world_in db.trees) (calls_in db.trees) after.remembered) left.0 (c.commit.ensures.remembers honest kept))
+              left_in_memory old new left.0 left.1 kept.0 before.settings after.settings before.apps after.apps before.cache after.cache before.due_from after.due_from c.commit.ensures.settings left.2 (subst (λ (db : Database). IsCacheOf (world_in db.trees) (calls_in db.trees) after.cache) left.0 (c.commit.ensures.remembers honest kept))
                   (subst (λ (db : Database). NothingIsDueBefore (world_in db.trees) after.due_from) left.0 (c.commit.ensures.due_from honest kept)) kept.1,
             ));
         left = λ h found.

@@ -14,16 +14,9 @@ use Rattle.table_rows.specs.Utf8.{HaveUtf8}
 use Rattle.table_worlds.specs.StoredWorld.{world_in}
 use Rattle.sched_tables.specs.DueFrom.{NothingIsDueBefore, lowered}
 use Rattle.sched_tables.proofs.DueFromStays.{lowered_before, lowered_then}
-use Rattle.sched_tables.specs.Carrying.{IsPut, IsUnput}
-use Rattle.sched_tables.specs.Remembering.{AreRemembered}
+use Rattle.table_cache.specs.Remembering.{IsCacheOf}
 use Rattle.sched_tables.proofs.EntriesKept.{world_then}
-use Rattle.table_desk.specs.Columns.{counted_host_at}
-use Rattle.sched_tables.specs.Carrying.{with_hosts, with_jobs}
-use Rattle.sched_tables.specs.Covering.{jobs_of, with_waits}
-use Rattle.table_desk.specs.WaitingPage.{waiting_of}
-use Rattle.sched_tables.specs.Keys.{title_at, with_titles}
-use Rattle.sched_tables.proofs.Carried.{row_stays, row_put, host_known, known_of_world, keys_of_world, job_known, jobs_of_world, wait_known, title_known, names_of_world, remembered_then}
-use Rattle.sched_tables.proofs.HeldMoves.{held_of_world}
+use Rattle.sched_tables.proofs.RowsLead.{rows_lead}
 use Rattle.sched_tables.proofs.Leads.{puts_all, leaves_made, was_ok, was_err}
 use Rattle.sched_tables.specs.ReopenLaws.{reads_reopen}
 use Rattle.sched_tables.proofs.Reopened.{commit_reopens}
@@ -91,21 +84,8 @@ returns-clause-remembers g c = λ honest kept.
     let clean : HasCleanDisk mid = omega (arith, c.put_rows.ensures.crash.clean, honest.0) in
     let early : IsHonest mid = (clean, c.put_rows.ensures.was_open honest.0 honest.1) in
     let put : ArePutWith w cs (calls_in old.now.trees) e rows = subst (ArePutWith w cs (calls_in old.now.trees) e) (sym c.as_slice-put.ensures) (c.in_ok-rows.ensures.rows early kept) in
-    let known = c.rows_with-rows.ensures.reads.3 early kept in
-    let hosts = known_of_world w (calls_in old.now.trees) c.rows_with-rows.new.self.remembered known in
-    let jobs = jobs_of_world w (calls_in old.now.trees) c.rows_with-rows.new.self.remembered known in
-    let of_keys = c.note_put.ensures.keys (counted_host_at w) hosts (keys_of_world w (calls_in old.now.trees) c.rows_with-rows.new.self.remembered known) in
-    let of_names = c.note_put.ensures.names (title_at w) (names_of_world w (calls_in old.now.trees) c.rows_with-rows.new.self.remembered known) in
-    let of_skips = c.note_put.ensures.skips (waiting_of w) (jobs_of w) (counted_host_at w) hosts jobs known.skips in
-    let of_held = c.note_put.ensures.held (jobs_of w) jobs (held_of_world w c.rows_with-rows.new.self.remembered.held known.held) in
-    subst (λ u. AreRemembered u (calls_in new.now.trees) c.note_put.new.self) (sym (world_then old new w cs e kept.0 (returns-clause-made g c honest kept)))
-    (remembered_then w (applied w cs) kept.0.readable put.2.readable (IsUnput rows) (row_stays w cs put.0 rows put.2) (IsPut rows) (row_put w cs (calls_in old.now.trees) e rows put)
-    (with_hosts (counted_host_at w) rows) (host_known rows (counted_host_at w))
-    (with_jobs (jobs_of w) rows) (job_known rows (jobs_of w))
-    (with_waits (waiting_of w) rows) (wait_known rows (waiting_of w))
-    (with_titles (title_at w) rows) (title_known rows (title_at w))
-    (calls_in old.now.trees) (calls_in new.now.trees) c.rows_with-rows.new.self.remembered c.note_put.new.self
-    (c.note_put.ensures.hosts (counted_host_at w) hosts) (c.note_put.ensures.jobs (jobs_of w) jobs) of_skips (c.note_put.ensures.page (waiting_of w) known.page) of_held of_keys of_names c.note_put.ensures.carried c.note_put.ensures.slot known)
+    subst (λ u. IsCacheOf u (calls_in new.now.trees) c.note_put.new.self) (sym (world_then old new w cs e kept.0 (returns-clause-made g c honest kept)))
+    (c.note_put.ensures w (applied w cs) (calls_in old.now.trees) (calls_in new.now.trees) (rows_lead w cs (calls_in old.now.trees) e rows kept.0.readable put) (c.rows_with-rows.ensures.reads.3 early kept))
 
 pub returns-then-is_err-clause-remembers : goal.returns-then-is_err-clause-remembers
 returns-then-is_err-clause-remembers g c = λ honest kept. c.forget_all.ensures _ _

@@ -1,9 +1,9 @@
 use Rattle.std.proofs.Common.{◌≡◌, List, [], sym, subst, rules}
 use Rattle.std.specs.Prelude.{All}
 use Rattle.std.proofs.lemmas.List.Elements.{All-nil}
-use Rattle.sched_tables.specs.Remembering.{IsUnitOf}
+use Rattle.table_cache.specs.Remembering.{IsUnitOf}
 use Rattle.sched_tables.specs.Views.{world_of}
-use Rattle.sched_tables.specs.declared.remembered.UnitRead.{UnitRead}
+use Rattle.table_cache.specs.declared.cache.UnitRead.{UnitRead}
 use Rattle.sched_tables.proofs.tables.Tables.offer_and_note.Goals as goal
 
 pub returns-clause-reads : goal.returns-clause-reads

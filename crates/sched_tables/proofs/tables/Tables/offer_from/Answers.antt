@@ -3,9 +3,9 @@ use Rattle.std.specs.Prelude.{All}
 use Rattle.sched_book.specs.Offers.{OffersAll, OffersSome, unsent}
 use Rattle.sched_book.specs.Offers.{OrSkips}
 use Rattle.sched_tables.specs.Offering.{MaySkip}
-use Rattle.sched_tables.specs.Remembering.{IsUnitOf}
+use Rattle.table_cache.specs.Remembering.{IsUnitOf}
 use Rattle.sched_tables.specs.Views.{world_of}
-use Rattle.sched_tables.specs.declared.remembered.UnitRead.{UnitRead}
+use Rattle.table_cache.specs.declared.cache.UnitRead.{UnitRead}
 use Rattle.sched_tables.proofs.Leads.{each_ok, all_err, either_way}
 use Rattle.sched_tables.proofs.Offered.{passed_on_all, passed_on_some}
 use Rattle.sched_tables.proofs.Told.{told}

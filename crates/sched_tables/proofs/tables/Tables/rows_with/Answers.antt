@@ -16,7 +16,7 @@ returns-clause-rows g c = λ honest kept.
     let on = c.rows_of_changes.ensures.reads in
     let was = was_honest mid end c.row_of.ensures.reads.0 honest in
     let same = on.0.same was.0 was.1 kept.0.rests in
-    let then = stays_both old mid on.0 was first.settings later.settings first.apps later.apps first.remembered later.remembered first.due_from later.due_from on.1 on.2 (on.3 was kept) (on.4 was kept) kept in
+    let then = stays_both old mid on.0 was first.settings later.settings first.apps later.apps first.cache later.cache first.due_from later.due_from on.1 on.2 (on.3 was kept) (on.4 was kept) kept in
     let row = c.in_ok-row_of.ensures.row honest then in (
       c.in_ok-row_of.field-0,
       subst (λ (db : Database). IsRowOf (calls_in db.trees) c.args.entry.now c.in_ok-row_of.field-0) same.0 row,

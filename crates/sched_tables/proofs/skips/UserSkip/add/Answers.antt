@@ -1,5 +1,0 @@
-use Rattle.sched_tables.proofs.SkipMoves.{skip_came}
-use Rattle.sched_tables.proofs.skips.UserSkip.add.Goals as goal
-
-pub returns : goal.returns
-returns c = λ waiting jobs hosts is. skip_came jobs hosts waiting c.args.self.now.account c.args.place c.args.self.now.skip is c.add.new.self c.add.ensures

@@ -1,0 +1,11 @@
+pub mod Carried
+pub mod CreditMoves
+pub mod HadBy
+pub mod HeldMoves
+pub mod InstanceListed
+pub mod KeyMoves
+pub mod NoneRemembered
+pub mod RowsKept
+pub mod SentMoves
+pub mod SkipMoves
+pub mod ToldByRows

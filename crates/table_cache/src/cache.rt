@@ -1,0 +1,191 @@
+//! What look-ups found, and is as it was found or as it was put since. So no row is asked for twice.
+
+ghost use Rattle.std.specs.Prelude.{◌≡◌, All, IfSome};
+ghost use Rattle.sched_book.specs.Desk.{workunit_at};
+ghost use Rattle.sched_book.specs.declared.world.World.{World};
+ghost use Rattle.table_desk.specs.Columns.{counted_host_at};
+ghost use Rattle.table_meaning.specs.Worlds.{SlotCalls};
+ghost use Rattle.table_cache.specs.Covering.{jobs_of, IsSkipFor};
+ghost use Rattle.table_desk.specs.WaitingPage.{waiting_of, IsPageOf};
+ghost use Rattle.table_cache.specs.Remembering.{IsCacheOf, IsUnitOf};
+ghost use Rattle.table_cache.specs.NextSlot.{IsSlotFor};
+ghost use Rattle.sched_book.specs.Skipping.{HadAllBefore};
+
+use crate::keys::{AccountRead, HostKeyRead};
+use crate::rows_read::RowsRead;
+use crate::sent::SentRead;
+use crate::skips::Skips;
+use crate::versions::VersionRead;
+use sched_book::{Instance, Place, Workunit};
+use std::alloc::Global;
+use table_desk::{CountedHost, KnownUnits, PageRead, Skip};
+use texts::{Listed, Memory, Text};
+
+/// A workunit that was read, with its place.
+#[derive(Drop)]
+pub struct UnitRead {
+    pub place: u32,
+    pub row: Workunit,
+}
+
+/// The slot for the next call of a host.
+#[derive(Clone, Copy, Drop)]
+pub(crate) struct SlotRead {
+    host: u32,
+    slot: u32,
+}
+
+/// What was read, and is as it was read or as it was put since: rows by their keys, credits by accounts, how many jobs hosts
+/// were sent on a day, the places that hosts hold, hosts by their keys, workunits by their names, versions, the slot for the next
+/// call of the host whose calls were read last, the page of what waits that was read last, and the skips of users.
+pub struct Cache {
+    pub(crate) units: RowsRead<u32, Workunit>,
+    pub(crate) instances: RowsRead<u32, Listed<Instance>>,
+    pub(crate) hosts: RowsRead<u32, CountedHost>,
+    pub(crate) credits: RowsRead<u32, u64>,
+    pub(crate) sent: RowsRead<u32, SentRead>,
+    pub(crate) held: RowsRead<u32, Listed<Place>>,
+    pub(crate) accounts: RowsRead<Text, AccountRead>,
+    pub(crate) keys: RowsRead<Text, HostKeyRead>,
+    pub(crate) names: RowsRead<Text, u32>,
+    pub(crate) versions: Vec<VersionRead>,
+    pub(crate) slot: Option<SlotRead>,
+    pub(crate) page: Option<PageRead>,
+    pub(crate) skips: Skips,
+}
+
+// It is written out, so that a caller does not prove again how each part is dropped.
+impl Drop for Cache {
+    fn drop(self) {
+        let Cache {
+            units: _units,
+            instances: _instances,
+            hosts: _hosts,
+            credits: _credits,
+            sent: _sent,
+            held: _held,
+            accounts: _accounts,
+            keys: _keys,
+            names: _names,
+            versions: _versions,
+            slot: _slot,
+            page: _page,
+            skips: _skips,
+        } = self;
+    }
+}
+
+impl Cache {
+    /// Nothing.
+    pub fn new(alloc: Global) -> Cache
+        ensures { (w : World) (calls : SlotCalls) → IsCacheOf w calls result }
+    {
+        Cache {
+            units: RowsRead::new(alloc),
+            instances: RowsRead::new(alloc),
+            hosts: RowsRead::new(alloc),
+            credits: RowsRead::new(alloc),
+            sent: RowsRead::new(alloc),
+            held: RowsRead::new(alloc),
+            accounts: RowsRead::new(alloc),
+            keys: RowsRead::new(alloc),
+            names: RowsRead::new(alloc),
+            versions: Vec::new(alloc),
+            slot: None,
+            page: None,
+            skips: Skips::new(alloc),
+        }
+    }
+
+    /// Remembers the workunit at a place, if there is one.
+    pub fn remember_unit(&mut self, unit: u32, found: &Option<Workunit>)
+        ensures { (w : World) (calls : SlotCalls) → IsCacheOf w calls self.old → found.now ≡ workunit_at w unit → IsCacheOf w calls self.new }
+    {
+        if let Some(row) = found {
+            self.units.remember(unit, row);
+        }
+    }
+
+    /// Remembers workunits that were read.
+    pub fn remember_units(&mut self, read: &[UnitRead])
+        ensures { (w : World) (calls : SlotCalls) → IsCacheOf w calls self.old → All (IsUnitOf w) read.now → IsCacheOf w calls self.new }
+    {
+        for unit in read {
+            self.units.remember(unit.place, &unit.row);
+        }
+    }
+
+    /// The slot for the next call of this host, if its calls were the last ones that were read.
+    pub fn slot(&self, host: u32) -> Option<u32>
+        ensures { (w : World) (calls : SlotCalls) → IsCacheOf w calls self.now → IfSome result (IsSlotFor (calls host)) }
+    {
+        match self.slot {
+            Some(read) if read.host == host => Some(read.slot),
+            _ => None,
+        }
+    }
+
+    /// Remembers the slot for the next call of a host.
+    pub fn remember_slot(&mut self, host: u32, slot: u32)
+        ensures { (w : World) (calls : SlotCalls) → IsCacheOf w calls self.old → IsSlotFor (calls host) slot → IsCacheOf w calls self.new }
+    {
+        self.slot = Some(SlotRead { host, slot });
+    }
+
+    /// Takes away the page of what waits that was read last.
+    pub fn take_page(&mut self) -> Option<PageRead>
+        ensures { (w : World) (calls : SlotCalls) → IsCacheOf w calls self.old → IsCacheOf w calls self.new × IfSome result (IsPageOf w) }
+    {
+        self.page.take()
+    }
+
+    /// Remembers a page of what waits, if one was read.
+    pub fn remember_page(&mut self, page: Option<PageRead>)
+        ensures { (w : World) (calls : SlotCalls) → IsCacheOf w calls self.old → IfSome page (IsPageOf w) → IsCacheOf w calls self.new }
+    {
+        self.page = page;
+    }
+
+    /// The skip of the user of this account. It covers nothing if none is known, or no account is named.
+    pub fn skip_of(&self, account: Option<u32>) -> &Skip
+        ensures { (w : World) (calls : SlotCalls) → IsCacheOf w calls self.now → IsSkipFor (waiting_of w) (jobs_of w) (counted_host_at w) account result.now }
+    {
+        self.skips.of(account)
+    }
+
+    /// Remembers the skip of the user of this account.
+    pub fn remember_had(&mut self, alloc: Global, account: u32, place: Place)
+        ensures { (w : World) (calls : SlotCalls) → IsCacheOf w calls self.old → HadAllBefore w account place → IsCacheOf w calls self.new }
+    {
+        self.skips.raise(alloc, account, place);
+    }
+
+    /// Forgets it all.
+    pub fn forget_all(&mut self)
+        ensures { (w : World) (calls : SlotCalls) → IsCacheOf w calls self.new }
+    {
+        self.units.forget_all();
+        self.instances.forget_all();
+        self.hosts.forget_all();
+        self.credits.forget_all();
+        self.sent.forget_all();
+        self.held.forget_all();
+        self.accounts.forget_all();
+        self.keys.forget_all();
+        self.names.forget_all();
+        self.versions.clear();
+        self.slot = None;
+        self.page = None;
+        self.skips.forget_all();
+    }
+}
+
+impl KnownUnits for Cache {
+    ghost use Rattle.table_cache.specs.Remembering.{AreUnitsOf};
+
+    ghost are_of = { λ w r. AreUnitsOf w r.units };
+
+    fn known_unit(&self, unit: u32) -> Result<Option<Workunit>, Memory> {
+        self.units.row(&unit)
+    }
+}

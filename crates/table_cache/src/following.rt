@@ -1,0 +1,115 @@
+//! How the cache follows rows that are put.
+
+ghost use Rattle.std.specs.Prelude.{◌≡◌, ℕ, Bool, List, None, Option, IfSome};
+ghost use Rattle.sched_book.specs.declared.instance.Instance.{Instance as Job};
+ghost use Rattle.sched_book.specs.declared.world.World.{World};
+ghost use Rattle.table_desk.specs.declared.hosts.CountedHost.{CountedHost as Counted};
+ghost use Rattle.table_meaning.specs.Worlds.{SlotCalls};
+ghost use Rattle.table_meaning.specs.declared.rows.StoredRow.TheVariants as stored;
+ghost use Rattle.table_cache.specs.Carrying.{with_host, with_hosts, with_job, with_jobs, AreCarried, AreOfHosts, AreOfJobs};
+ghost use Rattle.table_cache.specs.Covering.{with_wait, with_waits, AreSkipsFor};
+ghost use Rattle.table_desk.specs.WaitingPage.{IsPageFor};
+ghost use Rattle.table_cache.specs.Holding.{holders_of, AreHeldOf};
+ghost use Rattle.table_cache.specs.Keys.{with_title, with_titles, AreKeysOf, AreNamesOf};
+ghost use Rattle.table_cache.specs.Remembering.{IsCacheOf};
+ghost use Rattle.table_cache.specs.Leading.{IsOtherKey, IsUnput, Lead};
+
+use crate::cache::Cache;
+use crate::credits::renew_host;
+use crate::holding::follow_held;
+use crate::keys::{follow_host_key, follow_unit_name};
+use crate::sent::renew_instance;
+use sched_book::Place;
+use std::alloc::Global;
+use table_desk::PageRead;
+use table_meaning::rows::{RowChange, StoredInstance, StoredRow};
+
+/// Lets a page of what waits follow the row of an instance that was put. If it is not worth keeping then, it is forgotten.
+fn follow_page(alloc: Global, page: &mut Option<PageRead>, row: &StoredInstance)
+    ensures { (waiting : ℕ → ℕ → Option Bool) → IfSome page.old (IsPageFor waiting) → IfSome page.new (IsPageFor (with_wait waiting (stored.Instance row.now))) }
+{
+    let Some(mut read) = page.take() else {
+        return;
+    };
+    let place = Place {
+        unit: row.unit_id,
+        number: row.num,
+    };
+    if read.follow(alloc, place, row.queued) {
+        *page = Some(read);
+    }
+}
+
+impl Cache {
+    /// Takes note of a row that was put.
+    fn note_row(&mut self, alloc: Global, row: &StoredRow)
+        ensures carried { AreCarried (IsOtherKey row.now) self.old self.new }
+        ensures hosts { (f : ℕ → Option Counted) → AreOfHosts f self.old.hosts self.old.credits → AreOfHosts (with_host f row.now) self.new.hosts self.new.credits }
+        ensures jobs { (f : ℕ → ℕ → Option Job) → AreOfJobs f self.old.instances self.old.sent → AreOfJobs (with_job f row.now) self.new.instances self.new.sent }
+        ensures skips { (waiting : ℕ → ℕ → Option Bool) (jobs : ℕ → ℕ → Option Job) (hosts : ℕ → Option Counted)
+            → AreOfHosts hosts self.old.hosts self.old.credits → AreOfJobs jobs self.old.instances self.old.sent → AreSkipsFor waiting jobs hosts self.old.skips
+            → AreSkipsFor (with_wait waiting row.now) (with_job jobs row.now) (with_host hosts row.now) self.new.skips }
+        ensures page { (waiting : ℕ → ℕ → Option Bool) → IfSome self.old.page (IsPageFor waiting) → IfSome self.new.page (IsPageFor (with_wait waiting row.now)) }
+        ensures held { (jobs : ℕ → ℕ → Option Job) → AreOfJobs jobs self.old.instances self.old.sent
+            → AreHeldOf (holders_of jobs) self.old.held → AreHeldOf (holders_of (with_job jobs row.now)) self.new.held }
+        ensures keys { (hosts : ℕ → Option Counted) → AreOfHosts hosts self.old.hosts self.old.credits → AreKeysOf hosts self.old.keys → AreKeysOf (with_host hosts row.now) self.new.keys }
+        ensures names { (titles : ℕ → Option (List ℕ)) → AreNamesOf titles self.old.units self.old.names → AreNamesOf (with_title titles row.now) self.new.units self.new.names }
+    {
+        match row {
+            StoredRow::Unit(row) => {
+                follow_unit_name(&mut self.names, &self.units, row);
+                self.units.forget(&row.id);
+            }
+            StoredRow::UnitMark(row) => self.units.forget(&row.unit_id),
+            StoredRow::Instance(row) => {
+                follow_page(alloc, &mut self.page, row);
+                self.skips.follow_instance(&self.instances, row);
+                follow_held(alloc, &mut self.held, &self.instances, row);
+                renew_instance(&mut self.instances, &mut self.sent, row);
+            }
+            StoredRow::Host(row) => {
+                self.skips.follow_host(&self.hosts, row);
+                follow_host_key(&mut self.keys, &self.hosts, row);
+                renew_host(alloc, &mut self.hosts, &mut self.credits, row);
+            }
+            StoredRow::Account(_) => self.accounts.forget_all(),
+            StoredRow::Version(_) | StoredRow::VersionClass(_) => self.versions.clear(),
+            StoredRow::App(_) => {
+                self.units.forget_all();
+                self.versions.clear();
+            }
+            StoredRow::Setting(_) | StoredRow::Kept(_) | StoredRow::Batch(_) => {}
+        }
+    }
+
+    /// Takes note of rows that were put. What they say of hosts, of the credit of their users, of instances, and of how many
+    /// jobs hosts were sent is renewed. The skips of users, the places that hosts hold, the keys of hosts, the names of workunits
+    /// and the page of what waits follow it. Everything else that was read of them is forgotten, with the slot for a call.
+    fn follow(&mut self, alloc: Global, changes: &[RowChange])
+        ensures carried { AreCarried (IsUnput changes.now) self.old self.new }
+        ensures hosts { (f : ℕ → Option Counted) → AreOfHosts f self.old.hosts self.old.credits → AreOfHosts (with_hosts f changes.now) self.new.hosts self.new.credits }
+        ensures jobs { (f : ℕ → ℕ → Option Job) → AreOfJobs f self.old.instances self.old.sent → AreOfJobs (with_jobs f changes.now) self.new.instances self.new.sent }
+        ensures skips { (waiting : ℕ → ℕ → Option Bool) (jobs : ℕ → ℕ → Option Job) (hosts : ℕ → Option Counted)
+            → AreOfHosts hosts self.old.hosts self.old.credits → AreOfJobs jobs self.old.instances self.old.sent → AreSkipsFor waiting jobs hosts self.old.skips
+            → AreSkipsFor (with_waits waiting changes.now) (with_jobs jobs changes.now) (with_hosts hosts changes.now) self.new.skips }
+        ensures held { (jobs : ℕ → ℕ → Option Job) → AreOfJobs jobs self.old.instances self.old.sent
+            → AreHeldOf (holders_of jobs) self.old.held → AreHeldOf (holders_of (with_jobs jobs changes.now)) self.new.held }
+        ensures keys { (hosts : ℕ → Option Counted) → AreOfHosts hosts self.old.hosts self.old.credits → AreKeysOf hosts self.old.keys → AreKeysOf (with_hosts hosts changes.now) self.new.keys }
+        ensures names { (titles : ℕ → Option (List ℕ)) → AreNamesOf titles self.old.units self.old.names → AreNamesOf (with_titles titles changes.now) self.new.units self.new.names }
+        ensures slot { self.new.slot ≡ None }
+        ensures page { (waiting : ℕ → ℕ → Option Bool) → IfSome self.old.page (IsPageFor waiting) → IfSome self.new.page (IsPageFor (with_waits waiting changes.now)) }
+    {
+        for change in changes {
+            self.note_row(alloc, change.row());
+        }
+        self.slot = None;
+    }
+
+    /// Takes note of rows that were put and lead from one world to another. If the cache agrees with the first world, it
+    /// agrees with the second one afterwards.
+    pub fn note_put(&mut self, alloc: Global, changes: &[RowChange])
+        ensures { (before after : World) (calls calls_after : SlotCalls) → Lead changes.now before after → IsCacheOf before calls self.old → IsCacheOf after calls_after self.new }
+    {
+        self.follow(alloc, changes);
+    }
+}
