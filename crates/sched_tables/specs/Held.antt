@@ -26,10 +26,10 @@ pub record AreWellKept (s : State) (w : World) : Type 0 where
 
 -- What is in memory agrees with the tables. The settings and the applications are the world's, what is remembered is what the tables
 -- hold, and nothing is due in the world before `due_from`.
-pub record AreInMemory (w : World) (calls : SlotCalls) (settings : Settings) (apps : List App) (read : Cache) (due_from : ℕ) : Type 0 where
+pub record AreInMemory (w : World) (calls : SlotCalls) (settings : Settings) (apps : List App) (cache : Cache) (due_from : ℕ) : Type 0 where
   pub settings_are : settings ≡ w.settings
   pub apps_are : apps ≡ w.apps
-  pub rows_are : IsCacheOf w calls read
+  pub rows_are : IsCacheOf w calls cache
   pub due_from_is : NothingIsDueBefore w due_from
 
 -- The store under the tables never fails: it counts no fault, and it is clean.

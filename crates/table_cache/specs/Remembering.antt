@@ -52,17 +52,17 @@ IsSlotOf calls s = IsSlotFor (calls s.host) s.slot
 
 -- What is remembered is what the world has, of what waits a page of its places, and of the calls in the slots of a host which slot is for the
 -- next.
-pub record IsCacheOf (w : World) (calls : SlotCalls) (r : Cache) : Type 0 where
-  pub units : AreUnitsOf w r.units
-  pub instances : HoldOfEach nat_cmp (λ n xs. xs ≡ instances_at w n) r.instances
-  pub hosts : HoldOfEach nat_cmp (λ n h. counted_host_at w n ≡ Some h) r.hosts
-  pub credits : HoldOfEach nat_cmp (λ account credit. credit ≡ user_credit w account) r.credits
-  pub sent : HoldOfEach nat_cmp (λ host s. s.count ≡ sent_on_day w host s.day) r.sent
-  pub held : HoldOfEach nat_cmp (λ host places. places ≡ held_by w host) r.held
-  pub accounts : HoldOfEach (slice_cmp nat_cmp) (IsAccountOf w) r.accounts
-  pub keys : HoldOfEach (slice_cmp nat_cmp) (IsKeyOf w) r.keys
-  pub names : HoldOfEach (slice_cmp nat_cmp) (IsNameOf w) r.names
-  pub versions : All (IsVersionOf w) r.versions.items
-  pub slot : IfSome r.slot (IsSlotOf calls)
-  pub page : IfSome r.page (IsPageOf w)
-  pub skips : AreSkipsFor (waiting_of w) (jobs_of w) (counted_host_at w) r.skips
+pub record IsCacheOf (w : World) (calls : SlotCalls) (cache : Cache) : Type 0 where
+  pub units : AreUnitsOf w cache.units
+  pub instances : HoldOfEach nat_cmp (λ n xs. xs ≡ instances_at w n) cache.instances
+  pub hosts : HoldOfEach nat_cmp (λ n h. counted_host_at w n ≡ Some h) cache.hosts
+  pub credits : HoldOfEach nat_cmp (λ account credit. credit ≡ user_credit w account) cache.credits
+  pub sent : HoldOfEach nat_cmp (λ host s. s.count ≡ sent_on_day w host s.day) cache.sent
+  pub held : HoldOfEach nat_cmp (λ host places. places ≡ held_by w host) cache.held
+  pub accounts : HoldOfEach (slice_cmp nat_cmp) (IsAccountOf w) cache.accounts
+  pub keys : HoldOfEach (slice_cmp nat_cmp) (IsKeyOf w) cache.keys
+  pub names : HoldOfEach (slice_cmp nat_cmp) (IsNameOf w) cache.names
+  pub versions : All (IsVersionOf w) cache.versions.items
+  pub slot : IfSome cache.slot (IsSlotOf calls)
+  pub page : IfSome cache.page (IsPageOf w)
+  pub skips : AreSkipsFor (waiting_of w) (jobs_of w) (counted_host_at w) cache.skips
