@@ -11,10 +11,10 @@ ghost use Rattle.table_cache.specs.Remembering.{IsUnitOf};
 ghost use Rattle.sched_book.specs.Skipping.{HadAllBefore};
 ghost use Rattle.sched_tables.specs.Views.{state_of, world_of, AreKept, AreReadOn};
 
-use table_cache::UnitRead;
 use crate::tables::Tables;
 use sched_book::{Candidate, Flow, Place, Taker, Unavailable, copy_of};
 use sqlite::Alter;
+use table_cache::UnitRead;
 
 /// The workunits of at most so many offers of one look-up are remembered.
 const MOST_NOTED: usize = 16;

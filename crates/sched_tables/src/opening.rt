@@ -16,11 +16,11 @@ ghost use Rattle.sched_tables.specs.Reopening.{Reopens};
 ghost use Rattle.sched_tables.specs.Stops.{MayBeFound};
 ghost use Rattle.sched_tables.specs.Views.{state_of, world_of, held_of, AreKept};
 
-use table_cache::Cache;
 use crate::tables::Tables;
 use sched_book::{Settings, copy_of};
 use sqlite::{Alter, Connection, MemStore};
 use std::alloc::Global;
+use table_cache::Cache;
 use table_meaning::rows::RowChange;
 use table_reading::stored_world;
 use table_rows::{OpenFault, Refused, create, known, test_open};

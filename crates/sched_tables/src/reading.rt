@@ -146,8 +146,7 @@ impl<S: Alter> Tables<S> {
         ensures answer { IsHonest (state_of S.Store self.new) → AreKept S.Store self.old → IfOk result (λ r. r ≡ account_by_key (world_of S.Store self.old) authenticator.now) }
     {
         let found = table_desk::account_by_key(alloc, &mut self.conn, authenticator)?;
-        self.cache
-            .remember_account(alloc, authenticator, &found);
+        self.cache.remember_account(alloc, authenticator, &found);
         Ok(found)
     }
 

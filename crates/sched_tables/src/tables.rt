@@ -8,10 +8,10 @@ ghost use Rattle.sched_tables.specs.Held.{IsHonest};
 ghost use Rattle.sched_tables.specs.Reopening.{Reopens};
 ghost use Rattle.sched_tables.specs.Views.{state_of};
 
-use table_cache::Cache;
 use sched_book::{App, Settings};
 use sqlite::{Alter, Connection};
 use std::alloc::Global;
+use table_cache::Cache;
 use texts::Listed;
 
 /// The stored tables as a desk. What seldom changes is kept in memory: the settings, which never change, and the

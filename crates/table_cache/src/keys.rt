@@ -136,12 +136,7 @@ impl Cache {
     }
 
     /// The number of the host with this account and this host_cpid.
-    pub fn host_key(
-        &self,
-        alloc: Global,
-        account: u32,
-        cpid: &str,
-    ) -> Result<Option<u32>, Memory>
+    pub fn host_key(&self, alloc: Global, account: u32, cpid: &str) -> Result<Option<u32>, Memory>
         ensures { (w : World) (calls : SlotCalls) → IsCacheOf w calls self.now → IfOk result (λ r. IfSome r (λ host. known_host w account cpid.now ≡ Some host)) }
     {
         let key = Text::copied(alloc, cpid)?;
@@ -152,13 +147,7 @@ impl Cache {
     }
 
     /// Remembers the number of the host with an account and a host_cpid, if there is memory for it.
-    pub fn remember_host_key(
-        &mut self,
-        alloc: Global,
-        account: u32,
-        cpid: &str,
-        found: Option<u32>,
-    )
+    pub fn remember_host_key(&mut self, alloc: Global, account: u32, cpid: &str, found: Option<u32>)
         ensures { (w : World) (calls : SlotCalls) → IsCacheOf w calls self.old → found ≡ known_host w account cpid.now → IsCacheOf w calls self.new }
     {
         let Some(host) = found else { return };
