@@ -106,7 +106,7 @@ impl Cache {
     }
 
     /// Takes note of rows that were put and lead from one world to another. If the cache agrees with the first world, it
-    /// agrees with the second one afterwards.
+    /// agrees with the second one afterwards. The slot for a call is forgotten, so the kept calls may be any then.
     pub fn note_put(&mut self, alloc: Global, changes: &[RowChange])
         ensures { (before after : World) (calls calls_after : SlotCalls) → Lead changes.now before after → IsCacheOf before calls self.old → IsCacheOf after calls_after self.new }
     {
