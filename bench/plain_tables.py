@@ -118,17 +118,18 @@ LOOK_UPS = {
     },
 }
 SLOTS = 4  # how many calls of a host are kept
-# the look-ups whose rows are cached, how many rows of each kind, and how many versions
-KEPT = (
-    "account by authenticator",
-    "host by account and client",
-    "host by number",
-    "workunit by name",
-    "workunit",
-    "mark of a workunit",
-    "instances of a workunit",
-)
-MOST_KEPT, MOST_VERSIONS = 1000, 100
+# how many rows are cached of a kind whose rows are large, and of one whose rows are small; and how many versions
+MOST_LARGE, MOST_SMALL, MOST_VERSIONS = 1_000, 10_000, 100
+# the look-ups whose rows are cached
+KEPT = {
+    "account by authenticator": MOST_SMALL,
+    "host by account and client": MOST_SMALL,
+    "host by number": MOST_SMALL,
+    "workunit by name": MOST_SMALL,
+    "workunit": MOST_LARGE,
+    "mark of a workunit": MOST_LARGE,
+    "instances of a workunit": MOST_LARGE,
+}
 DAY = 86400
 LAST_DEADLINE = 250_100_000_000
 LEAST_DEADLINE = "SELECT min(deadline) FROM instance WHERE lapse = 0 AND outcome IS NULL"
@@ -327,12 +328,12 @@ class Tables:
         # the page of waiting places that was read last: the place that it begins with, the one before which it
         # ends (None: it has all), and its places
         self.page = None
-        self.seen = {kind: Kept(MOST_KEPT) for kind in (LOOK_UPS if once else KEPT)}
+        self.seen = {kind: Kept(KEPT.get(kind, MOST_LARGE)) for kind in (LOOK_UPS if once else KEPT)}
         self.versions = Kept(MOST_VERSIONS)
         # the credit of users by account; and by host: a day, and how many jobs the host was sent on it
-        self.credits, self.sent = Kept(MOST_KEPT), Kept(MOST_KEPT)
+        self.credits, self.sent = Kept(MOST_SMALL), Kept(MOST_SMALL)
         # the places of the jobs that hosts hold, in order
-        self.held = Kept(MOST_KEPT)
+        self.held = Kept(MOST_LARGE)
         # no held instance has a deadline before the mark; `asked` is the moment that was asked about last
         (least_deadline,) = self.connection.execute(LEAST_DEADLINE).fetchone()
         self.mark, self.asked = LAST_DEADLINE if least_deadline is None else least_deadline, 0

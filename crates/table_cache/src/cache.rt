@@ -21,6 +21,12 @@ use std::alloc::Global;
 use table_desk::{CountedHost, KnownUnits, PageRead, Skip};
 use texts::{Listed, Memory, Text};
 
+/// The most that is remembered of each large kind: workunits, their instances with outputs, and lists of places.
+const MOST_LARGE: usize = 1_000;
+
+/// The most that is remembered of each small kind: rows of hosts and accounts, numbers by texts, and sums.
+const MOST_SMALL: usize = 10_000;
+
 /// A workunit that was read, with its place.
 #[derive(Drop)]
 pub struct UnitRead {
@@ -81,15 +87,15 @@ impl Cache {
         ensures { (w : World) (calls : SlotCalls) → IsCacheOf w calls result }
     {
         Cache {
-            units: RowsRead::new(alloc),
-            instances: RowsRead::new(alloc),
-            hosts: RowsRead::new(alloc),
-            credits: RowsRead::new(alloc),
-            sent: RowsRead::new(alloc),
-            held: RowsRead::new(alloc),
-            accounts: RowsRead::new(alloc),
-            keys: RowsRead::new(alloc),
-            names: RowsRead::new(alloc),
+            units: RowsRead::new(alloc, MOST_LARGE),
+            instances: RowsRead::new(alloc, MOST_LARGE),
+            hosts: RowsRead::new(alloc, MOST_SMALL),
+            credits: RowsRead::new(alloc, MOST_SMALL),
+            sent: RowsRead::new(alloc, MOST_SMALL),
+            held: RowsRead::new(alloc, MOST_LARGE),
+            accounts: RowsRead::new(alloc, MOST_SMALL),
+            keys: RowsRead::new(alloc, MOST_SMALL),
+            names: RowsRead::new(alloc, MOST_SMALL),
             versions: Vec::new(alloc),
             slot: None,
             page: None,

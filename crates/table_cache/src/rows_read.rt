@@ -10,22 +10,21 @@ use std::alloc::Global;
 use std::collections::BTreeMap;
 use texts::{Memory, Same};
 
-/// The most rows of a kind that are remembered. At one more, those before it are forgotten.
-const MOST_REMEMBERED: usize = 1_000;
-
-/// Rows by their keys, as they were read.
+/// Rows by their keys, as they were read, at most so many. At one more, those before it are forgotten.
 #[derive(Drop)]
 pub(crate) struct RowsRead<K: Ord, T> {
     rows: BTreeMap<K, T>,
+    most: usize,
 }
 
 impl<K: Ord, T> RowsRead<K, T> {
-    /// No rows.
-    pub(crate) fn new(alloc: Global) -> RowsRead<K, T>
+    /// No rows, and room for so many.
+    pub(crate) fn new(alloc: Global, most: usize) -> RowsRead<K, T>
         ensures { (key : K) → get K.cmp result.rows key ≡ None }
     {
         RowsRead {
             rows: BTreeMap::new(alloc),
+            most,
         }
     }
 }
@@ -35,7 +34,7 @@ impl<K: Ord + Drop, T: Drop> RowsRead<K, T> {
     pub(crate) fn put(&mut self, key: K, row: T)
         ensures { HasKept K.cmp self.old self.new key row }
     {
-        if MOST_REMEMBERED <= self.rows.len() {
+        if self.most <= self.rows.len() {
             self.rows.clear();
         }
         let _ = self.rows.insert(key, row);
