@@ -95,7 +95,7 @@ impl<S: Alter> Desk for Tables<S> {
     }
 
     fn counts(&mut self) -> Result<Counts, Unavailable> {
-        table_desk::counts(self.alloc, &mut self.conn)
+        self.read_counts()
     }
 
     fn account_by_key(

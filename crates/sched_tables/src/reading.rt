@@ -2,7 +2,7 @@
 
 ghost use Rattle.std.specs.Prelude.{◌≡◌, ◌≤◌, length, IfOk};
 ghost use Rattle.sqlite.specs.Held.{state};
-ghost use Rattle.sched_book.specs.Desk.{account_by_key, workunit_at, instances_at};
+ghost use Rattle.sched_book.specs.Desk.{account_by_key, counts, workunit_at, instances_at};
 ghost use Rattle.sched_book.specs.Fits.{version_at};
 ghost use Rattle.sched_book.specs.Limits.{most_instances};
 ghost use Rattle.sched_book.specs.Places.{held_by, known_host, sent_on_day, unit_named, user_credit};
@@ -13,7 +13,9 @@ ghost use Rattle.sched_tables.specs.Held.{IsHonest};
 ghost use Rattle.sched_tables.specs.Views.{state_of, world_of, AreKept, AreReadOn};
 
 use crate::tables::Tables;
-use sched_book::{Account, HostRow, Instance, Place, Placed, Unavailable, Version, Workunit};
+use sched_book::{
+    Account, Counts, HostRow, Instance, Place, Placed, Unavailable, Version, Workunit,
+};
 use sqlite::{Alter, Connection};
 use std::alloc::Global;
 use table_desk::CountedHost;
@@ -36,6 +38,16 @@ fn places_held<S: Alter>(
 }
 
 impl<S: Alter> Tables<S> {
+    /// How many rows there are, by statements.
+    pub(crate) fn read_counts(&mut self) -> Result<Counts, Unavailable>
+        ensures reads { AreReadOn S.Store self.old self.new }
+        ensures answer { IsHonest (state_of S.Store self.new) → AreKept S.Store self.old → IfOk result (λ r. r ≡ counts (world_of S.Store self.old)) }
+    {
+        let found = table_desk::counts(self.alloc, &mut self.conn)?;
+        self.cache.remember_counts(&found);
+        Ok(found)
+    }
+
     /// The workunit at this place, by a statement.
     pub(crate) fn read_unit(
         &mut self,

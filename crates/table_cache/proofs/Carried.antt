@@ -29,7 +29,7 @@ use Rattle.table_worlds.specs.Keys.{row_key, row_in}
 use Rattle.table_worlds.specs.Readable.{IsReadable}
 use Rattle.table_worlds.specs.declared.keys.WorldKey.{WorldKey}
 use Rattle.table_worlds.specs.declared.keys.WorldKey.TheVariants as key
-use Rattle.table_cache.specs.Carrying.{IsStillKnown, job_of, counted_of, with_host, with_hosts, with_job, with_jobs, shares, sent_among, AreCarried, AreOfHosts, AreOfJobs}
+use Rattle.table_cache.specs.Carrying.{IsStillKnown, job_of, counted_of, with_host, with_hosts, with_job, with_jobs, shares, sent_among, AreCarried, AreNonePast, AreOfHosts, AreOfJobs}
 use Rattle.table_cache.specs.Leading.{IsOtherKey, IsUnput, IsPut}
 use Rattle.table_cache.specs.Covering.{jobs_of, with_wait, with_waits, AreSkipsFor}
 use Rattle.table_desk.specs.WaitingPage.{waiting_of, IsPageFor}
@@ -134,8 +134,8 @@ pub host_known : (rows : List StoredRow) (hosts : ℕ → Option CountedHost) (n
 host_known rows hosts number = known_after counted_of (host_key number) with_host (λ (hs : ℕ → Option CountedHost). hs number) (λ r hs. one_host r hs number) rows hosts
 
 -- what is known of a world's hosts and of the credit of their users is theirs
-pub known_of_world : (w : World) (calls : SlotCalls) (r : Cache) → IsCacheOf w calls r → AreOfHosts (counted_host_at w) r.hosts r.credits
-known_of_world w calls r known = record { each = known.hosts; end = suc (length w.hosts); credited = λ account credit is more. known.credits account credit is ∙ credit_shared w account more }
+pub known_of_world : (w : World) (calls : SlotCalls) (r : Cache) → IsCacheOf w calls r → AreOfHosts (counted_host_at w) r.hosts
+known_of_world w calls r known = record { each = known.hosts; end = suc (length w.hosts); credited = λ account credit is more. known.credits account credit is ∙ credit_shared w account more; none_past = known.last_host }
 
 -- and so are the keys of hosts
 pub keys_of_world : (w : World) (calls : SlotCalls) (r : Cache) → IsCacheOf w calls r → AreKeysOf (counted_host_at w) r.keys
@@ -255,7 +255,7 @@ module _ (w w' : World) (readable : IsReadable w) (readable' : IsReadable w') (S
     (jobs : ℕ → ℕ → Option Job) (jobs_known : (n num : ℕ) → IsStillKnown Stays Puts job_of (instance_key n num) (jobs_of w n num) (jobs n num))
     (waiting : ℕ → ℕ → Option Bool) (waits_known : (n num : ℕ) → IsStillKnown Stays Puts queued_of (instance_key n num) (waiting_of w n num) (waiting n num))
     (titles : ℕ → Option (List ℕ)) (titles_known : (n : ℕ) → IsStillKnown Stays Puts title_of (unit_key n) (title_at w n) (titles n))
-    (calls calls' : SlotCalls) (old new : Cache) (of_hosts : AreOfHosts hosts new.hosts new.credits) (of_jobs : AreOfJobs jobs new.instances new.sent) (of_skips : AreSkipsFor waiting jobs hosts new.skips) (of_page : IfSome new.page (IsPageFor waiting)) (of_held : AreHeldOf (holders_of jobs) new.held)
+    (calls calls' : SlotCalls) (old new : Cache) (of_hosts : AreOfHosts hosts new.hosts) (of_jobs : AreOfJobs jobs new.instances new.sent) (of_skips : AreSkipsFor waiting jobs hosts new.skips) (of_page : IfSome new.page (IsPageFor waiting)) (of_held : AreHeldOf (holders_of jobs) new.held)
     (of_keys : AreKeysOf hosts new.keys) (of_names : AreNamesOf titles new.units new.names) (left : AreCarried Stays old new) (none : new.slot ≡ None) (before : IsCacheOf w calls old) where
   apps_stay : ((id : ℕ) → Stays (row_key (key.App id))) → w.apps ≡ w'.apps
   apps_stay unput = same_apps w w' readable readable' (λ n. stay (key.App n) (unput n))
@@ -307,6 +307,7 @@ module _ (w w' : World) (readable : IsReadable w) (readable' : IsReadable w') (S
         let until : suc (length w'.hosts) + of_hosts.end ≡ of_hosts.end + suc (length w'.hosts) = omega arith in
         of_hosts.credited account credit is (suc (length w'.hosts)) ∙ ap (shares hosts account) (sym until)
         ∙ (λ i. shares (λ n. are_then n i) account (suc (length w'.hosts) + of_hosts.end)) ∙ sym (credit_shared w' account of_hosts.end);
+    last_host = subst (λ (hs : ℕ → Option CountedHost). IfSome new.hosts.last (AreNonePast hs)) (λ i n. are_then n i) of_hosts.none_past;
     sent = λ host s is.
         let units : suc (length w'.units) + of_jobs.units ≡ of_jobs.units + suc (length w'.units) = omega arith in
         let numbers : most_numbers w'.units + of_jobs.numbers ≡ of_jobs.numbers + most_numbers w'.units = omega arith in

@@ -15,7 +15,7 @@ use Rattle.sched_book.proofs.PlacesOf.{nth-suc}
 use Rattle.sched_book.proofs.Settling.{slice_get-enumerate_from}
 use Rattle.table_desk.specs.Columns.{counted_host_at}
 use Rattle.table_desk.specs.declared.hosts.CountedHost.{CountedHost}
-use Rattle.table_cache.specs.Carrying.{with_counted, share, shares, AreCreditsOf}
+use Rattle.table_cache.specs.Carrying.{with_counted, share, shares, AreCreditsOf, AreNonePast, IsAtMost, IsPast, IsShareOf}
 use Rattle.table_cache.specs.RowsRead.{HoldOfEach, HasKept, IsWithout}
 use Rattle.table_cache.specs.declared.rows_read.RowsRead.{RowsRead}
 
@@ -59,7 +59,7 @@ module _ (g h : ℕ → ℕ) (at : ℕ) (same : (n : ℕ) → eqb at n ≡ false
 
 -- ---- one host that is another one
 
-module _ (hosts : ℕ → Option CountedHost) (number : ℕ) (old new : CountedHost) (was : hosts number ≡ Some old) (account : ℕ) (of_old : old.row.account ≡ account) (of_new : new.row.account ≡ account) where
+module _ (hosts : ℕ → Option CountedHost) (number old : ℕ) (new : CountedHost) (account : ℕ) (here_before : IsShareOf account (hosts number) old) (of_new : new.row.account ≡ account) where
   elsewhere : (a n : ℕ) → eqb number n ≡ false → share a (with_counted hosts number new n) ≡ share a (hosts n)
   elsewhere a n other = ap (λ (b : Bool). share a (cond b (Some new) (hosts n))) other
 
@@ -68,17 +68,14 @@ module _ (hosts : ℕ → Option CountedHost) (number : ℕ) (old new : CountedH
       let same : eqb number number ≡ true = grind (arith, nat_tests) in
       ap (λ (b : Bool). share a (cond b (Some new) (hosts number))) same ∙ ap (λ (n : ℕ). cond (eqb n a) new.credit 0) of_new
 
-  here_before : (a : ℕ) → share a (hosts number) ≡ cond (eqb account a) old.credit 0
-  here_before a = ap (share a) was ∙ ap (λ (n : ℕ). cond (eqb n a) old.credit 0) of_old
-
   abbrev then : ℕ → Option CountedHost
   then = with_counted hosts number new
 
   -- the credit of its account moves by the difference
-  of_account : (count : ℕ) → number < count → shares then account count + old.credit ≡ shares hosts account count + new.credit
+  of_account : (count : ℕ) → number < count → shares then account count + old ≡ shares hosts account count + new.credit
   of_account count within =
       let same : eqb account account ≡ true = grind (arith, nat_tests) in
-      let before : share account (hosts number) ≡ old.credit = here_before account ∙ ap (λ (b : Bool). cond b old.credit 0) same in
+      let before : share account (hosts number) ≡ old = here_before account ∙ ap (λ (b : Bool). cond b old 0) same in
       let now : share account (then number) ≡ new.credit = here_now account ∙ ap (λ (b : Bool). cond b new.credit 0) same in
       let moved = sum_moved (λ n. share account (then n)) (λ n. share account (hosts n)) number (elsewhere account) count 0 (omega arith) (omega arith) in
       omega (arith, moved, before, now)
@@ -86,7 +83,7 @@ module _ (hosts : ℕ → Option CountedHost) (number : ℕ) (old new : CountedH
   -- and that of others stays
   of_others : (a count : ℕ) → eqb account a ≡ false → number < count → shares then a count ≡ shares hosts a count
   of_others a count other within =
-      let before : share a (hosts number) ≡ 0 = here_before a ∙ ap (λ (b : Bool). cond b old.credit 0) other in
+      let before : share a (hosts number) ≡ 0 = here_before a ∙ ap (λ (b : Bool). cond b old 0) other in
       let now : share a (then number) ≡ 0 = here_now a ∙ ap (λ (b : Bool). cond b new.credit 0) other in
       let moved = sum_moved (λ n. share a (then n)) (λ n. share a (hosts n)) number (elsewhere a) count 0 (omega arith) (omega arith) in
       omega (arith, moved, before, now)
@@ -99,7 +96,7 @@ module _ (hosts : ℕ → Option CountedHost) (number : ℕ) (old new : CountedH
       are a credit was.1 (suc number + more) ∙ sym (of_others a (end + (suc number + more)) other (omega arith)) ∙ ap (shares then a) (sym until)
 
   pub account_credited : (end : ℕ) (before mid after : RowsRead ℕ ℕ) (credit moved : ℕ) → AreCreditsOf hosts end before → Some credit ≡ get nat_cmp before.rows account → IsWithout nat_cmp before mid account
-      → moved + old.credit ≡ credit + new.credit → HasKept nat_cmp mid after account moved → AreCreditsOf then (end + suc number) after
+      → moved + old ≡ credit + new.credit → HasKept nat_cmp mid after account moved → AreCreditsOf then (end + suc number) after
   account_credited end before mid after credit moved are found without is kept = λ a c there. elim (kept a c there) [
     | inl it ↦ λ more.
         let one : account ≡ a = grind (arith, nat_tests, it.0) in
@@ -111,7 +108,33 @@ module _ (hosts : ℕ → Option CountedHost) (number : ℕ) (old new : CountedH
     | inr other ↦ others_credited end before mid are without a c other
   ]
 
+-- ---- one number past the last
+
+pub none_at : {X : Type 0} (found : ℕ → Option X) (last : Option ℕ) (number : ℕ) → IsPast last number → IfSome last (AreNonePast found) → found number ≡ None
+none_at found None number past none = absurd past
+none_at found (Some last) number past none = none number past
+
+-- with one more, none is past the new last number
+pub none_past_with : {X : Type 0} (found then : ℕ → Option X) (last new : Option ℕ) (number : ℕ) → ((n : ℕ) → eqb number n ≡ false → then n ≡ found n)
+    → IfSome new (IsAtMost last number) → IfSome last (AreNonePast found) → IfSome new (AreNonePast then)
+none_past_with found then last None number elsewhere most none = tt
+none_past_with found then None (Some n) number elsewhere most none = absurd most
+none_past_with found then (Some l) (Some n) number elsewhere most none = λ m past.
+    let apart : eqb number m ≡ false = grind (arith, nat_tests, most.1, past) in
+    elsewhere m apart ∙ none m (omega (arith, most.0, past))
+
 -- ---- what is known of hosts
+
+pub with_elsewhere : (hosts : ℕ → Option CountedHost) (number : ℕ) (h : CountedHost) (n : ℕ) → eqb number n ≡ false → with_counted hosts number h n ≡ hosts n
+with_elsewhere hosts number h n other = ap (λ (b : Bool). cond b (Some h) (hosts n)) other
+
+-- a host that is not there adds nothing
+pub none_shared : (account : ℕ) (h : Option CountedHost) → h ≡ None → IsShareOf account h 0
+none_shared account h none other = ap (share other) none ∙ same (eqb account other)
+  where
+    same : (b : Bool) → ◌≡◌ {A = ℕ} 0 (cond b 0 0)
+    same true = refl
+    same false = refl
 
 pub known_at : (hosts : ℕ → Option CountedHost) (number : ℕ) (known : RowsRead ℕ CountedHost) (o : Option CountedHost) → o ≡ get nat_cmp known.rows number
     → HoldOfEach nat_cmp (λ n g. hosts n ≡ Some g) known → IfSome o (λ h. hosts number ≡ Some h)

@@ -1,6 +1,6 @@
 -- The keys of hosts and the names of workunits move with the rows of hosts and workunits.
 use Rattle.std.proofs.Common.{◌≡◌, ◌<◌, ◌+◌, ℕ, zero, suc, Bool, true, false, true≢false, cond, eqb, List, [], ◌∷◌, length, Option, Some, None, option_map, refl, sym, subst, ap, ◌∙◌, arith}
-use Rattle.std.specs.Prelude.{◌&&◌, ◌==◌, slice_get}
+use Rattle.std.specs.Prelude.{◌&&◌, ◌==◌, nat_lt, slice_get, IfSome}
 use Rattle.std.specs.List.{position_from}
 use Rattle.std.specs.Ordering.{nat_cmp}
 use Rattle.std.specs.Str.{bytes_eq}
@@ -18,7 +18,7 @@ use Rattle.table_desk.specs.declared.hosts.CountedHost.{CountedHost}
 use Rattle.table_meaning.specs.declared.rows.StoredHost.{StoredHost}
 use Rattle.table_meaning.specs.declared.rows.StoredRow.TheVariants as stored
 use Rattle.table_meaning.specs.declared.rows.StoredUnit.{StoredUnit}
-use Rattle.table_cache.specs.Carrying.{counted_of, with_host}
+use Rattle.table_cache.specs.Carrying.{counted_of, with_host, AreNonePast, IsPast}
 use Rattle.table_cache.specs.Keys.{has_key, title_at, with_title, AreFirstUnits, AreKeysOf, AreTitled, IsFirst, IsFirstHost, IsFirstUnit, KeepsKey, KeepsName}
 use Rattle.table_cache.specs.RowsRead.{IsWithout}
 use Rattle.table_cache.specs.declared.keys.HostKeyRead.{HostKeyRead}
@@ -74,6 +74,18 @@ module _ {X : Type 0} (p : X → Bool) (xs : List X) where
       place_where-is p xs
       ∙ from_first p 1 xs i (sym (ap (option_any p) (nth-suc xs i)) ∙ first.0) (λ k less. sym (ap (option_any p) (nth-suc xs k)) ∙ first.1 (suc k) (omega (arith, less)))
       ∙ ap Some (let same : 1 + i ≡ suc i = omega arith in same)
+
+-- the first one stays so with a number past all that pass
+pub first_still : (p q : ℕ → Bool) (last bound number : ℕ) → last < bound → ((n : ℕ) → last < n → p n ≡ false) → ((n : ℕ) → eqb bound n ≡ false → q n ≡ p n) → IsFirst p number → IsFirst q number
+first_still p q last bound number past none same first = go (nat_lt last number) refl
+  where
+    go : (b : Bool) → nat_lt last number ≡ b → IsFirst q number
+    go true is =
+        let after : last < number = grind (arith, nat_tests, is) in
+        absurd (true≢false (sym first.0 ∙ none number after))
+    go false is =
+        let within : number < bound = grind (arith, nat_tests, is, past) in
+        (same number (grind (arith, nat_tests, within)) ∙ first.0, λ n less. same n (grind (arith, nat_tests, less, within)) ∙ first.1 n less)
 
 -- ---- hosts and workunits of a world
 
@@ -134,6 +146,17 @@ module _ (hosts : ℕ → Option CountedHost) (row : StoredHost) (keeps : KeepsK
   keys_followed keys are = record {
     each = λ cpid k is. first_by (λ n. has_key k.account cpid (hosts n)) (λ n. has_key k.account cpid (with_host hosts (stored.Host row) n)) k.host (same_key k.account cpid) (are.each cpid k is);
   }
+
+-- a new host changes no key
+pub keys_still : (hosts : ℕ → Option CountedHost) (row : StoredHost) (last : Option ℕ) → IsPast last row.id → IfSome last (AreNonePast hosts) → (keys : RowsRead (List ℕ) HostKeyRead) → AreKeysOf hosts keys
+    → AreKeysOf (with_host hosts (stored.Host row)) keys
+keys_still hosts row None past none keys are = absurd past
+keys_still hosts row (Some last) past none keys are = record {
+  each = λ cpid k is.
+      first_still (λ n. has_key k.account cpid (hosts n)) (λ n. has_key k.account cpid (with_host hosts (stored.Host row) n)) last row.id k.host past
+      (λ n after. ap (has_key k.account cpid) (none n after))
+      (λ n other. ap (λ (b : Bool). has_key k.account cpid (cond b (Some (counted_of (stored.Host row))) (hosts n))) other) (are.each cpid k is);
+}
 
 -- ---- with the row of a workunit
 

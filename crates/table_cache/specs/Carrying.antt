@@ -1,5 +1,5 @@
 -- Words. What is still remembered after rows were put.
-use Rattle.std.specs.Prelude.{◌≡◌, ◌⊎◌, ℕ, ◌+◌, ◌/◌, ◌&&◌, ◌==◌, if◌then◌else◌, cond, eqb, List, [], fold, sum_by, slice_get, Option, Some, None, option_map}
+use Rattle.std.specs.Prelude.{◌≡◌, ◌⊎◌, ℕ, ◌+◌, ◌/◌, ◌&&◌, ◌==◌, if◌then◌else◌, cond, eqb, List, [], fold, sum_by, slice_get, Option, Some, None, option_map, IfSome, ◌<◌, ◌≤◌}
 use Rattle.std.specs.BTreeMap.{get}
 use Rattle.std.specs.Cmp.Lexicographic.{slice_cmp}
 use Rattle.std.specs.List.{range_with_len}
@@ -14,6 +14,7 @@ use Rattle.table_meaning.specs.Rows.{RowKey, account_key, app_key, version_key, 
 use Rattle.table_worlds.specs.ReadBack.{number_at, host_in, job_in}
 use Rattle.table_cache.specs.RowsRead.{HoldOfEach, AreSome}
 use Rattle.table_cache.specs.declared.cache.Cache.{Cache}
+use Rattle.table_cache.specs.declared.credits.HostsRead.{HostsRead}
 use Rattle.table_cache.specs.declared.sent.Sending.{Sending}
 use Rattle.table_cache.specs.declared.sent.SentRead.{SentRead}
 use Rattle.table_cache.specs.declared.rows_read.RowsRead.{RowsRead}
@@ -45,6 +46,22 @@ pub record AreCarried (Stays : RowKey → Type 0) (old new : Cache) : Type 0 whe
   pub accounts : AreSome (slice_cmp nat_cmp) (λ _. (id : ℕ) → Stays (account_key id)) old.accounts new.accounts
   pub versions : (new.versions.items ≡ []) ⊎ ((new.versions.items ≡ old.versions.items) × ((id : ℕ) → Stays (app_key id) × Stays (version_key id) × Stays (class_key id)))
 
+-- ---- what is past the last number
+
+-- nothing is at a number greater than this one
+abbrev pub AreNonePast : {X : Type 0} → (ℕ → Option X) → ℕ → Type 0
+AreNonePast found last = (number : ℕ) → last < number → found number ≡ None
+
+-- a last number is known, and this one is greater
+abbrev pub IsPast : Option ℕ → ℕ → Type 0
+IsPast None number = ⊥
+IsPast (Some last) number = last < number
+
+-- a last number was known, and it and this one are at most the new last one
+abbrev pub IsAtMost : Option ℕ → ℕ → ℕ → Type 0
+IsAtMost None number new = ⊥
+IsAtMost (Some last) number new = (last ≤ new) × (number ≤ new)
+
 -- ---- hosts, and the credit of their users
 
 -- the hosts with this one at a number
@@ -65,6 +82,10 @@ abbrev pub share : ℕ → Option CountedHost → ℕ
 share account None = 0
 share account (Some h) = if h.row.account == account then h.credit else 0
 
+-- this is what a host adds to the credit of an account, and it adds nothing to that of others
+abbrev pub IsShareOf : ℕ → Option CountedHost → ℕ → Type 0
+IsShareOf account host credit = (other : ℕ) → share other host ≡ (if account == other then credit else 0)
+
 -- what the hosts of the first so many numbers add to it
 abbrev pub shares : (ℕ → Option CountedHost) → ℕ → ℕ → ℕ
 shares hosts account count = sum_by (λ number. share account (hosts number)) (range_with_len 0 count)
@@ -73,11 +94,12 @@ shares hosts account count = sum_by (λ number. share account (hosts number)) (r
 abbrev pub AreCreditsOf : (ℕ → Option CountedHost) → ℕ → RowsRead ℕ ℕ → Type 0
 AreCreditsOf hosts end credits = HoldOfEach nat_cmp (λ account credit. (more : ℕ) → credit ≡ shares hosts account (end + more)) credits
 
--- What is known of hosts, and of the credit of accounts, is that of these hosts.
-pub record AreOfHosts (hosts : ℕ → Option CountedHost) (known : RowsRead ℕ CountedHost) (credits : RowsRead ℕ ℕ) : Type 0 where
-  pub each : HoldOfEach nat_cmp (λ number h. hosts number ≡ Some h) known
+-- What is known of hosts, and of the credit of accounts, is that of these hosts. If a last number is known, no host has a greater one.
+pub record AreOfHosts (hosts : ℕ → Option CountedHost) (read : HostsRead) : Type 0 where
+  pub each : HoldOfEach nat_cmp (λ number h. hosts number ≡ Some h) read.rows
   pub end : ℕ
-  pub credited : AreCreditsOf hosts end credits
+  pub credited : AreCreditsOf hosts end read.credits
+  pub none_past : IfSome read.last (AreNonePast hosts)
 
 -- ---- jobs, and how many of them hosts were sent
 

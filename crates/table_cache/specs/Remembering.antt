@@ -10,6 +10,7 @@ use Rattle.sched_book.specs.declared.rows.Workunit.{Workunit}
 use Rattle.sched_book.specs.declared.world.World.{World}
 use Rattle.table_desk.specs.Columns.{counted_host_at}
 use Rattle.table_meaning.specs.Worlds.{SlotCalls}
+use Rattle.table_cache.specs.Carrying.{AreNonePast}
 use Rattle.table_cache.specs.Covering.{jobs_of, AreSkipsFor}
 use Rattle.table_desk.specs.WaitingPage.{waiting_of, IsPageOf}
 use Rattle.table_cache.specs.RowsRead.{HoldOfEach}
@@ -55,8 +56,9 @@ IsSlotOf calls s = IsSlotFor (calls s.host) s.slot
 pub record IsCacheOf (w : World) (calls : SlotCalls) (cache : Cache) : Type 0 where
   pub units : AreUnitsOf w cache.units
   pub instances : HoldOfEach nat_cmp (λ n xs. xs ≡ instances_at w n) cache.instances
-  pub hosts : HoldOfEach nat_cmp (λ n h. counted_host_at w n ≡ Some h) cache.hosts
-  pub credits : HoldOfEach nat_cmp (λ account credit. credit ≡ user_credit w account) cache.credits
+  pub hosts : HoldOfEach nat_cmp (λ n h. counted_host_at w n ≡ Some h) cache.hosts.rows
+  pub credits : HoldOfEach nat_cmp (λ account credit. credit ≡ user_credit w account) cache.hosts.credits
+  pub last_host : IfSome cache.hosts.last (AreNonePast (counted_host_at w))
   pub sent : HoldOfEach nat_cmp (λ host s. s.count ≡ sent_on_day w host s.day) cache.sent
   pub held : HoldOfEach nat_cmp (λ host places. places ≡ held_by w host) cache.held
   pub accounts : HoldOfEach (slice_cmp nat_cmp) (IsAccountOf w) cache.accounts

@@ -11,6 +11,7 @@ ghost use Rattle.table_cache.specs.Remembering.{IsCacheOf, IsUnitOf};
 ghost use Rattle.table_cache.specs.NextSlot.{IsSlotFor};
 ghost use Rattle.sched_book.specs.Skipping.{HadAllBefore};
 
+use crate::credits::HostsRead;
 use crate::keys::{AccountRead, HostKeyRead};
 use crate::rows_read::RowsRead;
 use crate::sent::SentRead;
@@ -18,7 +19,7 @@ use crate::skips::Skips;
 use crate::versions::VersionRead;
 use sched_book::{Instance, Place, Workunit};
 use std::alloc::Global;
-use table_desk::{CountedHost, KnownUnits, PageRead, Skip};
+use table_desk::{KnownUnits, PageRead, Skip};
 use texts::{Listed, Memory, Text};
 
 /// The most that is remembered of each large kind: workunits, their instances with outputs, and lists of places.
@@ -43,12 +44,12 @@ pub(crate) struct SlotRead {
 
 /// What was read, and is as it was read or as it was put since: rows by their keys, credits by accounts, how many jobs hosts
 /// were sent on a day, the places that hosts hold, hosts by their keys, workunits by their names, versions, the slot for the next
-/// call of the host whose calls were read last, the page of what waits that was read last, and the skips of users.
+/// call of the host whose calls were read last, the page of what waits that was read last, the skips of users, and the number of
+/// the last host.
 pub struct Cache {
     pub(crate) units: RowsRead<u32, Workunit>,
     pub(crate) instances: RowsRead<u32, Listed<Instance>>,
-    pub(crate) hosts: RowsRead<u32, CountedHost>,
-    pub(crate) credits: RowsRead<u32, u64>,
+    pub(crate) hosts: HostsRead,
     pub(crate) sent: RowsRead<u32, SentRead>,
     pub(crate) held: RowsRead<u32, Listed<Place>>,
     pub(crate) accounts: RowsRead<Text, AccountRead>,
@@ -67,7 +68,6 @@ impl Drop for Cache {
             units: _units,
             instances: _instances,
             hosts: _hosts,
-            credits: _credits,
             sent: _sent,
             held: _held,
             accounts: _accounts,
@@ -89,8 +89,7 @@ impl Cache {
         Cache {
             units: RowsRead::new(alloc, MOST_LARGE),
             instances: RowsRead::new(alloc, MOST_LARGE),
-            hosts: RowsRead::new(alloc, MOST_SMALL),
-            credits: RowsRead::new(alloc, MOST_SMALL),
+            hosts: HostsRead::new(alloc, MOST_SMALL),
             sent: RowsRead::new(alloc, MOST_SMALL),
             held: RowsRead::new(alloc, MOST_LARGE),
             accounts: RowsRead::new(alloc, MOST_SMALL),
@@ -173,7 +172,6 @@ impl Cache {
         self.units.forget_all();
         self.instances.forget_all();
         self.hosts.forget_all();
-        self.credits.forget_all();
         self.sent.forget_all();
         self.held.forget_all();
         self.accounts.forget_all();

@@ -1,22 +1,62 @@
 //! Hosts with what is counted of them, and the credit of their users, which moves with each host that is put.
 
-ghost use Rattle.std.specs.Prelude.{◌≡◌, ◌+◌, ℕ, suc, Option, Some, IfOk, IfSome};
+ghost use Rattle.std.specs.Prelude.{◌≡◌, ◌+◌, ℕ, suc, Option, None, Some, IfOk, IfSome, IsTrue};
+ghost use Rattle.std.specs.BTreeMap.{get};
+ghost use Rattle.std.specs.Ordering.{nat_cmp};
+ghost use Rattle.sched_book.specs.Desk.{counts as counts_of};
 ghost use Rattle.sched_book.specs.Places.{user_credit};
 ghost use Rattle.sched_book.specs.declared.world.World.{World};
 ghost use Rattle.table_desk.specs.Columns.{counted_host_at};
 ghost use Rattle.table_desk.specs.declared.hosts.CountedHost.{CountedHost as Counted};
 ghost use Rattle.table_meaning.specs.Worlds.{SlotCalls};
 ghost use Rattle.table_meaning.specs.declared.rows.StoredRow.TheVariants as stored;
-ghost use Rattle.table_cache.specs.Carrying.{counted_of, with_counted, with_host, AreCreditsOf, AreOfHosts};
+ghost use Rattle.table_cache.specs.Carrying.{counted_of, with_counted, with_host, AreCreditsOf, AreOfHosts, IsShareOf};
 ghost use Rattle.table_cache.specs.Remembering.{IsCacheOf};
 
 use crate::cache::Cache;
+use crate::last_number::{is_past, last_with};
 use crate::rows_read::RowsRead;
+use sched_book::Counts;
 use std::alloc::Global;
 use table_decoding::host;
 use table_desk::CountedHost;
 use table_meaning::rows::StoredHost;
 use texts::Memory;
+
+/// Hosts with what is counted of them, and the credit of their users, as they were read or put since; and the number of the last
+/// host, if it is known.
+#[derive(Drop)]
+pub(crate) struct HostsRead {
+    pub(crate) rows: RowsRead<u32, CountedHost>,
+    pub(crate) credits: RowsRead<u32, u64>,
+    pub(crate) last: Option<u32>,
+}
+
+impl HostsRead {
+    /// Nothing, and room for so many of each kind.
+    pub(crate) fn new(alloc: Global, most: usize) -> HostsRead
+        ensures rows { (key : ℕ) → get nat_cmp result.rows.rows key ≡ None }
+        ensures credits { (key : ℕ) → get nat_cmp result.credits.rows key ≡ None }
+        ensures last { result.last ≡ None }
+    {
+        HostsRead {
+            rows: RowsRead::new(alloc, most),
+            credits: RowsRead::new(alloc, most),
+            last: None,
+        }
+    }
+
+    /// Forgets it all.
+    pub(crate) fn forget_all(&mut self)
+        ensures rows { (key : ℕ) → get nat_cmp self.new.rows.rows key ≡ None }
+        ensures credits { (key : ℕ) → get nat_cmp self.new.credits.rows key ≡ None }
+        ensures last { self.new.last ≡ None }
+    {
+        self.rows.forget_all();
+        self.credits.forget_all();
+        self.last = None;
+    }
+}
 
 /// The host of a row, with what the row counts of it. `None` if a value is out of its range.
 fn counted(alloc: Global, row: &StoredHost) -> Option<CountedHost>
@@ -42,10 +82,26 @@ fn moved(credit: u64, old: u64, new: u64) -> Option<u64>
     credit.checked_sub(old)?.checked_add(new)
 }
 
-/// Moves what is known of the credit of a host's account, if the host was `old` and is `new`. If it was not known, or was of
-/// another account, everything that is known of credits is forgotten.
-fn move_credit(credits: &mut RowsRead<u32, u64>, old: &Option<CountedHost>, new: &CountedHost)
-    ensures { (hosts : ℕ → Option Counted) (number end : ℕ) → IfSome old.now (λ h. hosts number ≡ Some h)
+/// What a host added to the credit of this account, if it added nothing to that of another one. A new host added nothing.
+/// `None` if the host was not known, or was of another account.
+fn credit_before(known: &Option<CountedHost>, is_new: bool, account: u32) -> Option<u64>
+    ensures { (hosts : ℕ → Option Counted) (number : ℕ) → IfSome known.now (λ h. hosts number ≡ Some h) → (IsTrue is_new → hosts number ≡ None)
+        → IfSome result (IsShareOf account (hosts number)) }
+{
+    if is_new {
+        return Some(0);
+    }
+    let Some(host) = known else { return None };
+    if host.row.account != account {
+        return None;
+    }
+    Some(host.credit)
+}
+
+/// Moves what is known of the credit of a host's account, if the host added `old` to it and is `new` now. If that is not
+/// known, everything that is known of credits is forgotten.
+fn move_credit(credits: &mut RowsRead<u32, u64>, old: Option<u64>, new: &CountedHost)
+    ensures { (hosts : ℕ → Option Counted) (number end : ℕ) → IfSome old (IsShareOf new.now.row.account (hosts number))
         → AreCreditsOf hosts end credits.old → AreCreditsOf (with_counted hosts number new.now) (end + suc number) credits.new }
 {
     let Some(old) = old else {
@@ -53,34 +109,28 @@ fn move_credit(credits: &mut RowsRead<u32, u64>, old: &Option<CountedHost>, new:
         return;
     };
     let account = new.row.account;
-    if old.row.account != account {
-        credits.forget_all();
-        return;
-    }
     let Some(credit) = credits.take(&account) else {
         return;
     };
-    if let Some(moved) = moved(credit, old.credit, new.credit) {
+    if let Some(moved) = moved(credit, old, new.credit) {
         credits.put(account, moved);
     }
 }
 
-/// Renews what is known of a host, and of the credit of its account, by the row of the host that was put.
-pub(crate) fn renew_host(
-    alloc: Global,
-    hosts: &mut RowsRead<u32, CountedHost>,
-    credits: &mut RowsRead<u32, u64>,
-    row: &StoredHost,
-)
-    ensures { (f : ℕ → Option Counted) → AreOfHosts f hosts.old credits.old → AreOfHosts (with_host f (stored.Host row.now)) hosts.new credits.new }
+/// Renews what is known of a host, of the credit of its account, and of the last number, by the row of the host that was put.
+pub(crate) fn renew_host(alloc: Global, read: &mut HostsRead, row: &StoredHost)
+    ensures { (f : ℕ → Option Counted) → AreOfHosts f read.old → AreOfHosts (with_host f (stored.Host row.now)) read.new }
 {
-    let old = hosts.take(&row.id);
+    let is_new = is_past(read.last, row.id);
+    read.last = last_with(read.last, row.id);
+    let known = read.rows.take(&row.id);
     let Some(new) = counted(alloc, row) else {
-        credits.forget_all();
+        read.credits.forget_all();
         return;
     };
-    move_credit(credits, &old, &new);
-    hosts.put(row.id, new);
+    let old = credit_before(&known, is_new, new.row.account);
+    move_credit(&mut read.credits, old, &new);
+    read.rows.put(row.id, new);
 }
 
 impl Cache {
@@ -88,7 +138,7 @@ impl Cache {
     pub fn host(&self, number: u32) -> Result<Option<CountedHost>, Memory>
         ensures { (w : World) (calls : SlotCalls) → IsCacheOf w calls self.now → IfOk result (λ r. IfSome r (λ h. counted_host_at w number ≡ Some h)) }
     {
-        self.hosts.row(&number)
+        self.hosts.rows.row(&number)
     }
 
     /// Remembers the host of a number.
@@ -96,7 +146,7 @@ impl Cache {
         ensures { (w : World) (calls : SlotCalls) → IsCacheOf w calls self.old → found.now ≡ counted_host_at w number → IsCacheOf w calls self.new }
     {
         if let Some(row) = found {
-            self.hosts.remember(number, row);
+            self.hosts.rows.remember(number, row);
         }
     }
 
@@ -104,13 +154,20 @@ impl Cache {
     pub fn credit(&self, account: u32) -> Option<u64>
         ensures { (w : World) (calls : SlotCalls) → IsCacheOf w calls self.now → IfSome result (λ credit. credit ≡ user_credit w account) }
     {
-        self.credits.value(&account)
+        self.hosts.credits.value(&account)
     }
 
     /// Remembers the credit of the user of an account.
     pub fn remember_credit(&mut self, account: u32, credit: u64)
         ensures { (w : World) (calls : SlotCalls) → IsCacheOf w calls self.old → credit ≡ user_credit w account → IsCacheOf w calls self.new }
     {
-        self.credits.put(account, credit);
+        self.hosts.credits.put(account, credit);
+    }
+
+    /// Remembers how many hosts there are. So a host of a greater number is known to be new.
+    pub fn remember_counts(&mut self, counts: &Counts)
+        ensures { (w : World) (calls : SlotCalls) → IsCacheOf w calls self.old → counts.now ≡ counts_of w → IsCacheOf w calls self.new }
+    {
+        self.hosts.last = Some(counts.hosts);
     }
 }

@@ -44,15 +44,15 @@ impl Cache {
     /// Takes note of a row that was put.
     fn note_row(&mut self, alloc: Global, row: &StoredRow)
         ensures carried { AreCarried (IsOtherKey row.now) self.old self.new }
-        ensures hosts { (f : ℕ → Option Counted) → AreOfHosts f self.old.hosts self.old.credits → AreOfHosts (with_host f row.now) self.new.hosts self.new.credits }
+        ensures hosts { (f : ℕ → Option Counted) → AreOfHosts f self.old.hosts → AreOfHosts (with_host f row.now) self.new.hosts }
         ensures jobs { (f : ℕ → ℕ → Option Job) → AreOfJobs f self.old.instances self.old.sent → AreOfJobs (with_job f row.now) self.new.instances self.new.sent }
         ensures skips { (waiting : ℕ → ℕ → Option Bool) (jobs : ℕ → ℕ → Option Job) (hosts : ℕ → Option Counted)
-            → AreOfHosts hosts self.old.hosts self.old.credits → AreOfJobs jobs self.old.instances self.old.sent → AreSkipsFor waiting jobs hosts self.old.skips
+            → AreOfHosts hosts self.old.hosts → AreOfJobs jobs self.old.instances self.old.sent → AreSkipsFor waiting jobs hosts self.old.skips
             → AreSkipsFor (with_wait waiting row.now) (with_job jobs row.now) (with_host hosts row.now) self.new.skips }
         ensures page { (waiting : ℕ → ℕ → Option Bool) → IfSome self.old.page (IsPageFor waiting) → IfSome self.new.page (IsPageFor (with_wait waiting row.now)) }
         ensures held { (jobs : ℕ → ℕ → Option Job) → AreOfJobs jobs self.old.instances self.old.sent
             → AreHeldOf (holders_of jobs) self.old.held → AreHeldOf (holders_of (with_job jobs row.now)) self.new.held }
-        ensures keys { (hosts : ℕ → Option Counted) → AreOfHosts hosts self.old.hosts self.old.credits → AreKeysOf hosts self.old.keys → AreKeysOf (with_host hosts row.now) self.new.keys }
+        ensures keys { (hosts : ℕ → Option Counted) → AreOfHosts hosts self.old.hosts → AreKeysOf hosts self.old.keys → AreKeysOf (with_host hosts row.now) self.new.keys }
         ensures names { (titles : ℕ → Option (List ℕ)) → AreNamesOf titles self.old.units self.old.names → AreNamesOf (with_title titles row.now) self.new.units self.new.names }
     {
         match row {
@@ -70,7 +70,7 @@ impl Cache {
             StoredRow::Host(row) => {
                 self.skips.follow_host(&self.hosts, row);
                 follow_host_key(&mut self.keys, &self.hosts, row);
-                renew_host(alloc, &mut self.hosts, &mut self.credits, row);
+                renew_host(alloc, &mut self.hosts, row);
             }
             StoredRow::Account(_) => self.accounts.forget_all(),
             StoredRow::Version(_) | StoredRow::VersionClass(_) => self.versions.clear(),
@@ -87,14 +87,14 @@ impl Cache {
     /// and the page of what waits follow it. Everything else that was read of them is forgotten, with the slot for a call.
     fn follow(&mut self, alloc: Global, changes: &[RowChange])
         ensures carried { AreCarried (IsUnput changes.now) self.old self.new }
-        ensures hosts { (f : ℕ → Option Counted) → AreOfHosts f self.old.hosts self.old.credits → AreOfHosts (with_hosts f changes.now) self.new.hosts self.new.credits }
+        ensures hosts { (f : ℕ → Option Counted) → AreOfHosts f self.old.hosts → AreOfHosts (with_hosts f changes.now) self.new.hosts }
         ensures jobs { (f : ℕ → ℕ → Option Job) → AreOfJobs f self.old.instances self.old.sent → AreOfJobs (with_jobs f changes.now) self.new.instances self.new.sent }
         ensures skips { (waiting : ℕ → ℕ → Option Bool) (jobs : ℕ → ℕ → Option Job) (hosts : ℕ → Option Counted)
-            → AreOfHosts hosts self.old.hosts self.old.credits → AreOfJobs jobs self.old.instances self.old.sent → AreSkipsFor waiting jobs hosts self.old.skips
+            → AreOfHosts hosts self.old.hosts → AreOfJobs jobs self.old.instances self.old.sent → AreSkipsFor waiting jobs hosts self.old.skips
             → AreSkipsFor (with_waits waiting changes.now) (with_jobs jobs changes.now) (with_hosts hosts changes.now) self.new.skips }
         ensures held { (jobs : ℕ → ℕ → Option Job) → AreOfJobs jobs self.old.instances self.old.sent
             → AreHeldOf (holders_of jobs) self.old.held → AreHeldOf (holders_of (with_jobs jobs changes.now)) self.new.held }
-        ensures keys { (hosts : ℕ → Option Counted) → AreOfHosts hosts self.old.hosts self.old.credits → AreKeysOf hosts self.old.keys → AreKeysOf (with_hosts hosts changes.now) self.new.keys }
+        ensures keys { (hosts : ℕ → Option Counted) → AreOfHosts hosts self.old.hosts → AreKeysOf hosts self.old.keys → AreKeysOf (with_hosts hosts changes.now) self.new.keys }
         ensures names { (titles : ℕ → Option (List ℕ)) → AreNamesOf titles self.old.units self.old.names → AreNamesOf (with_titles titles changes.now) self.new.units self.new.names }
         ensures slot { self.new.slot ≡ None }
         ensures page { (waiting : ℕ → ℕ → Option Bool) → IfSome self.old.page (IsPageFor waiting) → IfSome self.new.page (IsPageFor (with_waits waiting changes.now)) }

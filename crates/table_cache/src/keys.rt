@@ -7,13 +7,15 @@ ghost use Rattle.sched_book.specs.declared.world.World.{World};
 ghost use Rattle.table_desk.specs.declared.hosts.CountedHost.{CountedHost as Counted};
 ghost use Rattle.table_meaning.specs.Worlds.{SlotCalls};
 ghost use Rattle.table_meaning.specs.declared.rows.StoredRow.TheVariants as stored;
-ghost use Rattle.table_cache.specs.Carrying.{with_host};
+ghost use Rattle.table_cache.specs.Carrying.{with_host, AreOfHosts};
 ghost use Rattle.table_cache.specs.Keys.{with_title, AreKeysOf, AreFirstUnits, AreTitled, KeepsKey, KeepsName};
 ghost use Rattle.table_cache.specs.Remembering.{IsCacheOf};
 ghost use Rattle.std.specs.Ordering.{nat_cmp};
 ghost use Rattle.table_cache.specs.RowsRead.{HoldOfEach};
 
 use crate::cache::Cache;
+use crate::credits::HostsRead;
+use crate::last_number::is_past;
 use crate::rows_read::RowsRead;
 use sched_book::{Account, Placed, Workunit, copy_of};
 use std::alloc::Global;
@@ -61,17 +63,19 @@ fn keeps_key(known: &RowsRead<u32, CountedHost>, row: &StoredHost) -> bool
     }
 }
 
-/// Follows the row of a host that was put. If the host is not known, or had another account or host_cpid, all keys are
-/// forgotten.
+/// Follows the row of a host that was put. If the host is not new, and is not known or had another account or host_cpid, all
+/// keys are forgotten.
 pub(crate) fn follow_host_key(
     keys: &mut RowsRead<Text, HostKeyRead>,
-    known: &RowsRead<u32, CountedHost>,
+    known: &HostsRead,
     row: &StoredHost,
 )
-    ensures { (hosts : ℕ → Option Counted) → HoldOfEach nat_cmp (λ number h. hosts number ≡ Some h) known.now → AreKeysOf hosts keys.old
-        → AreKeysOf (with_host hosts (stored.Host row.now)) keys.new }
+    ensures { (hosts : ℕ → Option Counted) → AreOfHosts hosts known.now → AreKeysOf hosts keys.old → AreKeysOf (with_host hosts (stored.Host row.now)) keys.new }
 {
-    if !keeps_key(known, row) {
+    if is_past(known.last, row.id) {
+        return;
+    }
+    if !keeps_key(&known.rows, row) {
         keys.forget_all();
     }
 }

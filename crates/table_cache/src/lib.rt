@@ -6,6 +6,7 @@ mod credits;
 mod following;
 mod holding;
 mod keys;
+mod last_number;
 mod rows_read;
 mod sent;
 mod skips;

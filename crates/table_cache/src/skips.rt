@@ -7,15 +7,17 @@ ghost use Rattle.sched_book.specs.Places.{host_of};
 ghost use Rattle.sched_book.specs.declared.instance.Instance.{Instance as Job};
 ghost use Rattle.table_desk.specs.declared.hosts.CountedHost.{CountedHost as Counted};
 ghost use Rattle.table_meaning.specs.declared.rows.StoredRow.TheVariants as stored;
-ghost use Rattle.table_cache.specs.Carrying.{with_host, with_job};
+ghost use Rattle.table_cache.specs.Carrying.{with_host, with_job, AreOfHosts};
 ghost use Rattle.table_cache.specs.Covering.{with_wait, AreSkipsFor, IsSkipFor, IsHadBefore, IsUserSkip, KeepsAccount, KeepsHost};
 ghost use Rattle.table_desk.specs.WaitingPage.{with_wait_at};
 ghost use Rattle.table_cache.specs.RowsRead.{HoldOfEach};
 
+use crate::credits::HostsRead;
+use crate::last_number::is_past;
 use crate::rows_read::RowsRead;
 use sched_book::{Instance, Place};
 use std::alloc::Global;
-use table_desk::{CountedHost, Skip};
+use table_desk::Skip;
 use table_meaning::rows::{StoredHost, StoredInstance};
 use texts::Listed;
 
@@ -135,11 +137,14 @@ fn keeps_host(known: &RowsRead<u32, Listed<Instance>>, row: &StoredInstance) -> 
     }
 }
 
-/// Whether the host of the row is known, and the row leaves it with its account.
-fn keeps_account(known: &RowsRead<u32, CountedHost>, row: &StoredHost) -> bool
-    ensures { IsTrue result → (hosts : ℕ → Option Counted) → HoldOfEach nat_cmp (λ number h. hosts number ≡ Some h) known.now → KeepsAccount hosts row.now }
+/// Whether the host of the row is new, or is known and the row leaves it with its account.
+fn keeps_account(known: &HostsRead, row: &StoredHost) -> bool
+    ensures { IsTrue result → (hosts : ℕ → Option Counted) → AreOfHosts hosts known.now → KeepsAccount hosts row.now }
 {
-    match known.seen(&row.id) {
+    if is_past(known.last, row.id) {
+        return true;
+    }
+    match known.rows.seen(&row.id) {
         None => false,
         Some(host) => host.row.account == row.account_id,
     }
@@ -233,11 +238,11 @@ impl Skips {
         }
     }
 
-    /// Follows the row of a host that was put. If the host is not known, or belonged to another account, all skips are
-    /// forgotten.
-    pub(crate) fn follow_host(&mut self, known: &RowsRead<u32, CountedHost>, row: &StoredHost)
+    /// Follows the row of a host that was put. If the host is not new, and is not known or belonged to another account, all
+    /// skips are forgotten.
+    pub(crate) fn follow_host(&mut self, known: &HostsRead, row: &StoredHost)
         ensures { (waiting : ℕ → ℕ → Option Bool) (jobs : ℕ → ℕ → Option Job) (hosts : ℕ → Option Counted)
-            → HoldOfEach nat_cmp (λ number h. hosts number ≡ Some h) known.now → AreSkipsFor waiting jobs hosts self.old
+            → AreOfHosts hosts known.now → AreSkipsFor waiting jobs hosts self.old
             → AreSkipsFor waiting jobs (with_host hosts (stored.Host row.now)) self.new }
     {
         if !keeps_account(known, row) {

@@ -21,7 +21,7 @@ loop-change-preserved c =
       subst (λ rs. AreCarried (IsUnput rs) c.args.self.now c.note_row.new.self) (sym next)
           (carried_more so_far row c.args.self.now c.loop-change.self c.note_row.new.self c.loop-change.invariant.0 c.note_row.ensures.carried),
       λ f before.
-          subst (λ hosts. AreOfHosts hosts c.note_row.new.self.hosts c.note_row.new.self.credits) (sym (ap (with_hosts f) next ∙ fold-append with_host f so_far (row ∷ [])))
+          subst (λ hosts. AreOfHosts hosts c.note_row.new.self.hosts) (sym (ap (with_hosts f) next ∙ fold-append with_host f so_far (row ∷ [])))
           (c.note_row.ensures.hosts (with_hosts f so_far) (c.loop-change.invariant.1 f before)),
       λ f before.
           subst (λ jobs. AreOfJobs jobs c.note_row.new.self.instances c.note_row.new.self.sent) (sym (ap (with_jobs f) next ∙ fold-append with_job f so_far (row ∷ [])))
@@ -52,7 +52,7 @@ returns-clause-carried c =
 
 pub returns-clause-hosts : goal.returns-clause-hosts
 returns-clause-hosts c = λ f before.
-    subst (λ rs. AreOfHosts (with_hosts f rs) c.loop-change.self.hosts c.loop-change.self.credits) (take_all c.loop-change.change-index c.args.changes.now c.loop-change-test.false) (c.loop-change.invariant.1 f before)
+    subst (λ rs. AreOfHosts (with_hosts f rs) c.loop-change.self.hosts) (take_all c.loop-change.change-index c.args.changes.now c.loop-change-test.false) (c.loop-change.invariant.1 f before)
 
 pub returns-clause-jobs : goal.returns-clause-jobs
 returns-clause-jobs c = λ f before.

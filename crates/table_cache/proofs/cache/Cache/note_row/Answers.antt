@@ -36,7 +36,7 @@ returns-in-Instance-clause-skips c = λ waiting jobs hosts of_hosts of_jobs are.
 
 pub returns-in-Host-clause-skips : goal.returns-in-Host-clause-skips
 returns-in-Host-clause-skips c = λ waiting jobs hosts of_hosts of_jobs are.
-    subst (λ r. AreSkipsFor (with_wait waiting r) (with_job jobs r) (with_host hosts r) c.follow_host.new.self) (sym c.in-Host.is) (c.follow_host.ensures waiting jobs hosts of_hosts.each are)
+    subst (λ r. AreSkipsFor (with_wait waiting r) (with_job jobs r) (with_host hosts r) c.follow_host.new.self) (sym c.in-Host.is) (c.follow_host.ensures waiting jobs hosts of_hosts are)
 
 pub returns-in-Version-clause-page : goal.returns-in-Version-clause-page
 returns-in-Version-clause-page c = λ waiting is. elim c.in-Version.is [
@@ -71,7 +71,7 @@ returns-in-Version-clause-names c = λ titles are. elim c.in-Version.is [
 
 pub returns-in-Host-clause-keys : goal.returns-in-Host-clause-keys
 returns-in-Host-clause-keys c = λ hosts of_hosts are.
-    subst (λ r. AreKeysOf (with_host hosts r) c.follow_host_key.new.keys) (sym c.in-Host.is) (c.follow_host_key.ensures hosts of_hosts.each are)
+    subst (λ r. AreKeysOf (with_host hosts r) c.follow_host_key.new.keys) (sym c.in-Host.is) (c.follow_host_key.ensures hosts of_hosts are)
 
 pub returns-in-Unit-clause-names : goal.returns-in-Unit-clause-names
 returns-in-Unit-clause-names c = λ titles are.

@@ -16,6 +16,7 @@ returns-in-Ok-account_read c = λ w calls read found.
       instances = read.instances;
       hosts = read.hosts;
       credits = read.credits;
+      last_host = read.last_host;
       sent = read.sent;
       held = read.held;
       accounts = holds_with (slice_cmp nat_cmp) one_text (IsAccountOf w) c.args.self.now.accounts c.put.new.self c.in-Ok.key c.in-Ok-account_read.read c.put.ensures read.accounts here;

@@ -10,6 +10,7 @@ returns c = λ w calls read is. record {
   instances = read.instances;
   hosts = read.hosts;
   credits = read.credits;
+  last_host = read.last_host;
   sent = read.sent;
   held = read.held;
   accounts = read.accounts;

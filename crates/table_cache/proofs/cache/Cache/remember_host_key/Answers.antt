@@ -15,6 +15,7 @@ returns-in-Ok c = λ w calls read found.
       instances = read.instances;
       hosts = read.hosts;
       credits = read.credits;
+      last_host = read.last_host;
       sent = read.sent;
       held = read.held;
       accounts = read.accounts;

@@ -14,6 +14,7 @@ loop-unit-preserved c = λ w calls before all.
       instances = so_far.instances;
       hosts = so_far.hosts;
       credits = so_far.credits;
+      last_host = so_far.last_host;
       sent = so_far.sent;
       held = so_far.held;
       accounts = so_far.accounts;
