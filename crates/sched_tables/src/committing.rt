@@ -8,11 +8,9 @@ ghost use Rattle.sched_tables.specs.Entries.{ArePutWith, IsRowOf, MakesWith};
 ghost use Rattle.sched_book.specs.Delta.{applied};
 ghost use Rattle.sched_book.specs.Sound.{Sound};
 ghost use Rattle.sched_tables.specs.Held.{IsHonest};
-ghost use Rattle.sched_tables.specs.DueFrom.{NothingIsDueBefore};
-ghost use Rattle.table_cache.specs.Remembering.{IsCacheOf};
 ghost use Rattle.sched_tables.specs.Reopening.{Reopens};
 ghost use Rattle.stores.specs.Standing.{MayBeKept};
-ghost use Rattle.sched_tables.specs.Views.{state_of, world_of, slots_of, AreKept, AreReadOn};
+ghost use Rattle.sched_tables.specs.Views.{state_of, settings_of, apps_of, world_of, slots_of, AreKept, AreReadOn, CacheWhatTheyHold, MissNothingDue};
 
 use crate::due::lowered;
 use crate::tables::Tables;
@@ -116,16 +114,16 @@ impl<S: Alter> Tables<S> {
         ensures honest { IsHonest (state_of S.Store self.new) → IsHonest (state_of S.Store self.old) }
         ensures open { HasCleanDisk (state_of S.Store self.new) → OnOk result (IsTrue (state_of S.Store self.new).is_open) }
         ensures idle { (state_of S.Store self.old).in_transaction ≡ false → (state_of S.Store self.new).in_transaction ≡ false }
-        ensures settings { self.new.settings ≡ self.old.settings }
-        ensures due_from { IsHonest (state_of S.Store self.new) → AreKept S.Store self.old → NothingIsDueBefore (world_of S.Store self.new) self.new.due_from }
-        ensures remembers { IsHonest (state_of S.Store self.new) → AreKept S.Store self.old → IsCacheOf (world_of S.Store self.new) (slots_of S.Store self.new) self.new.cache }
-        ensures apps { OnOk result (self.new.apps ≡ apps_then self.old.apps delta.now) }
+        ensures settings { settings_of self.new ≡ settings_of self.old }
+        ensures due_from { IsHonest (state_of S.Store self.new) → AreKept S.Store self.old → MissNothingDue S.Store self.new }
+        ensures remembers { IsHonest (state_of S.Store self.new) → AreKept S.Store self.old → CacheWhatTheyHold S.Store self.new }
+        ensures apps { OnOk result (apps_of self.new ≡ apps_then (apps_of self.old) delta.now) }
         ensures rests { IsHonest (state_of S.Store self.new) → OnOk result ((state_of S.Store self.new).now ≡ (state_of S.Store self.new).committed) }
         ensures made { IsHonest (state_of S.Store self.new) → AreKept S.Store self.old
             → OnOk result (MakesWith (world_of S.Store self.old) delta.now entry.now (state_of S.Store self.old).now (state_of S.Store self.new).now) }
         ensures left { IsHonest (state_of S.Store self.new) → AreKept S.Store self.old → OnErr result (
             ((state_of S.Store self.new).now ≡ (state_of S.Store self.old).now) × ((state_of S.Store self.new).committed ≡ (state_of S.Store self.old).committed)
-            × (self.new.apps ≡ self.old.apps)) }
+            × (apps_of self.new ≡ apps_of self.old)) }
         ensures crash { Survives (state_of S.Store self.old) (state_of S.Store self.new)
             (λ trees. IsTrue (state_of S.Store self.old).is_open × (AreKept S.Store self.old
             → (db : _) × MakesWith (world_of S.Store self.old) delta.now entry.now (state_of S.Store self.old).now db × (trees ≡ db.trees))) }
