@@ -12,8 +12,8 @@ Settings and applications are cached. All else is looked up by the statements of
 as the program does. Rows of accounts and workunits, and versions, stay cached until such a row is put. Rows
 of instances and hosts stay cached, as they are put. So do the credit of users, how many jobs a host was sent
 on a day, what hosts hold, and the first places of what waits. Hosts by account and client, and workunits by
-name, stay cached until such a row is put with another key or name. The slot for a host's next call stays
-cached until anything is put. With --once no look-up is cached from one message to the next, and no statement runs twice for one
+name, stay cached until such a row is put with another key or name. A row that is past the last one leaves all
+this cached: no row had its number. The slot for a host's next call stays cached until anything is put. With --once no look-up is cached from one message to the next, and no statement runs twice for one
 message. Each message that changes anything is one transaction, which is on the disk before the answer
 (journal_mode WAL, synchronous FULL).
 """
@@ -332,6 +332,8 @@ class Tables:
         self.versions = Kept(MOST_VERSIONS)
         # the credit of users by account; and by host: a day, and how many jobs the host was sent on it
         self.credits, self.sent = Kept(MOST_SMALL), Kept(MOST_SMALL)
+        # the number of the last host and of the last workunit, once they were counted
+        self.last = {}
         # the places of the jobs that hosts hold, in order
         self.held = Kept(MOST_LARGE)
         # no held instance has a deadline before the mark; `asked` is the moment that was asked about last
@@ -354,7 +356,15 @@ class Tables:
         """Clears the cache of look-ups."""
         for seen in (*self.seen.values(), self.versions, self.credits, self.sent, self.held):
             seen.clear()
+        self.last.clear()
         self.page = None
+
+    def is_new(self, table, number):
+        """Returns whether a row that was put is known to be new, since its number is past the last one."""
+        is_new = table in self.last and number > self.last[table]
+        if is_new:
+            self.last[table] = number
+        return is_new
 
     def note(self, table, row):
         """Brings the cache up to date after a row was put: the cached row is replaced or removed."""
@@ -362,7 +372,9 @@ class Tables:
         if table in ("unit", "unit_mark"):
             known = self.seen["workunit"].pop(key, None)
             self.seen["mark of a workunit"].pop(key, None)
-            if table == "unit" and (not known or known[0][1] != row[1]):
+            if table == "unit" and self.is_new(table, row[0]):
+                self.seen["instances of a workunit"].keep(key, [])
+            elif table == "unit" and (not known or known[0][1] != row[1]):
                 self.seen["workunit by name"].clear()
         elif table == "instance":
             number, known = row[1], self.seen["instances of a workunit"].pop(key, None)
@@ -372,10 +384,10 @@ class Tables:
             if known is not None and number <= len(known):
                 self.seen["instances of a workunit"].keep(key, [*known[:number], row, *known[number + 1 :]])
         elif table == "host":
-            known = self.seen["host by number"].pop(key, None)
-            if not known or known[0][1:3] != row[1:3]:
+            known, is_new = self.seen["host by number"].pop(key, None), self.is_new(table, row[0])
+            if not is_new and (not known or known[0][1:3] != row[1:3]):
                 self.seen["host by account and client"].clear()
-            self.move_credit(known, row)
+            self.move_credit(known, is_new, row)
             self.seen["host by number"].keep(key, [row])
         elif table == "account":
             self.seen["account by authenticator"].clear()
@@ -385,13 +397,13 @@ class Tables:
             self.seen["workunit"].clear()
             self.seen["mark of a workunit"].clear()
 
-    def move_credit(self, known, row):
-        """If the host was cached, changes the cached credit of its user by what the row adds."""
+    def move_credit(self, known, is_new, row):
+        """If the host was cached, or is new, changes the cached credit of its user by what the row adds."""
         account = row[1]
-        if not known or known[0][1] != account:
+        if not is_new and (not known or known[0][1] != account):
             self.credits.clear()
         elif account in self.credits:
-            self.credits[account] += row[9] - known[0][9]
+            self.credits[account] += row[9] - (0 if is_new else known[0][9])
 
     def move_sent(self, known, row):
         """If the workunit's instances were cached, changes the cached count of jobs sent to a host on a
@@ -510,8 +522,10 @@ class Tables:
         return self.slot[1]
 
     def counts(self):
-        """Returns how many rows each table has."""
-        return {table: self.number_of(f"count of {table}s") or 0 for table in ("account", "app", "version", "unit", "host")}
+        """Returns how many rows each table has. A host or a workunit with a greater number is new from now on."""
+        counts = {table: self.number_of(f"count of {table}s") or 0 for table in ("account", "app", "version", "unit", "host")}
+        self.last = {table: counts[table] for table in ("host", "unit")}
+        return counts
 
     def unit_row(self, number):
         """Returns the row of a workunit, with its mark."""

@@ -7,6 +7,7 @@ use Rattle.std.specs.declared.cmp.Ordering.{Ordering}
 use Rattle.std.proofs.lemmas.Bool.{eqb-true, eq-eqb}
 use Rattle.std.proofs.lemmas.List.{append-nil, append_assoc}
 use Rattle.std.proofs.lemmas.List.Elements.{All-nil}
+use Rattle.std.proofs.lemmas.Option.{none-some}
 use Rattle.sched_book.specs.Desk.{placed_where, workunit_at, instances_at}
 use Rattle.sched_book.specs.Fits.{version_among, version_at}
 use Rattle.sched_book.specs.Places.{nth}
@@ -29,7 +30,8 @@ use Rattle.table_worlds.specs.Keys.{row_key, row_in}
 use Rattle.table_worlds.specs.Readable.{IsReadable}
 use Rattle.table_worlds.specs.declared.keys.WorldKey.{WorldKey}
 use Rattle.table_worlds.specs.declared.keys.WorldKey.TheVariants as key
-use Rattle.table_cache.specs.Carrying.{IsStillKnown, job_of, counted_of, with_host, with_hosts, with_job, with_jobs, shares, sent_among, AreCarried, AreNonePast, AreOfHosts, AreOfJobs}
+use Rattle.table_cache.specs.Carrying.{IsStillKnown, job_of, counted_of, with_host, with_hosts, with_job, with_jobs, shares, sent_among, AreCarried, AreOfHosts, AreOfJobs}
+use Rattle.table_cache.specs.LastNumbers.{AreNoJobsPast, AreNonePast}
 use Rattle.table_cache.specs.Leading.{IsOtherKey, IsUnput, IsPut}
 use Rattle.table_cache.specs.Covering.{jobs_of, with_wait, with_waits, AreSkipsFor}
 use Rattle.table_desk.specs.WaitingPage.{waiting_of, IsPageFor}
@@ -76,7 +78,7 @@ module _ (rows : List StoredRow) (r : StoredRow) where
 
   pub carried_more : (old mid new : Cache) → AreCarried (IsUnput rows) old mid → AreCarried (IsOtherKey r) mid new → AreCarried (IsUnput (rows ++ r ∷ [])) old new
   carried_more old mid new one two = record {
-    units = some_of_some nat_cmp _ _ _ old.units mid.units new.units
+    units = some_of_some nat_cmp _ _ _ old.units.rows mid.units.rows new.units.rows
         (λ n a b. (unput_more rows r _ a.0 b.0, unput_more rows r _ a.1 b.1, λ id. unput_more rows r _ (a.2 id) (b.2 id))) one.units two.units;
     accounts = some_of_some (slice_cmp nat_cmp) _ _ _ old.accounts mid.accounts new.accounts (λ _ a b id. unput_more rows r _ (a id) (b id)) one.accounts two.accounts;
     versions = elim two.versions [
@@ -171,11 +173,16 @@ pub title_known : (rows : List StoredRow) (titles : ℕ → Option (List ℕ)) (
 title_known rows titles place = known_after title_of (unit_key place) with_title (λ (ts : ℕ → Option (List ℕ)). ts place) (λ r ts. one_title r ts place) rows titles
 
 -- what is known of a world's workunits and of their names is theirs
-pub names_of_world : (w : World) (calls : SlotCalls) (r : Cache) → IsCacheOf w calls r → AreNamesOf (title_at w) r.units r.names
+pub names_of_world : (w : World) (calls : SlotCalls) (r : Cache) → IsCacheOf w calls r → AreNamesOf (title_at w) r.units
 names_of_world w calls r known = record {
   each = λ n u is. ap (option_map (λ (u : Workunit). u.name)) (known.units n u is);
   first = λ name n is. first_unit w name n (known.names name n is);
+  none_past = untitled r.units.last known.last_unit;
 }
+  where
+    untitled : (last : Option ℕ) → IfSome last (AreNonePast (workunit_at w)) → IfSome last (AreNonePast (title_at w))
+    untitled None none = tt
+    untitled (Some last) none = λ n past. ap (option_map (λ (u : Workunit). u.name)) (none n past)
 
 -- ---- instances of rows that are put
 
@@ -234,12 +241,13 @@ pub wait_known : (rows : List StoredRow) (waiting : ℕ → ℕ → Option Bool)
 wait_known rows waiting unit number = known_after queued_of (instance_key unit number) with_wait (λ (ws : ℕ → ℕ → Option Bool). ws unit number) (λ r ws. one_wait r ws unit number) rows waiting
 
 -- what is known of a world's instances and of how many its hosts were sent is theirs
-pub jobs_of_world : (w : World) (calls : SlotCalls) (r : Cache) → IsCacheOf w calls r → AreOfJobs (jobs_of w) r.instances r.sent
+pub jobs_of_world : (w : World) (calls : SlotCalls) (r : Cache) → IsCacheOf w calls r → AreOfJobs (jobs_of w) r.jobs
 jobs_of_world w calls r known = record {
   each = λ unit xs is number. ap (λ (ys : List Job). slice_get ys number) (known.instances unit xs is);
   units = suc (length w.units);
   numbers = most_numbers w.units;
   counted = λ host s is more further. known.sent host s is ∙ sent_shared w host s.day more further;
+  none_past = known.last_jobs;
 }
 
 -- ---- what is carried is the world's after
@@ -255,8 +263,8 @@ module _ (w w' : World) (readable : IsReadable w) (readable' : IsReadable w') (S
     (jobs : ℕ → ℕ → Option Job) (jobs_known : (n num : ℕ) → IsStillKnown Stays Puts job_of (instance_key n num) (jobs_of w n num) (jobs n num))
     (waiting : ℕ → ℕ → Option Bool) (waits_known : (n num : ℕ) → IsStillKnown Stays Puts queued_of (instance_key n num) (waiting_of w n num) (waiting n num))
     (titles : ℕ → Option (List ℕ)) (titles_known : (n : ℕ) → IsStillKnown Stays Puts title_of (unit_key n) (title_at w n) (titles n))
-    (calls calls' : SlotCalls) (old new : Cache) (of_hosts : AreOfHosts hosts new.hosts) (of_jobs : AreOfJobs jobs new.instances new.sent) (of_skips : AreSkipsFor waiting jobs hosts new.skips) (of_page : IfSome new.page (IsPageFor waiting)) (of_held : AreHeldOf (holders_of jobs) new.held)
-    (of_keys : AreKeysOf hosts new.keys) (of_names : AreNamesOf titles new.units new.names) (left : AreCarried Stays old new) (none : new.slot ≡ None) (before : IsCacheOf w calls old) where
+    (calls calls' : SlotCalls) (old new : Cache) (of_hosts : AreOfHosts hosts new.hosts) (of_jobs : AreOfJobs jobs new.jobs) (of_skips : AreSkipsFor waiting jobs hosts new.skips) (of_page : IfSome new.page (IsPageFor waiting)) (of_held : AreHeldOf (holders_of jobs) new.held)
+    (of_keys : AreKeysOf hosts new.keys) (of_names : AreNamesOf titles new.units) (left : AreCarried Stays old new) (none : new.slot ≡ None) (before : IsCacheOf w calls old) where
   apps_stay : ((id : ℕ) → Stays (row_key (key.App id))) → w.apps ≡ w'.apps
   apps_stay unput = same_apps w w' readable readable' (λ n. stay (key.App n) (unput n))
 
@@ -297,9 +305,17 @@ module _ (w w' : World) (readable : IsReadable w) (readable' : IsReadable w') (S
     | inr told ↦ told.3 ∙ sym (ap (option_map title_of) (put told.0 (key.Unit n) told.1 told.2)) ∙ sym (title_told w' n)
   ]
 
+  no_units : (last : Option ℕ) → IfSome last (AreNonePast titles) → IfSome last (AreNonePast (workunit_at w'))
+  no_units None none = tt
+  no_units (Some last) none = λ n past. untold (workunit_at w' n) (sym (titles_then n) ∙ none n past)
+    where
+      untold : (o : Option Workunit) → option_map (λ (u : Workunit). u.name) o ≡ None → o ≡ None
+      untold None is = refl
+      untold (Some u) is = absurd (none-some u.name (sym is))
+
   pub remembered_then : IsCacheOf w' calls' new
   remembered_then = record {
-    units = holds_of_some nat_cmp _ (λ n u. workunit_at w n ≡ Some u) (λ n u. workunit_at w' n ≡ Some u) old.units new.units left.units before.units
+    units = holds_of_some nat_cmp _ (λ n u. workunit_at w n ≡ Some u) (λ n u. workunit_at w' n ≡ Some u) old.units.rows new.units.rows left.units before.units
         (λ n u unput is. sym (same_workunit w w' readable readable' n (apps_stay unput.2) (stay (key.Unit n) unput.0) (stay (key.Mark n) unput.1)) ∙ is);
     instances = λ n xs is. same_by_index xs (instances_at w' n) (λ num. of_jobs.each n xs is num ∙ jobs_then n num);
     hosts = λ n h is. sym (are_then n) ∙ of_hosts.each n h is;
@@ -318,6 +334,8 @@ module _ (w w' : World) (readable : IsReadable w) (readable' : IsReadable w') (S
         (λ name a unput is. subst (λ (accounts : List Account). placed_where (λ (a : Account). bytes_eq a.authenticator name) accounts ≡ Some (record { place = a.place; row = a.row })) (same_accounts w w' readable readable' (λ n. stay (key.Account n) (unput n))) is);
     keys = λ cpid k is. host_of_first w' k.account cpid k.host (subst (λ (hs : ℕ → Option CountedHost). IsFirstHost hs k.account cpid k.host) (λ i n. are_then n i) (of_keys.each cpid k is));
     names = λ name n is. unit_of_first w' name n (subst (λ (ts : ℕ → Option (List ℕ)). IsFirstUnit ts name n) (λ i m. titles_then m i) (of_names.first name n is));
+    last_unit = no_units new.units.last of_names.none_past;
+    last_jobs = subst (λ (js : ℕ → ℕ → Option Job). IfSome new.jobs.last (AreNoJobsPast js)) (λ i n num. jobs_then n num i) of_jobs.none_past;
     versions = versions_left old.versions.items new.versions.items left.versions before.versions;
     slot = subst (λ o. IfSome o (IsSlotOf calls')) (sym none) tt;
     page = subst (λ (ws : ℕ → ℕ → Option Bool). IfSome new.page (IsPageFor ws)) (λ i n num. waits_then n num i) of_page;

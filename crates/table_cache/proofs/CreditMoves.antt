@@ -15,7 +15,8 @@ use Rattle.sched_book.proofs.PlacesOf.{nth-suc}
 use Rattle.sched_book.proofs.Settling.{slice_get-enumerate_from}
 use Rattle.table_desk.specs.Columns.{counted_host_at}
 use Rattle.table_desk.specs.declared.hosts.CountedHost.{CountedHost}
-use Rattle.table_cache.specs.Carrying.{with_counted, share, shares, AreCreditsOf, AreNonePast, IsAtMost, IsPast, IsShareOf}
+use Rattle.table_cache.specs.Carrying.{with_counted, share, shares, AreCreditsOf, IsShareOf}
+use Rattle.table_cache.specs.LastNumbers.{AreNonePast, IsAtMost, IsPast}
 use Rattle.table_cache.specs.RowsRead.{HoldOfEach, HasKept, IsWithout}
 use Rattle.table_cache.specs.declared.rows_read.RowsRead.{RowsRead}
 

@@ -18,7 +18,8 @@ use Rattle.table_desk.specs.declared.hosts.CountedHost.{CountedHost}
 use Rattle.table_meaning.specs.declared.rows.StoredHost.{StoredHost}
 use Rattle.table_meaning.specs.declared.rows.StoredRow.TheVariants as stored
 use Rattle.table_meaning.specs.declared.rows.StoredUnit.{StoredUnit}
-use Rattle.table_cache.specs.Carrying.{counted_of, with_host, AreNonePast, IsPast}
+use Rattle.table_cache.specs.Carrying.{counted_of, with_host}
+use Rattle.table_cache.specs.LastNumbers.{AreNonePast, IsPast}
 use Rattle.table_cache.specs.Keys.{has_key, title_at, with_title, AreFirstUnits, AreKeysOf, AreTitled, IsFirst, IsFirstHost, IsFirstUnit, KeepsKey, KeepsName}
 use Rattle.table_cache.specs.RowsRead.{IsWithout}
 use Rattle.table_cache.specs.declared.keys.HostKeyRead.{HostKeyRead}
@@ -164,12 +165,23 @@ module _ (titles : ℕ → Option (List ℕ)) (row : StoredUnit) where
   then_titled : (n : ℕ) (b : Bool) → eqb row.id n ≡ b → with_title titles (stored.Unit row) n ≡ cond b (Some row.name) (titles n)
   then_titled n b is = ap (λ c. cond c (Some row.name) (titles n)) is
 
+  pub titles_elsewhere : (n : ℕ) → eqb row.id n ≡ false → with_title titles (stored.Unit row) n ≡ titles n
+  titles_elsewhere n other = then_titled n false other
+
   pub names_followed : KeepsName titles row → (names : RowsRead (List ℕ) ℕ) → AreFirstUnits titles names → AreFirstUnits (with_title titles (stored.Unit row)) names
   names_followed keeps names are = subst (λ (ts : ℕ → Option (List ℕ)). AreFirstUnits ts names) (λ i n. same n (eqb row.id n) refl i) are
     where
       same : (n : ℕ) (b : Bool) → eqb row.id n ≡ b → titles n ≡ with_title titles (stored.Unit row) n
       same n true is = ap titles (sym (eqb-true row.id n is)) ∙ keeps ∙ sym (then_titled n true is)
       same n false is = sym (then_titled n false is)
+
+  -- a new workunit changes no place of a name
+  pub names_still : (last : Option ℕ) → IsPast last row.id → IfSome last (AreNonePast titles) → (names : RowsRead (List ℕ) ℕ) → AreFirstUnits titles names → AreFirstUnits (with_title titles (stored.Unit row)) names
+  names_still None past none names are = absurd past
+  names_still (Some last) past none names are = λ name n is.
+      first_still (λ m. option_any (λ title. bytes_eq title name) (titles m)) (λ m. option_any (λ title. bytes_eq title name) (with_title titles (stored.Unit row) m)) last row.id n past
+      (λ m after. ap (option_any (λ title. bytes_eq title name)) (none m after))
+      (λ m other. ap (option_any (λ title. bytes_eq title name)) (then_titled m false other)) (are name n is)
 
   pub titled_without : (before after : RowsRead ℕ Workunit) → IsWithout nat_cmp before after row.id → AreTitled titles before → AreTitled (with_title titles (stored.Unit row)) after
   titled_without before after without titled n u is =

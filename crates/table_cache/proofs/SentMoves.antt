@@ -1,6 +1,6 @@
 -- How many jobs a host was sent on a day moves with the jobs.
 use Rattle.std.proofs.Common.{◌≡◌, ◌<◌, ◌≤◌, ◌+◌, ◌-◌, ◌/◌, ◌&&◌, ℕ, zero, suc, Bool, true, false, cond, eqb, arith, List, [], ◌∷◌, ◌++◌, length, sum_by, count_by, Option, Some, None, refl, sym, ◌∙◌, inl, inr, ap}
-use Rattle.std.specs.Prelude.{option_and_then, option_map, slice_get, slice_set, unwrap_or}
+use Rattle.std.specs.Prelude.{option_and_then, option_map, slice_get, slice_set, unwrap_or, IfSome}
 use Rattle.std.specs.BTreeMap.{get}
 use Rattle.std.specs.List.{range_with_len}
 use Rattle.std.specs.Ordering.{nat_cmp}
@@ -15,11 +15,12 @@ use Rattle.sched_book.specs.declared.instance.UnitBook.{UnitBook}
 use Rattle.sched_book.specs.declared.world.World.{World}
 use Rattle.sched_book.proofs.PlacesOf.{nth-suc}
 use Rattle.table_cache.specs.Carrying.{sending_of, given_to, weight, with_one, sent_of_unit, sent_among, AreSentOf, HaveOneMore, IsRenewed}
+use Rattle.table_cache.specs.LastNumbers.{AreNoJobsPast, IsAtMost, IsPast}
 use Rattle.table_cache.specs.RowsRead.{HoldOfEach, HasKept, IsWithout}
 use Rattle.table_cache.specs.declared.sent.Sending.{Sending}
 use Rattle.table_cache.specs.declared.sent.SentRead.{SentRead}
 use Rattle.table_cache.specs.declared.rows_read.RowsRead.{RowsRead}
-use Rattle.table_cache.proofs.CreditMoves.{sum_moved, sum_of_list}
+use Rattle.table_cache.proofs.CreditMoves.{hold_of_none, sum_moved, sum_of_list}
 use Rattle.table_cache.proofs.RowsKept.{one_number}
 
 -- a job counts by its host and its day
@@ -166,6 +167,39 @@ job_renewed jobs unit number x before mid after old new each found without renew
       ap (λ (ys : List Instance). slice_get ys n) it.1 ∙ renewed n ∙ ap (λ (o : Option Instance). cond (eqb number n) (Some x) o) known
       ∙ sym (ap (λ (b : Bool). cond b (cond (eqb number n) (Some x) (jobs u n)) (jobs u n)) same)
   | inr other ↦ others_known jobs unit number x before mid each without u xs other n
+]
+
+-- nothing is counted
+pub none_counted : (jobs : ℕ → ℕ → Option Instance) (units numbers : ℕ) (sent : RowsRead ℕ SentRead) → ((key : ℕ) → get nat_cmp sent.rows key ≡ None) → AreSentOf jobs units numbers sent
+none_counted jobs units numbers sent none =
+    hold_of_none nat_cmp (λ host (s : SentRead). (more further : ℕ) → s.count ≡ sent_among jobs host s.day (units + more) (numbers + further)) sent none
+
+-- ---- one place past the last
+
+pub no_jobs_at : (jobs : ℕ → ℕ → Option Instance) (last : Option ℕ) (unit : ℕ) → IsPast last unit → IfSome last (AreNoJobsPast jobs) → (number : ℕ) → jobs unit number ≡ None
+no_jobs_at jobs None unit past none number = absurd past
+no_jobs_at jobs (Some last) unit past none number = none unit number past
+
+-- at a greater place there is none either
+pub no_jobs_past : (jobs : ℕ → ℕ → Option Instance) (last : Option ℕ) (unit : ℕ) → IsPast last unit → IfSome last (AreNoJobsPast jobs) → AreNoJobsPast jobs unit
+no_jobs_past jobs None unit past none = absurd past
+no_jobs_past jobs (Some last) unit past none = λ other number after. none other number (omega (arith, past, after))
+
+-- with one more
+pub no_jobs_with : (jobs : ℕ → ℕ → Option Instance) (unit number : ℕ) (x : Instance) (last new : Option ℕ) → IfSome new (IsAtMost last unit) → IfSome last (AreNoJobsPast jobs)
+    → IfSome new (AreNoJobsPast (with_one jobs unit number x))
+no_jobs_with jobs unit number x last None most none = tt
+no_jobs_with jobs unit number x None (Some n) most none = absurd most
+no_jobs_with jobs unit number x (Some l) (Some n) most none = λ other at past.
+    let apart : eqb unit other ≡ false = grind (arith, nat_tests, most.1, past) in
+    ap (λ (b : Bool). cond b (cond (eqb number at) (Some x) (jobs other at)) (jobs other at)) apart ∙ none other at (omega (arith, most.0, past))
+
+-- the instances of a workunit that has none, in a list
+pub none_listed : (jobs : ℕ → ℕ → Option Instance) (unit : ℕ) (before after : RowsRead ℕ (List Instance)) (new : List Instance) → AreKnown jobs before → HasKept nat_cmp before after unit new → new ≡ []
+    → ((number : ℕ) → jobs unit number ≡ None) → AreKnown jobs after
+none_listed jobs unit before after new each kept empty none = λ u xs is n. elim (kept u xs is) [
+  | inl it ↦ ap (λ (ys : List Instance). slice_get ys n) (it.1 ∙ empty) ∙ sym (none n) ∙ ap (λ k. jobs k n) (one_number unit u it.0)
+  | inr other ↦ each u xs other n
 ]
 
 -- ---- the jobs of a world

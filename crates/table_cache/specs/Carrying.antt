@@ -1,5 +1,5 @@
 -- Words. What is still remembered after rows were put.
-use Rattle.std.specs.Prelude.{◌≡◌, ◌⊎◌, ℕ, ◌+◌, ◌/◌, ◌&&◌, ◌==◌, if◌then◌else◌, cond, eqb, List, [], fold, sum_by, slice_get, Option, Some, None, option_map, IfSome, ◌<◌, ◌≤◌}
+use Rattle.std.specs.Prelude.{◌≡◌, ◌⊎◌, ℕ, ◌+◌, ◌/◌, ◌&&◌, ◌==◌, if◌then◌else◌, cond, eqb, List, [], fold, sum_by, slice_get, Option, Some, None, option_map, IfSome}
 use Rattle.std.specs.BTreeMap.{get}
 use Rattle.std.specs.Cmp.Lexicographic.{slice_cmp}
 use Rattle.std.specs.List.{range_with_len}
@@ -12,9 +12,11 @@ use Rattle.table_meaning.specs.declared.rows.StoredRow.{StoredRow}
 use Rattle.table_meaning.specs.declared.rows.StoredRow.TheVariants as stored
 use Rattle.table_meaning.specs.Rows.{RowKey, account_key, app_key, version_key, class_key, unit_key, mark_key, key_of, columns_of}
 use Rattle.table_worlds.specs.ReadBack.{number_at, host_in, job_in}
+use Rattle.table_cache.specs.LastNumbers.{AreNoJobsPast, AreNonePast}
 use Rattle.table_cache.specs.RowsRead.{HoldOfEach, AreSome}
 use Rattle.table_cache.specs.declared.cache.Cache.{Cache}
 use Rattle.table_cache.specs.declared.credits.HostsRead.{HostsRead}
+use Rattle.table_cache.specs.declared.sent.JobsRead.{JobsRead}
 use Rattle.table_cache.specs.declared.sent.Sending.{Sending}
 use Rattle.table_cache.specs.declared.sent.SentRead.{SentRead}
 use Rattle.table_cache.specs.declared.rows_read.RowsRead.{RowsRead}
@@ -42,25 +44,9 @@ IsStillKnown Stays Puts told key old new = (Stays key × (new ≡ old)) ⊎ ((ro
 -- What is remembered was so before, and rests on rows at keys that stay: a workunit on its row, its mark and the applications, accounts
 -- and versions on all that there are.
 pub record AreCarried (Stays : RowKey → Type 0) (old new : Cache) : Type 0 where
-  pub units : AreSome nat_cmp (λ n. Stays (unit_key n) × Stays (mark_key n) × ((id : ℕ) → Stays (app_key id))) old.units new.units
+  pub units : AreSome nat_cmp (λ n. Stays (unit_key n) × Stays (mark_key n) × ((id : ℕ) → Stays (app_key id))) old.units.rows new.units.rows
   pub accounts : AreSome (slice_cmp nat_cmp) (λ _. (id : ℕ) → Stays (account_key id)) old.accounts new.accounts
   pub versions : (new.versions.items ≡ []) ⊎ ((new.versions.items ≡ old.versions.items) × ((id : ℕ) → Stays (app_key id) × Stays (version_key id) × Stays (class_key id)))
-
--- ---- what is past the last number
-
--- nothing is at a number greater than this one
-abbrev pub AreNonePast : {X : Type 0} → (ℕ → Option X) → ℕ → Type 0
-AreNonePast found last = (number : ℕ) → last < number → found number ≡ None
-
--- a last number is known, and this one is greater
-abbrev pub IsPast : Option ℕ → ℕ → Type 0
-IsPast None number = ⊥
-IsPast (Some last) number = last < number
-
--- a last number was known, and it and this one are at most the new last one
-abbrev pub IsAtMost : Option ℕ → ℕ → ℕ → Type 0
-IsAtMost None number new = ⊥
-IsAtMost (Some last) number new = (last ≤ new) × (number ≤ new)
 
 -- ---- hosts, and the credit of their users
 
@@ -145,9 +131,11 @@ AreSentOf jobs units numbers sent = HoldOfEach nat_cmp (λ host s. (more further
 abbrev pub HaveOneMore : Sending → RowsRead ℕ SentRead → RowsRead ℕ SentRead → Type 0
 HaveOneMore one old new = (host : ℕ) (s : SentRead) → get nat_cmp new.rows host ≡ Some s → (t : SentRead) × (get nat_cmp old.rows host ≡ Some t) × (s.day ≡ t.day) × (s.count ≡ t.count + given_to host t.day one)
 
--- What is known of the instances of workunits, and of how many jobs hosts were sent, is that of these jobs.
-pub record AreOfJobs (jobs : ℕ → ℕ → Option Instance) (known : RowsRead ℕ (List Instance)) (sent : RowsRead ℕ SentRead) : Type 0 where
-  pub each : HoldOfEach nat_cmp (λ unit xs. (number : ℕ) → slice_get xs number ≡ jobs unit number) known
+-- What is known of the instances of workunits, and of how many jobs hosts were sent, is that of these jobs. If a last place is known, no
+-- workunit at a greater one has a job.
+pub record AreOfJobs (jobs : ℕ → ℕ → Option Instance) (read : JobsRead) : Type 0 where
+  pub each : HoldOfEach nat_cmp (λ unit xs. (number : ℕ) → slice_get xs number ≡ jobs unit number) read.instances
   pub units : ℕ
   pub numbers : ℕ
-  pub counted : AreSentOf jobs units numbers sent
+  pub counted : AreSentOf jobs units numbers read.sent
+  pub none_past : IfSome read.last (AreNoJobsPast jobs)

@@ -1,5 +1,5 @@
 -- Words. Hosts by their accounts and host_cpids, and workunits by their names, as they are known.
-use Rattle.std.specs.Prelude.{◌≡◌, ◌<◌, ◌==◌, ℕ, true, false, Bool, if◌then◌else◌, List, fold, Option, Some, option_map}
+use Rattle.std.specs.Prelude.{◌≡◌, ◌<◌, ◌==◌, ℕ, true, false, Bool, if◌then◌else◌, List, fold, Option, Some, option_map, IfSome}
 use Rattle.std.specs.Cmp.Lexicographic.{slice_cmp}
 use Rattle.std.specs.Ordering.{nat_cmp}
 use Rattle.std.specs.Str.{bytes_eq}
@@ -12,8 +12,10 @@ use Rattle.table_meaning.specs.declared.rows.StoredHost.{StoredHost}
 use Rattle.table_meaning.specs.declared.rows.StoredRow.{StoredRow}
 use Rattle.table_meaning.specs.declared.rows.StoredRow.TheVariants as stored
 use Rattle.table_meaning.specs.declared.rows.StoredUnit.{StoredUnit}
+use Rattle.table_cache.specs.LastNumbers.{AreNonePast}
 use Rattle.table_cache.specs.RowsRead.{HoldOfEach}
 use Rattle.table_cache.specs.declared.keys.HostKeyRead.{HostKeyRead}
+use Rattle.table_cache.specs.declared.keys.UnitsRead.{UnitsRead}
 use Rattle.table_cache.specs.declared.rows_read.RowsRead.{RowsRead}
 
 -- this number passes, and no lesser one does
@@ -76,7 +78,9 @@ AreFirstUnits titles names = HoldOfEach (slice_cmp nat_cmp) (IsFirstUnit titles)
 abbrev pub AreTitled : (ℕ → Option (List ℕ)) → RowsRead ℕ Workunit → Type 0
 AreTitled titles units = HoldOfEach nat_cmp (λ n (u : Workunit). titles n ≡ Some u.name) units
 
--- Each workunit that is known has the name at its place. Each place that is known is the first one with its name.
-pub record AreNamesOf (titles : ℕ → Option (List ℕ)) (units : RowsRead ℕ Workunit) (names : RowsRead (List ℕ) ℕ) : Type 0 where
-  pub each : AreTitled titles units
-  pub first : AreFirstUnits titles names
+-- Each workunit that is known has the name at its place. Each place that is known is the first one with its name. If a last place is known,
+-- there is no name at a greater one.
+pub record AreNamesOf (titles : ℕ → Option (List ℕ)) (read : UnitsRead) : Type 0 where
+  pub each : AreTitled titles read.rows
+  pub first : AreFirstUnits titles read.names
+  pub none_past : IfSome read.last (AreNonePast titles)

@@ -1,6 +1,7 @@
 pub mod RowsRead
 pub mod Leading
 pub mod NextSlot
+pub mod LastNumbers
 pub mod Carrying
 pub mod Keys
 pub mod Covering

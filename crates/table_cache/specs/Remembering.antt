@@ -10,7 +10,7 @@ use Rattle.sched_book.specs.declared.rows.Workunit.{Workunit}
 use Rattle.sched_book.specs.declared.world.World.{World}
 use Rattle.table_desk.specs.Columns.{counted_host_at}
 use Rattle.table_meaning.specs.Worlds.{SlotCalls}
-use Rattle.table_cache.specs.Carrying.{AreNonePast}
+use Rattle.table_cache.specs.LastNumbers.{AreNoJobsPast, AreNonePast}
 use Rattle.table_cache.specs.Covering.{jobs_of, AreSkipsFor}
 use Rattle.table_desk.specs.WaitingPage.{waiting_of, IsPageOf}
 use Rattle.table_cache.specs.RowsRead.{HoldOfEach}
@@ -54,16 +54,18 @@ IsSlotOf calls s = IsSlotFor (calls s.host) s.slot
 -- What is remembered is what the world has, of what waits a page of its places, and of the calls in the slots of a host which slot is for the
 -- next.
 pub record IsCacheOf (w : World) (calls : SlotCalls) (cache : Cache) : Type 0 where
-  pub units : AreUnitsOf w cache.units
-  pub instances : HoldOfEach nat_cmp (λ n xs. xs ≡ instances_at w n) cache.instances
+  pub units : AreUnitsOf w cache.units.rows
+  pub instances : HoldOfEach nat_cmp (λ n xs. xs ≡ instances_at w n) cache.jobs.instances
   pub hosts : HoldOfEach nat_cmp (λ n h. counted_host_at w n ≡ Some h) cache.hosts.rows
   pub credits : HoldOfEach nat_cmp (λ account credit. credit ≡ user_credit w account) cache.hosts.credits
   pub last_host : IfSome cache.hosts.last (AreNonePast (counted_host_at w))
-  pub sent : HoldOfEach nat_cmp (λ host s. s.count ≡ sent_on_day w host s.day) cache.sent
+  pub sent : HoldOfEach nat_cmp (λ host s. s.count ≡ sent_on_day w host s.day) cache.jobs.sent
   pub held : HoldOfEach nat_cmp (λ host places. places ≡ held_by w host) cache.held
   pub accounts : HoldOfEach (slice_cmp nat_cmp) (IsAccountOf w) cache.accounts
   pub keys : HoldOfEach (slice_cmp nat_cmp) (IsKeyOf w) cache.keys
-  pub names : HoldOfEach (slice_cmp nat_cmp) (IsNameOf w) cache.names
+  pub names : HoldOfEach (slice_cmp nat_cmp) (IsNameOf w) cache.units.names
+  pub last_unit : IfSome cache.units.last (AreNonePast (workunit_at w))
+  pub last_jobs : IfSome cache.jobs.last (AreNoJobsPast (jobs_of w))
   pub versions : All (IsVersionOf w) cache.versions.items
   pub slot : IfSome cache.slot (IsSlotOf calls)
   pub page : IfSome cache.page (IsPageOf w)

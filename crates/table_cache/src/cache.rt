@@ -1,7 +1,7 @@
 //! What look-ups found, and is as it was found or as it was put since. So no row is asked for twice.
 
 ghost use Rattle.std.specs.Prelude.{◌≡◌, All, IfSome};
-ghost use Rattle.sched_book.specs.Desk.{workunit_at};
+ghost use Rattle.sched_book.specs.Desk.{counts as counts_of, workunit_at};
 ghost use Rattle.sched_book.specs.declared.world.World.{World};
 ghost use Rattle.table_desk.specs.Columns.{counted_host_at};
 ghost use Rattle.table_meaning.specs.Worlds.{SlotCalls};
@@ -12,12 +12,12 @@ ghost use Rattle.table_cache.specs.NextSlot.{IsSlotFor};
 ghost use Rattle.sched_book.specs.Skipping.{HadAllBefore};
 
 use crate::credits::HostsRead;
-use crate::keys::{AccountRead, HostKeyRead};
+use crate::keys::{AccountRead, HostKeyRead, UnitsRead};
 use crate::rows_read::RowsRead;
-use crate::sent::SentRead;
+use crate::sent::JobsRead;
 use crate::skips::Skips;
 use crate::versions::VersionRead;
-use sched_book::{Instance, Place, Workunit};
+use sched_book::{Counts, Place, Workunit};
 use std::alloc::Global;
 use table_desk::{KnownUnits, PageRead, Skip};
 use texts::{Listed, Memory, Text};
@@ -44,17 +44,15 @@ pub(crate) struct SlotRead {
 
 /// What was read, and is as it was read or as it was put since: rows by their keys, credits by accounts, how many jobs hosts
 /// were sent on a day, the places that hosts hold, hosts by their keys, workunits by their names, versions, the slot for the next
-/// call of the host whose calls were read last, the page of what waits that was read last, the skips of users, and the number of
-/// the last host.
+/// call of the host whose calls were read last, the page of what waits that was read last, the skips of users, the number of the
+/// last host, and the place of the last workunit.
 pub struct Cache {
-    pub(crate) units: RowsRead<u32, Workunit>,
-    pub(crate) instances: RowsRead<u32, Listed<Instance>>,
+    pub(crate) units: UnitsRead,
+    pub(crate) jobs: JobsRead,
     pub(crate) hosts: HostsRead,
-    pub(crate) sent: RowsRead<u32, SentRead>,
     pub(crate) held: RowsRead<u32, Listed<Place>>,
     pub(crate) accounts: RowsRead<Text, AccountRead>,
     pub(crate) keys: RowsRead<Text, HostKeyRead>,
-    pub(crate) names: RowsRead<Text, u32>,
     pub(crate) versions: Vec<VersionRead>,
     pub(crate) slot: Option<SlotRead>,
     pub(crate) page: Option<PageRead>,
@@ -66,13 +64,11 @@ impl Drop for Cache {
     fn drop(self) {
         let Cache {
             units: _units,
-            instances: _instances,
+            jobs: _jobs,
             hosts: _hosts,
-            sent: _sent,
             held: _held,
             accounts: _accounts,
             keys: _keys,
-            names: _names,
             versions: _versions,
             slot: _slot,
             page: _page,
@@ -87,14 +83,12 @@ impl Cache {
         ensures { (w : World) (calls : SlotCalls) → IsCacheOf w calls result }
     {
         Cache {
-            units: RowsRead::new(alloc, MOST_LARGE),
-            instances: RowsRead::new(alloc, MOST_LARGE),
+            units: UnitsRead::new(alloc, MOST_LARGE, MOST_SMALL),
+            jobs: JobsRead::new(alloc, MOST_LARGE, MOST_SMALL),
             hosts: HostsRead::new(alloc, MOST_SMALL),
-            sent: RowsRead::new(alloc, MOST_SMALL),
             held: RowsRead::new(alloc, MOST_LARGE),
             accounts: RowsRead::new(alloc, MOST_SMALL),
             keys: RowsRead::new(alloc, MOST_SMALL),
-            names: RowsRead::new(alloc, MOST_SMALL),
             versions: Vec::new(alloc),
             slot: None,
             page: None,
@@ -107,7 +101,7 @@ impl Cache {
         ensures { (w : World) (calls : SlotCalls) → IsCacheOf w calls self.old → found.now ≡ workunit_at w unit → IsCacheOf w calls self.new }
     {
         if let Some(row) = found {
-            self.units.remember(unit, row);
+            self.units.rows.remember(unit, row);
         }
     }
 
@@ -116,7 +110,7 @@ impl Cache {
         ensures { (w : World) (calls : SlotCalls) → IsCacheOf w calls self.old → All (IsUnitOf w) read.now → IsCacheOf w calls self.new }
     {
         for unit in read {
-            self.units.remember(unit.place, &unit.row);
+            self.units.rows.remember(unit.place, &unit.row);
         }
     }
 
@@ -165,18 +159,25 @@ impl Cache {
         self.skips.raise(alloc, account, place);
     }
 
+    /// Remembers how many hosts and workunits there are. So one of a greater number is known to be new.
+    pub fn remember_counts(&mut self, counts: &Counts)
+        ensures { (w : World) (calls : SlotCalls) → IsCacheOf w calls self.old → counts.now ≡ counts_of w → IsCacheOf w calls self.new }
+    {
+        self.hosts.last = Some(counts.hosts);
+        self.units.last = Some(counts.workunits);
+        self.jobs.last = Some(counts.workunits);
+    }
+
     /// Forgets it all.
     pub fn forget_all(&mut self)
         ensures { (w : World) (calls : SlotCalls) → IsCacheOf w calls self.new }
     {
         self.units.forget_all();
-        self.instances.forget_all();
+        self.jobs.forget_all();
         self.hosts.forget_all();
-        self.sent.forget_all();
         self.held.forget_all();
         self.accounts.forget_all();
         self.keys.forget_all();
-        self.names.forget_all();
         self.versions.clear();
         self.slot = None;
         self.page = None;
@@ -187,9 +188,9 @@ impl Cache {
 impl KnownUnits for Cache {
     ghost use Rattle.table_cache.specs.Remembering.{AreUnitsOf};
 
-    ghost are_of = { λ w r. AreUnitsOf w r.units };
+    ghost are_of = { λ w r. AreUnitsOf w r.units.rows };
 
     fn known_unit(&self, unit: u32) -> Result<Option<Workunit>, Memory> {
-        self.units.row(&unit)
+        self.units.rows.row(&unit)
     }
 }

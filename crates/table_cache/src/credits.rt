@@ -3,7 +3,6 @@
 ghost use Rattle.std.specs.Prelude.{◌≡◌, ◌+◌, ℕ, suc, Option, None, Some, IfOk, IfSome, IsTrue};
 ghost use Rattle.std.specs.BTreeMap.{get};
 ghost use Rattle.std.specs.Ordering.{nat_cmp};
-ghost use Rattle.sched_book.specs.Desk.{counts as counts_of};
 ghost use Rattle.sched_book.specs.Places.{user_credit};
 ghost use Rattle.sched_book.specs.declared.world.World.{World};
 ghost use Rattle.table_desk.specs.Columns.{counted_host_at};
@@ -16,7 +15,6 @@ ghost use Rattle.table_cache.specs.Remembering.{IsCacheOf};
 use crate::cache::Cache;
 use crate::last_number::{is_past, last_with};
 use crate::rows_read::RowsRead;
-use sched_book::Counts;
 use std::alloc::Global;
 use table_decoding::host;
 use table_desk::CountedHost;
@@ -162,12 +160,5 @@ impl Cache {
         ensures { (w : World) (calls : SlotCalls) → IsCacheOf w calls self.old → credit ≡ user_credit w account → IsCacheOf w calls self.new }
     {
         self.hosts.credits.put(account, credit);
-    }
-
-    /// Remembers how many hosts there are. So a host of a greater number is known to be new.
-    pub fn remember_counts(&mut self, counts: &Counts)
-        ensures { (w : World) (calls : SlotCalls) → IsCacheOf w calls self.old → counts.now ≡ counts_of w → IsCacheOf w calls self.new }
-    {
-        self.hosts.last = Some(counts.hosts);
     }
 }

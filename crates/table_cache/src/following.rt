@@ -17,8 +17,8 @@ ghost use Rattle.table_cache.specs.Leading.{IsOtherKey, IsUnput, Lead};
 use crate::cache::Cache;
 use crate::credits::renew_host;
 use crate::holding::follow_held;
-use crate::keys::{follow_host_key, follow_unit_name};
-use crate::sent::renew_instance;
+use crate::keys::{follow_host_key, follow_unit};
+use crate::sent::{note_unit, renew_instance};
 use sched_book::Place;
 use std::alloc::Global;
 use table_desk::PageRead;
@@ -45,27 +45,27 @@ impl Cache {
     fn note_row(&mut self, alloc: Global, row: &StoredRow)
         ensures carried { AreCarried (IsOtherKey row.now) self.old self.new }
         ensures hosts { (f : ℕ → Option Counted) → AreOfHosts f self.old.hosts → AreOfHosts (with_host f row.now) self.new.hosts }
-        ensures jobs { (f : ℕ → ℕ → Option Job) → AreOfJobs f self.old.instances self.old.sent → AreOfJobs (with_job f row.now) self.new.instances self.new.sent }
+        ensures jobs { (f : ℕ → ℕ → Option Job) → AreOfJobs f self.old.jobs → AreOfJobs (with_job f row.now) self.new.jobs }
         ensures skips { (waiting : ℕ → ℕ → Option Bool) (jobs : ℕ → ℕ → Option Job) (hosts : ℕ → Option Counted)
-            → AreOfHosts hosts self.old.hosts → AreOfJobs jobs self.old.instances self.old.sent → AreSkipsFor waiting jobs hosts self.old.skips
+            → AreOfHosts hosts self.old.hosts → AreOfJobs jobs self.old.jobs → AreSkipsFor waiting jobs hosts self.old.skips
             → AreSkipsFor (with_wait waiting row.now) (with_job jobs row.now) (with_host hosts row.now) self.new.skips }
         ensures page { (waiting : ℕ → ℕ → Option Bool) → IfSome self.old.page (IsPageFor waiting) → IfSome self.new.page (IsPageFor (with_wait waiting row.now)) }
-        ensures held { (jobs : ℕ → ℕ → Option Job) → AreOfJobs jobs self.old.instances self.old.sent
+        ensures held { (jobs : ℕ → ℕ → Option Job) → AreOfJobs jobs self.old.jobs
             → AreHeldOf (holders_of jobs) self.old.held → AreHeldOf (holders_of (with_job jobs row.now)) self.new.held }
         ensures keys { (hosts : ℕ → Option Counted) → AreOfHosts hosts self.old.hosts → AreKeysOf hosts self.old.keys → AreKeysOf (with_host hosts row.now) self.new.keys }
-        ensures names { (titles : ℕ → Option (List ℕ)) → AreNamesOf titles self.old.units self.old.names → AreNamesOf (with_title titles row.now) self.new.units self.new.names }
+        ensures names { (titles : ℕ → Option (List ℕ)) → AreNamesOf titles self.old.units → AreNamesOf (with_title titles row.now) self.new.units }
     {
         match row {
             StoredRow::Unit(row) => {
-                follow_unit_name(&mut self.names, &self.units, row);
-                self.units.forget(&row.id);
+                follow_unit(&mut self.units, row);
+                note_unit(alloc, &mut self.jobs, row.id);
             }
-            StoredRow::UnitMark(row) => self.units.forget(&row.unit_id),
+            StoredRow::UnitMark(row) => self.units.rows.forget(&row.unit_id),
             StoredRow::Instance(row) => {
                 follow_page(alloc, &mut self.page, row);
-                self.skips.follow_instance(&self.instances, row);
-                follow_held(alloc, &mut self.held, &self.instances, row);
-                renew_instance(&mut self.instances, &mut self.sent, row);
+                self.skips.follow_instance(&self.jobs.instances, row);
+                follow_held(alloc, &mut self.held, &self.jobs.instances, row);
+                renew_instance(&mut self.jobs, row);
             }
             StoredRow::Host(row) => {
                 self.skips.follow_host(&self.hosts, row);
@@ -75,7 +75,7 @@ impl Cache {
             StoredRow::Account(_) => self.accounts.forget_all(),
             StoredRow::Version(_) | StoredRow::VersionClass(_) => self.versions.clear(),
             StoredRow::App(_) => {
-                self.units.forget_all();
+                self.units.rows.forget_all();
                 self.versions.clear();
             }
             StoredRow::Setting(_) | StoredRow::Kept(_) | StoredRow::Batch(_) => {}
@@ -88,14 +88,14 @@ impl Cache {
     fn follow(&mut self, alloc: Global, changes: &[RowChange])
         ensures carried { AreCarried (IsUnput changes.now) self.old self.new }
         ensures hosts { (f : ℕ → Option Counted) → AreOfHosts f self.old.hosts → AreOfHosts (with_hosts f changes.now) self.new.hosts }
-        ensures jobs { (f : ℕ → ℕ → Option Job) → AreOfJobs f self.old.instances self.old.sent → AreOfJobs (with_jobs f changes.now) self.new.instances self.new.sent }
+        ensures jobs { (f : ℕ → ℕ → Option Job) → AreOfJobs f self.old.jobs → AreOfJobs (with_jobs f changes.now) self.new.jobs }
         ensures skips { (waiting : ℕ → ℕ → Option Bool) (jobs : ℕ → ℕ → Option Job) (hosts : ℕ → Option Counted)
-            → AreOfHosts hosts self.old.hosts → AreOfJobs jobs self.old.instances self.old.sent → AreSkipsFor waiting jobs hosts self.old.skips
+            → AreOfHosts hosts self.old.hosts → AreOfJobs jobs self.old.jobs → AreSkipsFor waiting jobs hosts self.old.skips
             → AreSkipsFor (with_waits waiting changes.now) (with_jobs jobs changes.now) (with_hosts hosts changes.now) self.new.skips }
-        ensures held { (jobs : ℕ → ℕ → Option Job) → AreOfJobs jobs self.old.instances self.old.sent
+        ensures held { (jobs : ℕ → ℕ → Option Job) → AreOfJobs jobs self.old.jobs
             → AreHeldOf (holders_of jobs) self.old.held → AreHeldOf (holders_of (with_jobs jobs changes.now)) self.new.held }
         ensures keys { (hosts : ℕ → Option Counted) → AreOfHosts hosts self.old.hosts → AreKeysOf hosts self.old.keys → AreKeysOf (with_hosts hosts changes.now) self.new.keys }
-        ensures names { (titles : ℕ → Option (List ℕ)) → AreNamesOf titles self.old.units self.old.names → AreNamesOf (with_titles titles changes.now) self.new.units self.new.names }
+        ensures names { (titles : ℕ → Option (List ℕ)) → AreNamesOf titles self.old.units → AreNamesOf (with_titles titles changes.now) self.new.units }
         ensures slot { self.new.slot ≡ None }
         ensures page { (waiting : ℕ → ℕ → Option Bool) → IfSome self.old.page (IsPageFor waiting) → IfSome self.new.page (IsPageFor (with_waits waiting changes.now)) }
     {

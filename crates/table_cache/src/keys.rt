@@ -1,6 +1,8 @@
 //! Accounts by their authenticators, hosts by their accounts and host_cpids, and workunits by their names, as they were found.
 
-ghost use Rattle.std.specs.Prelude.{◌≡◌, ℕ, List, Option, Some, IfOk, IfSome, IsTrue};
+ghost use Rattle.std.specs.Prelude.{◌≡◌, ℕ, List, Option, None, Some, IfOk, IfSome, IsTrue};
+ghost use Rattle.std.specs.BTreeMap.{get};
+ghost use Rattle.std.specs.Cmp.Lexicographic.{slice_cmp};
 ghost use Rattle.sched_book.specs.Desk.{account_by_key};
 ghost use Rattle.sched_book.specs.Places.{known_host, unit_named};
 ghost use Rattle.sched_book.specs.declared.world.World.{World};
@@ -8,14 +10,15 @@ ghost use Rattle.table_desk.specs.declared.hosts.CountedHost.{CountedHost as Cou
 ghost use Rattle.table_meaning.specs.Worlds.{SlotCalls};
 ghost use Rattle.table_meaning.specs.declared.rows.StoredRow.TheVariants as stored;
 ghost use Rattle.table_cache.specs.Carrying.{with_host, AreOfHosts};
-ghost use Rattle.table_cache.specs.Keys.{with_title, AreKeysOf, AreFirstUnits, AreTitled, KeepsKey, KeepsName};
+ghost use Rattle.table_cache.specs.LastNumbers.{AreNonePast};
+ghost use Rattle.table_cache.specs.Keys.{with_title, AreKeysOf, AreFirstUnits, AreNamesOf, AreTitled, KeepsKey, KeepsName};
 ghost use Rattle.table_cache.specs.Remembering.{IsCacheOf};
 ghost use Rattle.std.specs.Ordering.{nat_cmp};
-ghost use Rattle.table_cache.specs.RowsRead.{HoldOfEach};
+ghost use Rattle.table_cache.specs.RowsRead.{HoldOfEach, IsWithout};
 
 use crate::cache::Cache;
 use crate::credits::HostsRead;
-use crate::last_number::is_past;
+use crate::last_number::{is_past, last_with};
 use crate::rows_read::RowsRead;
 use sched_book::{Account, Placed, Workunit, copy_of};
 use std::alloc::Global;
@@ -41,6 +44,41 @@ impl Same for AccountRead {
 pub(crate) struct HostKeyRead {
     account: u32,
     host: u32,
+}
+
+/// Workunits by their places, and these places by the workunits' names, as they were read; and the place of the last workunit, if
+/// it is known.
+#[derive(Drop)]
+pub(crate) struct UnitsRead {
+    pub(crate) rows: RowsRead<u32, Workunit>,
+    pub(crate) names: RowsRead<Text, u32>,
+    pub(crate) last: Option<u32>,
+}
+
+impl UnitsRead {
+    /// Nothing, and room for so many workunits and names.
+    pub(crate) fn new(alloc: Global, most_rows: usize, most_names: usize) -> UnitsRead
+        ensures rows { (key : ℕ) → get nat_cmp result.rows.rows key ≡ None }
+        ensures names { (key : List ℕ) → get (slice_cmp nat_cmp) result.names.rows key ≡ None }
+        ensures last { result.last ≡ None }
+    {
+        UnitsRead {
+            rows: RowsRead::new(alloc, most_rows),
+            names: RowsRead::new(alloc, most_names),
+            last: None,
+        }
+    }
+
+    /// Forgets it all.
+    pub(crate) fn forget_all(&mut self)
+        ensures rows { (key : ℕ) → get nat_cmp self.new.rows.rows key ≡ None }
+        ensures names { (key : List ℕ) → get (slice_cmp nat_cmp) self.new.names.rows key ≡ None }
+        ensures last { self.new.last ≡ None }
+    {
+        self.rows.forget_all();
+        self.names.forget_all();
+        self.last = None;
+    }
 }
 
 /// A copy of the account that was found.
@@ -90,19 +128,33 @@ fn keeps_name(known: &RowsRead<u32, Workunit>, row: &StoredUnit) -> bool
     }
 }
 
-/// Follows the row of a workunit that was put. If the workunit is not known, or had another name, all names are
-/// forgotten.
-pub(crate) fn follow_unit_name(
+/// Lets the places of workunits by their names follow the row of a workunit that was put. If the workunit is not new, and is not
+/// known or had another name, all of them are forgotten.
+fn follow_unit_name(
     names: &mut RowsRead<Text, u32>,
     known: &RowsRead<u32, Workunit>,
+    last: Option<u32>,
     row: &StoredUnit,
 )
-    ensures { (titles : ℕ → Option (List ℕ)) → AreTitled titles known.now → AreFirstUnits titles names.old
+    ensures { (titles : ℕ → Option (List ℕ)) → AreTitled titles known.now → IfSome last (AreNonePast titles) → AreFirstUnits titles names.old
         → AreFirstUnits (with_title titles (stored.Unit row.now)) names.new }
 {
+    if is_past(last, row.id) {
+        return;
+    }
     if !keeps_name(known, row) {
         names.forget_all();
     }
+}
+
+/// Follows the row of a workunit that was put. What was read of that workunit is forgotten.
+pub(crate) fn follow_unit(read: &mut UnitsRead, row: &StoredUnit)
+    ensures rows { IsWithout nat_cmp read.old.rows read.new.rows row.now.id }
+    ensures names { (titles : ℕ → Option (List ℕ)) → AreNamesOf titles read.old → AreNamesOf (with_title titles (stored.Unit row.now)) read.new }
+{
+    follow_unit_name(&mut read.names, &read.rows, read.last, row);
+    read.last = last_with(read.last, row.id);
+    read.rows.forget(&row.id);
 }
 
 impl Cache {
@@ -165,7 +217,7 @@ impl Cache {
         ensures { (w : World) (calls : SlotCalls) → IsCacheOf w calls self.now → IfOk result (λ r. IfSome r (λ unit. unit_named w name.now ≡ Some unit)) }
     {
         let key = Text::copied(alloc, name)?;
-        Ok(self.names.value(&key))
+        Ok(self.units.names.value(&key))
     }
 
     /// Remembers the place of the workunit of a name, if there is memory for it.
@@ -174,7 +226,7 @@ impl Cache {
     {
         let Some(unit) = found else { return };
         if let Ok(key) = Text::copied(alloc, name) {
-            self.names.put(key, unit);
+            self.units.names.put(key, unit);
         }
     }
 }

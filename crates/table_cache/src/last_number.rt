@@ -1,7 +1,7 @@
 //! The last number of a row of one kind. It is known once the rows were counted.
 
 ghost use Rattle.std.specs.Prelude.{IfSome, IsTrue};
-ghost use Rattle.table_cache.specs.Carrying.{IsAtMost, IsPast};
+ghost use Rattle.table_cache.specs.LastNumbers.{IsAtMost, IsPast};
 
 /// Whether the last number is known, and this one is greater. So there was no row of this number.
 pub(crate) fn is_past(last: Option<u32>, number: u32) -> bool

@@ -1,6 +1,8 @@
 //! The instances of workunits, and how many jobs hosts were sent on a day, which moves with each instance that is put.
 
-ghost use Rattle.std.specs.Prelude.{◌≡◌, ◌+◌, ℕ, suc, Option, Some, IfOk, IfSome, IsTrue, option_and_then, slice_get};
+ghost use Rattle.std.specs.Prelude.{◌≡◌, ◌+◌, ℕ, suc, Option, None, Some, IfOk, IfSome, IsTrue, option_and_then, slice_get};
+ghost use Rattle.std.specs.BTreeMap.{get};
+ghost use Rattle.std.specs.Ordering.{nat_cmp};
 ghost use Rattle.sched_book.specs.Desk.{instances_at};
 ghost use Rattle.sched_book.specs.Places.{instance_at, sent_on_day};
 ghost use Rattle.sched_book.specs.declared.instance.Instance.{Instance as Job};
@@ -11,8 +13,10 @@ ghost use Rattle.table_cache.specs.Carrying.{given_to, sending_of, with_job, wit
 ghost use Rattle.table_cache.specs.Remembering.{IsCacheOf};
 
 use crate::cache::Cache;
+use crate::last_number::{is_past, last_with};
 use crate::rows_read::RowsRead;
 use sched_book::{Instance, copy_of};
+use std::alloc::Global;
 use table_decoding::instance;
 use table_meaning::rows::StoredInstance;
 use texts::{Listed, Memory};
@@ -29,6 +33,41 @@ pub(crate) struct SentRead {
 pub(crate) struct Sending {
     host: u32,
     day: u64,
+}
+
+/// The instances of workunits, and how many jobs hosts were sent on a day, as they were read or put since; and a place after which
+/// no workunit has an instance, if one is known.
+#[derive(Drop)]
+pub(crate) struct JobsRead {
+    pub(crate) instances: RowsRead<u32, Listed<Instance>>,
+    pub(crate) sent: RowsRead<u32, SentRead>,
+    pub(crate) last: Option<u32>,
+}
+
+impl JobsRead {
+    /// Nothing, and room for so many workunits and hosts.
+    pub(crate) fn new(alloc: Global, most_units: usize, most_hosts: usize) -> JobsRead
+        ensures instances { (key : ℕ) → get nat_cmp result.instances.rows key ≡ None }
+        ensures sent { (key : ℕ) → get nat_cmp result.sent.rows key ≡ None }
+        ensures last { result.last ≡ None }
+    {
+        JobsRead {
+            instances: RowsRead::new(alloc, most_units),
+            sent: RowsRead::new(alloc, most_hosts),
+            last: None,
+        }
+    }
+
+    /// Forgets it all.
+    pub(crate) fn forget_all(&mut self)
+        ensures instances { (key : ℕ) → get nat_cmp self.new.instances.rows key ≡ None }
+        ensures sent { (key : ℕ) → get nat_cmp self.new.sent.rows key ≡ None }
+        ensures last { self.new.last ≡ None }
+    {
+        self.instances.forget_all();
+        self.sent.forget_all();
+        self.last = None;
+    }
 }
 
 /// Puts an instance at a number: it replaces the one there, or is the next one. Says whether it could.
@@ -128,29 +167,36 @@ fn move_sent(sent: &mut RowsRead<u32, SentRead>, old: Option<Sending>, new: Opti
     }
 }
 
-/// Renews what is known of the instances of a workunit, and of how many jobs hosts were sent, by the row of an instance that
-/// was put. If the instances were not known, everything that is known of these counts is forgotten.
-pub(crate) fn renew_instance(
-    known: &mut RowsRead<u32, Listed<Instance>>,
-    sent: &mut RowsRead<u32, SentRead>,
-    row: &StoredInstance,
-)
-    ensures { (f : ℕ → ℕ → Option Job) → AreOfJobs f known.old sent.old → AreOfJobs (with_job f (stored.Instance row.now)) known.new sent.new }
+/// Takes note that the row of the workunit at this place was put. If it is new, it is known to have no instances yet.
+pub(crate) fn note_unit(alloc: Global, read: &mut JobsRead, unit: u32)
+    ensures { (jobs : ℕ → ℕ → Option Job) → AreOfJobs jobs read.old → AreOfJobs jobs read.new }
 {
-    let Some(instances) = known.take(&row.unit_id) else {
-        sent.forget_all();
+    if is_past(read.last, unit) {
+        read.last = Some(unit);
+        read.instances.put(unit, Listed::new(alloc));
+    }
+}
+
+/// Renews what is known of the instances of a workunit, of how many jobs hosts were sent, and of the last place, by the row of
+/// an instance that was put. If the instances were not known, everything that is known of these counts is forgotten.
+pub(crate) fn renew_instance(read: &mut JobsRead, row: &StoredInstance)
+    ensures { (f : ℕ → ℕ → Option Job) → AreOfJobs f read.old → AreOfJobs (with_job f (stored.Instance row.now)) read.new }
+{
+    read.last = last_with(read.last, row.unit_id);
+    let Some(instances) = read.instances.take(&row.unit_id) else {
+        read.sent.forget_all();
         return;
     };
     let Ok(renewed) = instance(row) else {
-        sent.forget_all();
+        read.sent.forget_all();
         return;
     };
     let number = row.num as usize;
     let old = sending_at(instances.as_slice(), number);
     let new = sending_in(&renewed);
-    move_sent(sent, old, new);
+    move_sent(&mut read.sent, old, new);
     if let Some(instances) = with_instance(instances, number, renewed) {
-        known.put(row.unit_id, instances);
+        read.instances.put(row.unit_id, instances);
     }
 }
 
@@ -159,7 +205,7 @@ impl Cache {
     pub fn instances(&self, unit: u32) -> Result<Option<Listed<Instance>>, Memory>
         ensures { (w : World) (calls : SlotCalls) → IsCacheOf w calls self.now → IfOk result (λ r. IfSome r (λ xs. xs ≡ instances_at w unit)) }
     {
-        self.instances.row(&unit)
+        self.jobs.instances.row(&unit)
     }
 
     /// The instance of this number of the workunit at this place, if the workunit's instances are remembered.
@@ -167,7 +213,7 @@ impl Cache {
         ensures { (w : World) (calls : SlotCalls) → IsCacheOf w calls self.now
             → IfOk result (λ r. IfSome r (λ x. instance_at w (record { unit = unit; number = number }) ≡ Some x)) }
     {
-        let Some(instances) = self.instances.seen(&unit) else {
+        let Some(instances) = self.jobs.instances.seen(&unit) else {
             return Ok(None);
         };
         match instances.as_slice().get(number as usize) {
@@ -180,14 +226,14 @@ impl Cache {
     pub fn remember_instances(&mut self, unit: u32, found: &Listed<Instance>)
         ensures { (w : World) (calls : SlotCalls) → IsCacheOf w calls self.old → found.now ≡ instances_at w unit → IsCacheOf w calls self.new }
     {
-        self.instances.remember(unit, found);
+        self.jobs.instances.remember(unit, found);
     }
 
     /// How many jobs this host was sent on a day.
     pub fn sent(&self, host: u32, day: u64) -> Option<u32>
         ensures { (w : World) (calls : SlotCalls) → IsCacheOf w calls self.now → IfSome result (λ count. count ≡ sent_on_day w host day) }
     {
-        match self.sent.value(&host) {
+        match self.jobs.sent.value(&host) {
             Some(read) if read.day == day => Some(read.count),
             _ => None,
         }
@@ -197,6 +243,6 @@ impl Cache {
     pub fn remember_sent(&mut self, host: u32, day: u64, count: u32)
         ensures { (w : World) (calls : SlotCalls) → IsCacheOf w calls self.old → count ≡ sent_on_day w host day → IsCacheOf w calls self.new }
     {
-        self.sent.put(host, SentRead { day, count });
+        self.jobs.sent.put(host, SentRead { day, count });
     }
 }

@@ -24,7 +24,7 @@ loop-change-preserved c =
           subst (λ hosts. AreOfHosts hosts c.note_row.new.self.hosts) (sym (ap (with_hosts f) next ∙ fold-append with_host f so_far (row ∷ [])))
           (c.note_row.ensures.hosts (with_hosts f so_far) (c.loop-change.invariant.1 f before)),
       λ f before.
-          subst (λ jobs. AreOfJobs jobs c.note_row.new.self.instances c.note_row.new.self.sent) (sym (ap (with_jobs f) next ∙ fold-append with_job f so_far (row ∷ [])))
+          subst (λ jobs. AreOfJobs jobs c.note_row.new.self.jobs) (sym (ap (with_jobs f) next ∙ fold-append with_job f so_far (row ∷ [])))
           (c.note_row.ensures.jobs (with_jobs f so_far) (c.loop-change.invariant.2 f before)),
       λ waiting jobs hosts of_hosts of_jobs are.
           subst (λ rs. AreSkipsFor (with_waits waiting rs) (with_jobs jobs rs) (with_hosts hosts rs) c.note_row.new.self.skips) (sym next)
@@ -41,7 +41,7 @@ loop-change-preserved c =
           subst (λ hs. AreKeysOf hs c.note_row.new.self.keys) (sym (ap (with_hosts hosts) next ∙ fold-append with_host hosts so_far (row ∷ [])))
           (c.note_row.ensures.keys (with_hosts hosts so_far) (c.loop-change.invariant.1 hosts of_hosts) (c.loop-change.invariant.6 hosts of_hosts are)),
       λ titles are.
-          subst (λ ts. AreNamesOf ts c.note_row.new.self.units c.note_row.new.self.names) (sym (ap (with_titles titles) next ∙ fold-append with_title titles so_far (row ∷ [])))
+          subst (λ ts. AreNamesOf ts c.note_row.new.self.units) (sym (ap (with_titles titles) next ∙ fold-append with_title titles so_far (row ∷ [])))
           (c.note_row.ensures.names (with_titles titles so_far) (c.loop-change.invariant.7 titles are)),
     )
 
@@ -56,7 +56,7 @@ returns-clause-hosts c = λ f before.
 
 pub returns-clause-jobs : goal.returns-clause-jobs
 returns-clause-jobs c = λ f before.
-    subst (λ rs. AreOfJobs (with_jobs f rs) c.loop-change.self.instances c.loop-change.self.sent) (take_all c.loop-change.change-index c.args.changes.now c.loop-change-test.false) (c.loop-change.invariant.2 f before)
+    subst (λ rs. AreOfJobs (with_jobs f rs) c.loop-change.self.jobs) (take_all c.loop-change.change-index c.args.changes.now c.loop-change-test.false) (c.loop-change.invariant.2 f before)
 
 pub returns-clause-skips : goal.returns-clause-skips
 returns-clause-skips c = λ waiting jobs hosts of_hosts of_jobs are.
@@ -77,4 +77,4 @@ returns-clause-keys c = λ hosts of_hosts are.
 
 pub returns-clause-names : goal.returns-clause-names
 returns-clause-names c = λ titles are.
-    subst (λ rs. AreNamesOf (with_titles titles rs) c.loop-change.self.units c.loop-change.self.names) (take_all c.loop-change.change-index c.args.changes.now c.loop-change-test.false) (c.loop-change.invariant.7 titles are)
+    subst (λ rs. AreNamesOf (with_titles titles rs) c.loop-change.self.units) (take_all c.loop-change.change-index c.args.changes.now c.loop-change-test.false) (c.loop-change.invariant.7 titles are)

@@ -14,12 +14,12 @@ abbrev pub invariant-loop-change : goal.invariant-loop-change
 invariant-loop-change l =
     AreCarried (IsUnput (take l.change-index l.changes)) l.fn.self l.self
     × ((f : ℕ → Option CountedHost) → AreOfHosts f l.fn.self.hosts → AreOfHosts (with_hosts f (take l.change-index l.changes)) l.self.hosts)
-    × ((f : ℕ → ℕ → Option Instance) → AreOfJobs f l.fn.self.instances l.fn.self.sent → AreOfJobs (with_jobs f (take l.change-index l.changes)) l.self.instances l.self.sent)
+    × ((f : ℕ → ℕ → Option Instance) → AreOfJobs f l.fn.self.jobs → AreOfJobs (with_jobs f (take l.change-index l.changes)) l.self.jobs)
     × ((waiting : ℕ → ℕ → Option Bool) (jobs : ℕ → ℕ → Option Instance) (hosts : ℕ → Option CountedHost)
-    → AreOfHosts hosts l.fn.self.hosts → AreOfJobs jobs l.fn.self.instances l.fn.self.sent → AreSkipsFor waiting jobs hosts l.fn.self.skips
+    → AreOfHosts hosts l.fn.self.hosts → AreOfJobs jobs l.fn.self.jobs → AreSkipsFor waiting jobs hosts l.fn.self.skips
     → AreSkipsFor (with_waits waiting (take l.change-index l.changes)) (with_jobs jobs (take l.change-index l.changes)) (with_hosts hosts (take l.change-index l.changes)) l.self.skips)
     × ((waiting : ℕ → ℕ → Option Bool) → IfSome l.fn.self.page (IsPageFor waiting) → IfSome l.self.page (IsPageFor (with_waits waiting (take l.change-index l.changes))))
-    × ((jobs : ℕ → ℕ → Option Instance) → AreOfJobs jobs l.fn.self.instances l.fn.self.sent
+    × ((jobs : ℕ → ℕ → Option Instance) → AreOfJobs jobs l.fn.self.jobs
     → AreHeldOf (holders_of jobs) l.fn.self.held → AreHeldOf (holders_of (with_jobs jobs (take l.change-index l.changes))) l.self.held)
     × ((hosts : ℕ → Option CountedHost) → AreOfHosts hosts l.fn.self.hosts → AreKeysOf hosts l.fn.self.keys → AreKeysOf (with_hosts hosts (take l.change-index l.changes)) l.self.keys)
-    × ((titles : ℕ → Option (List ℕ)) → AreNamesOf titles l.fn.self.units l.fn.self.names → AreNamesOf (with_titles titles (take l.change-index l.changes)) l.self.units l.self.names)
+    × ((titles : ℕ → Option (List ℕ)) → AreNamesOf titles l.fn.self.units → AreNamesOf (with_titles titles (take l.change-index l.changes)) l.self.units)

@@ -8,7 +8,6 @@ use Rattle.table_cache.specs.Covering.{with_wait, AreSkipsFor}
 use Rattle.table_cache.specs.Holding.{holders_of, AreHeldOf}
 use Rattle.table_cache.specs.Keys.{with_title, AreKeysOf, AreNamesOf}
 use Rattle.table_cache.proofs.CreditMoves.{hold_of_none}
-use Rattle.table_cache.proofs.KeyMoves.{titled_without}
 use Rattle.table_cache.proofs.cache.Cache.note_row.Goals as goal
 
 pub returns-in-Account-clause-carried : goal.returns-in-Account-clause-carried
@@ -20,8 +19,8 @@ returns-in-Account-clause-carried c = record {
 
 pub returns-in-Version-clause-jobs : goal.returns-in-Version-clause-jobs
 returns-in-Version-clause-jobs c = λ f before. elim c.in-Version.is [
-  | inl it ↦ subst (λ r. AreOfJobs (with_job f r) c.args.self.now.instances c.args.self.now.sent) (sym it.1) before
-  | inr it ↦ subst (λ r. AreOfJobs (with_job f r) c.args.self.now.instances c.args.self.now.sent) (sym it.1) before
+  | inl it ↦ subst (λ r. AreOfJobs (with_job f r) c.args.self.now.jobs) (sym it.1) before
+  | inr it ↦ subst (λ r. AreOfJobs (with_job f r) c.args.self.now.jobs) (sym it.1) before
 ]
 
 pub returns-in-Version-clause-skips : goal.returns-in-Version-clause-skips
@@ -65,26 +64,26 @@ returns-in-Version-clause-keys c = λ hosts of_hosts are. elim c.in-Version.is [
 
 pub returns-in-Version-clause-names : goal.returns-in-Version-clause-names
 returns-in-Version-clause-names c = λ titles are. elim c.in-Version.is [
-  | inl it ↦ subst (λ r. AreNamesOf (with_title titles r) c.args.self.now.units c.args.self.now.names) (sym it.1) are
-  | inr it ↦ subst (λ r. AreNamesOf (with_title titles r) c.args.self.now.units c.args.self.now.names) (sym it.1) are
+  | inl it ↦ subst (λ r. AreNamesOf (with_title titles r) c.args.self.now.units) (sym it.1) are
+  | inr it ↦ subst (λ r. AreNamesOf (with_title titles r) c.args.self.now.units) (sym it.1) are
 ]
 
 pub returns-in-Host-clause-keys : goal.returns-in-Host-clause-keys
 returns-in-Host-clause-keys c = λ hosts of_hosts are.
     subst (λ r. AreKeysOf (with_host hosts r) c.follow_host_key.new.keys) (sym c.in-Host.is) (c.follow_host_key.ensures hosts of_hosts are)
 
+pub returns-in-Unit-clause-jobs : goal.returns-in-Unit-clause-jobs
+returns-in-Unit-clause-jobs c = λ f before. subst (λ r. AreOfJobs (with_job f r) c.note_unit.new.read) (sym c.in-Unit.is) (c.note_unit.ensures f before)
+
 pub returns-in-Unit-clause-names : goal.returns-in-Unit-clause-names
-returns-in-Unit-clause-names c = λ titles are.
-    subst (λ r. AreNamesOf (with_title titles r) c.forget.new.self c.follow_unit_name.new.names) (sym c.in-Unit.is) (record {
-      each = titled_without titles c.in-Unit.row c.args.self.now.units c.forget.new.self c.forget.ensures are.each;
-      first = c.follow_unit_name.ensures titles are.each are.first;
-    })
+returns-in-Unit-clause-names c = λ titles are. subst (λ r. AreNamesOf (with_title titles r) c.follow_unit.new.read) (sym c.in-Unit.is) (c.follow_unit.ensures.names titles are)
 
 pub returns-in-UnitMark-clause-names : goal.returns-in-UnitMark-clause-names
 returns-in-UnitMark-clause-names c = λ titles are.
-    subst (λ r. AreNamesOf (with_title titles r) c.forget-in-UnitMark.new.self c.args.self.now.names) (sym c.in-UnitMark.is) (record { each = λ n u is. are.each n u (c.forget-in-UnitMark.ensures n u is).1; first = are.first })
+    subst (λ r. AreNamesOf (with_title titles r) (record { rows = c.forget.new.self; names = c.args.self.now.units.names; last = c.args.self.now.units.last })) (sym c.in-UnitMark.is)
+    (record { each = λ n u is. are.each n u (c.forget.ensures n u is).1; first = are.first; none_past = are.none_past })
 
 pub returns-in-App-clause-names : goal.returns-in-App-clause-names
 returns-in-App-clause-names c = λ titles are.
-    subst (λ r. AreNamesOf (with_title titles r) c.forget_all-in-App.new.self c.args.self.now.names) (sym c.in-App.is)
-    (record { each = hold_of_none nat_cmp (λ n (u : Workunit). titles n ≡ Some u.name) c.forget_all-in-App.new.self c.forget_all-in-App.ensures; first = are.first })
+    subst (λ r. AreNamesOf (with_title titles r) (record { rows = c.forget_all-in-App.new.self; names = c.args.self.now.units.names; last = c.args.self.now.units.last })) (sym c.in-App.is)
+    (record { each = hold_of_none nat_cmp (λ n (u : Workunit). titles n ≡ Some u.name) c.forget_all-in-App.new.self c.forget_all-in-App.ensures; first = are.first; none_past = are.none_past })

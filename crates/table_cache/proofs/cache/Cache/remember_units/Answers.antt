@@ -10,7 +10,7 @@ loop-unit-preserved c = λ w calls before all.
     let so_far = c.loop-unit.invariant w calls before all in
     let is : IsUnitOf w c.unit-item.result = subst (IsUnitOf w) (sym c.unit-item.is) (all c.loop-unit.unit-index c.unit-item.result (search rules)) in
     record {
-      units = holds_with nat_cmp one_number (λ n u. workunit_at w n ≡ Some u) c.loop-unit.self.units c.remember.new.self c.unit-item.result.place c.unit-item.result.row c.remember.ensures so_far.units is;
+      units = holds_with nat_cmp one_number (λ n u. workunit_at w n ≡ Some u) c.loop-unit.self.units.rows c.remember.new.self c.unit-item.result.place c.unit-item.result.row c.remember.ensures so_far.units is;
       instances = so_far.instances;
       hosts = so_far.hosts;
       credits = so_far.credits;
@@ -20,6 +20,8 @@ loop-unit-preserved c = λ w calls before all.
       accounts = so_far.accounts;
       keys = so_far.keys;
       names = so_far.names;
+      last_unit = so_far.last_unit;
+      last_jobs = so_far.last_jobs;
       versions = so_far.versions;
       slot = so_far.slot;
       page = so_far.page;
