@@ -129,14 +129,6 @@ none_past_with found then (Some l) (Some n) number elsewhere most none = λ m pa
 pub with_elsewhere : (hosts : ℕ → Option CountedHost) (number : ℕ) (h : CountedHost) (n : ℕ) → eqb number n ≡ false → with_counted hosts number h n ≡ hosts n
 with_elsewhere hosts number h n other = ap (λ (b : Bool). cond b (Some h) (hosts n)) other
 
--- a host that is not there adds nothing
-pub none_shared : (account : ℕ) (h : Option CountedHost) → h ≡ None → IsShareOf account h 0
-none_shared account h none other = ap (share other) none ∙ same (eqb account other)
-  where
-    same : (b : Bool) → ◌≡◌ {A = ℕ} 0 (cond b 0 0)
-    same true = refl
-    same false = refl
-
 pub known_at : (hosts : ℕ → Option CountedHost) (number : ℕ) (known : RowsRead ℕ CountedHost) (o : Option CountedHost) → o ≡ get nat_cmp known.rows number
     → HoldOfEach nat_cmp (λ n g. hosts n ≡ Some g) known → IfSome o (λ h. hosts number ≡ Some h)
 known_at hosts number known None is each = tt
