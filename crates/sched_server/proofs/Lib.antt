@@ -3,6 +3,7 @@ mod Answered
 mod Handled
 mod Followed
 mod Stopped
+mod Served
 mod Begun
 mod Lasting
 mod Owners

@@ -53,7 +53,7 @@ handled_stands_for key bytes now old new (answer.Response response) done points 
     }
 
 -- what agreed before an unavailable answer agrees after it, and what was in doubt stays so
-unavailable_later : (key : List ℕ) (h : Held) (arrival : Arrival) (points : List ℕ) (before : List Came) → StandsAtAStop key h points before
+pub unavailable_later : (key : List ℕ) (h : Held) (arrival : Arrival) (points : List ℕ) (before : List Came) → StandsAtAStop key h points before
     → StandsAtAStop key h points (record { arrival = arrival; answer = answer.Unavailable } ∷ before)
 unavailable_later key h arrival points before (inl st) =
     inl (record { past = st.past; tells = st.tells; in_era = st.in_era; keyed = st.keyed; stands = st.stands; sound = st.sound })

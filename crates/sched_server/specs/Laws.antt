@@ -1,9 +1,12 @@
 -- Promise. Laws that join the promises of a store, and the laws of every run, for what is stored before and after messages of bytes. (This
 -- project's own: BOINC's rules are in the machine's step.)
-use Rattle.std.specs.Prelude.{◌≡◌, ◌⊎◌, ℕ, suc, ◌<◌, true, List, [], ◌∷◌, ◌++◌, length, Some, None}
+use Rattle.std.specs.Prelude.{◌≡◌, ◌⊎◌, ℕ, suc, ◌<◌, true, List, [], ◌∷◌, ◌++◌, length, Option, Some, None}
+use Rattle.http_responses.specs.Answers.{answer_bytes}
 use Rattle.http_responses.specs.declared.answer.Answer.{Answer}
 use Rattle.http_responses.specs.declared.answer.Answer.TheVariants as answer
 use Rattle.http_responses.specs.declared.response.Response.{Response}
+use Rattle.http_serving.specs.Serving.{IsAnswered}
+use Rattle.http_serving.specs.declared.handler.Handler.{Ghosts}
 use Rattle.rpc_records.specs.declared.request.Request.{Request}
 use Rattle.sched_book.specs.Former.{IsUnclassed}
 use Rattle.sched_book.specs.Limits.{AreSettingsInLimits}
@@ -22,6 +25,8 @@ use Rattle.stores.specs.Held.{Held, IsLeft, IsNew}
 use Rattle.message_engine.specs.Stores.{tables_by}
 use Rattle.sched_server.specs.Arrivals.{Came, answered, StandsFor, StandsIn, StoreStandsFor, HandledInTurn}
 use Rattle.sched_server.specs.Handled.{is_answered, Handles, HandledAs, IsHandled}
+use Rattle.sched_server.specs.Views.{store_of, key_of}
+use Rattle.sched_server.specs.declared.service.Service.{Service}
 
 -- a new store agrees with no arrivals, with the upgrade points of new tables
 abbrev pub NewStoresStand : {S : Type 0} → Parts S → Type 0
@@ -42,6 +47,22 @@ HandledStands {S} store =
     → (store.honest new → store.well_kept old → HandledAs key bytes now a (store.holds old) (store.holds new))
     → (upgrade_points : List ℕ) (before : List Came) → StoreStandsFor store key upgrade_points before old → store.clean new
     → StoreStandsFor store key upgrade_points (record { arrival = record { now = now; bytes = bytes }; answer = a } ∷ before) new
+
+-- A service agrees with the arrivals before and a message of these bytes, with an answer of this text. It keeps its key.
+pub record StandsServed {S : Type 0} (store : Parts S) (old : Service S) (now : ℕ) (bytes text upgrade_points : List ℕ) (before : List Came) (new : Service S) : Type 0 where
+  pub answer : Answer
+  pub text_is : text ≡ answer_bytes answer
+  pub key : key_of new ≡ key_of old
+  pub stands : StoreStandsFor store (key_of old) upgrade_points (record { arrival = record { now = now; bytes = bytes }; answer = answer } ∷ before) (store_of new)
+
+-- Suppose that a service was served one message, as the clauses of `serve_one` say it: these bytes were read, and this is the text of the
+-- answer. Then it agrees with the arrivals before and that message.
+abbrev pub ServedStands : {S : Type 0} → Parts S → Ghosts (Service S) → Type 0
+ServedStands {S} store handler =
+    (old new : Service S) (now : ℕ) (bytes text : List ℕ) (unread : Option (List ℕ))
+    → IsAnswered handler.settled handler.handles unread old now bytes text new
+    → (upgrade_points : List ℕ) (before : List Came) → StoreStandsFor store (key_of old) upgrade_points before (store_of old) → store.clean (store_of new)
+    → StandsServed store old now bytes text upgrade_points before new
 
 -- with no open transaction, what a stop leaves of a store agrees with what the store agrees with
 abbrev pub WhatIsLeftStands : {S : Type 0} → Parts S → Type 0

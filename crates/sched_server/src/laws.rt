@@ -5,8 +5,10 @@ ghost use Rattle.sched_machine.specs.Classes.{ClassesStay};
 ghost use Rattle.sched_machine.specs.Decisions.{CanonicalsStay, VerdictsStay, StatusesStay, CreditsStay, CreditsAddUp};
 ghost use Rattle.sched_machine.specs.Runs.{OwnersStay, ReportsStay, LapsesStay, OneForEachUser};
 ghost use Rattle.sched_server.specs.Classes.{OwnersAreOfClassesAtAMessage, OwnersAreOfClassesOverMessages, OwnersWereGiven};
-ghost use Rattle.sched_server.specs.Laws.{NewStoresStand, HandledStands, ReadsStand, WhatIsLeftStands, ReopenedStands, UpgradedStands, FormerWorldsAreUnclassed, HoldsOfWhatStands, Lasts, DeadlinesMoveByResendsAlone, DeadlinesMoveByResendsOverMessages, NoHeldJobDropsFromSight};
+ghost use Rattle.sched_server.specs.Laws.{NewStoresStand, HandledStands, ServedStands, ReadsStand, WhatIsLeftStands, ReopenedStands, UpgradedStands, FormerWorldsAreUnclassed, HoldsOfWhatStands, Lasts, DeadlinesMoveByResendsAlone, DeadlinesMoveByResendsOverMessages, NoHeldJobDropsFromSight};
 
+use crate::service::Service;
+use http_serving::Handler;
 use stores::Store;
 
 /// A new store, which has heard nothing, agrees with no arrivals. The key is the operator's key of its settings.
@@ -14,11 +16,16 @@ pub fn new_stores_stand<S: Store>()
     ensures { NewStoresStand S.Store }
 {}
 
-/// A store that handles a message still agrees with all arrivals. So the theorem also holds for
-/// [`http_serving::serve_one`], over a reader and a writer, even if the answer is lost. The message is then the bytes
-/// that it read.
+/// A store that handles a message still agrees with all arrivals.
 pub fn handled_stands<S: Store>()
     ensures { HandledStands S.Store }
+{}
+
+/// A service that [`http_serving::serve_one`] serves, over a reader and a writer, still agrees with all arrivals. The
+/// message is the bytes that were read. Its answer has the text that was written. If the writer failed, it has the text
+/// of which a front was written. If there was no memory for the whole message, it is unavailable.
+pub fn served_stands<S: Store>()
+    ensures { ServedStands S.Store ⟦<Service<S> as Handler>⟧ }
 {}
 
 /// A store that was only read agrees with what it agreed with, even if a fault has shut it. So does what a stop may
