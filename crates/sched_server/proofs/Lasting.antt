@@ -7,6 +7,7 @@ use Rattle.sched_book.specs.declared.instance.Owner.{Owner}
 use Rattle.sched_book.specs.declared.instance.Place.{Place}
 use Rattle.sched_book.specs.declared.world.World.{World}
 use Rattle.stores.specs.Held.{Held}
+use Rattle.stores.proofs.ReadsAct.{left_is}
 use Rattle.pasts.specs.Many.{ServesAll}
 use Rattle.pasts.specs.Messages.{Message, heard_now}
 use Rattle.pasts.specs.Stands.{Heard, Tables, Same, Serves}
@@ -15,12 +16,16 @@ use Rattle.pasts.specs.declared.answer.Answer as told
 use Rattle.past_laws.specs.Laws as past
 use Rattle.past_laws.proofs.Calls as calls_of_pasts
 use Rattle.past_laws.proofs.Calls.{same_host}
+use Rattle.past_laws.proofs.Holds as holds
 use Rattle.past_laws.proofs.Holds.{owners_stay}
-use Rattle.sched_machine.specs.Runs.{owner_at, OwnersStay}
+use Rattle.sched_machine.specs.Classes.{ClassesStay}
+use Rattle.sched_machine.specs.Decisions.{CanonicalsStay, VerdictsStay, StatusesStay, CreditsStay}
+use Rattle.sched_machine.specs.Runs.{owner_at, OwnersStay, ReportsStay, LapsesStay}
 use Rattle.message_engine.specs.Stores.{tables_by, IsSoundStore}
+use Rattle.message_engine.proofs.EntriesKept.{left_same, left_sound}
 use Rattle.sched_server.specs.Arrivals.{Came, StandsFor, HandledInTurn}
 use Rattle.sched_server.specs.Handled.{HandledAs}
-use Rattle.sched_server.specs.Laws.{HoldsOfWhatStands, HoldsAtAMessage, HoldsOverMessages, Lasts, IsSentAgainAt, DeadlinesMoveByResendsAlone, DeadlinesMoveByResendsOverMessages, NoHeldJobDropsFromSight}
+use Rattle.sched_server.specs.Laws.{HoldsOfWhatStands, HoldsAtAMessage, HoldsOverMessages, Lasts, HandledOverStops, HoldsOverStops, AllStay, IsSentAgainAt, DeadlinesMoveByResendsAlone, DeadlinesMoveByResendsOverMessages, NoHeldJobDropsFromSight}
 
 -- ---- many messages
 
@@ -62,11 +67,16 @@ served_next key bytes now (answer.Response r) first old new served done =
       serves.sound,
     )
 
+served_on : (key : List ℕ) (came : List Came) (first : Tables) (old new : Held) → Served first old → HandledInTurn key came old new → Served first new
+unfolding Served
+served_on key [] first old new served same =
+    let left = same served.2 in (served.0, all_same first (tables_by old) (tables_by new) served.0 left.0 served.1, left.1)
+served_on key (c ∷ earlier) first old new served done =
+    served_next key c.arrival.bytes c.arrival.now c.answer first done.0 new (served_on key earlier first old done.0 served done.1) done.2
+
 pub served_in_turn : (key : List ℕ) (came : List Came) (old new : Held) → IsSoundStore old → HandledInTurn key came old new → Served (tables_by old) new
 unfolding Served
-served_in_turn key [] old new sound same = let left = same sound in ([], left.0, left.1)
-served_in_turn key (c ∷ earlier) old new sound done =
-    served_next key c.arrival.bytes c.arrival.now c.answer (tables_by old) done.0 new (served_in_turn key earlier old done.0 sound done.1) done.2
+served_in_turn key came old new sound done = served_on key came (tables_by old) old new ([], same_itself (tables_by old), sound) done
 
 -- ---- the laws
 
@@ -94,6 +104,34 @@ over_messages R law key old new points came before st done =
 
 pub lasts : (R : World → World → Type 0) → past.HoldsOfMessages R → Lasts R
 lasts R law = (at_a_message R law, over_messages R law)
+
+-- ---- over stops
+
+served_over_stops : (key : List ℕ) (stretches : List (List Came)) (old new : Held) → IsSoundStore old → HandledOverStops key stretches old new
+    → Served (tables_by old) new
+unfolding Served
+served_over_stops key [] old new sound left = ([], left_same old new left, left_sound old new left sound)
+served_over_stops key (came ∷ stretches) old new sound (left, opened, earlier, same, all) =
+    served_on key came (tables_by old) opened new (subst (Served (tables_by old)) (left_is opened left same) (served_over_stops key stretches old left sound earlier)) all
+
+over_stops : (R : World → World → Type 0) → past.HoldsOfMessages R → HoldsOverStops R
+unfolding Served
+over_stops R law key old new points stretches before st all =
+    let served = served_over_stops key stretches old new st.sound all in
+    law.1 (tables_by old) (tables_by old) (tables_by new) [] served.0
+    (have_stood key old points before st) (same_itself (tables_by old)) served.1
+
+pub all_stays_over_stops : HoldsOverStops AllStay
+all_stays_over_stops key old new points stretches before st all = record {
+  owners = over_stops OwnersStay holds.owners_stay key old new points stretches before st all;
+  reports = over_stops ReportsStay holds.reports_stay key old new points stretches before st all;
+  lapses = over_stops LapsesStay holds.lapses_stay key old new points stretches before st all;
+  canonicals = over_stops CanonicalsStay holds.canonicals_stay key old new points stretches before st all;
+  verdicts = over_stops VerdictsStay holds.verdicts_stay key old new points stretches before st all;
+  statuses = over_stops StatusesStay holds.statuses_stay key old new points stretches before st all;
+  credits = over_stops CreditsStay holds.credits_never_fall key old new points stretches before st all;
+  classes = over_stops ClassesStay holds.classes_stay key old new points stretches before st all;
+}
 
 pub deadlines_move_by_resends_alone : DeadlinesMoveByResendsAlone
 deadlines_move_by_resends_alone key bytes now r old new points before st h p o owned =

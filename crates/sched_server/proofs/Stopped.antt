@@ -15,7 +15,7 @@ use Rattle.message_engine.specs.Stores.{tables_by}
 use Rattle.message_engine.proofs.EntriesKept.{left_same, left_sound}
 use Rattle.sched_server.specs.Arrivals.{Came, StandsFor, StandsAtAStop, StoreStandsFor}
 use Rattle.sched_server.specs.Handled.{is_answered, HandledAs, IsHandled}
-use Rattle.sched_server.specs.Laws.{HandledStands, ReadsStand, WhatIsLeftStands, ReopenedStands}
+use Rattle.sched_server.specs.Laws.{HandledStands, ReadsStand, WhatIsLeftStands, StopsAreHandled, ReopenedStands}
 use Rattle.sched_server.specs.declared.arrival.Arrival.{Arrival}
 
 -- what is left as it was agrees with what it agreed with
@@ -80,6 +80,16 @@ module _ {S : Type 0} (store : Parts S)
     (settled : (s : S) → store.honest s → store.well_kept s → Sound (store.holds s).world → (h : Held) → store.may_leave s h → IsLeft (store.holds s) h) where
   pub what_is_left_stands : WhatIsLeftStands store
   what_is_left_stands s honest kept key points before st h may = left_stands key (store.holds s) h points before (settled s honest kept st.sound.world h may) st
+
+  pub stops_are_handled : StopsAreHandled store
+  stops_are_handled key bytes now a old new acts points before st honest h may =
+      let stood = st.held honest in
+      elim (acts.left h may) [
+        | inl earlier ↦
+            let left = settled old honest stood.0 stood.1.sound.world h earlier in
+            (answer.Unavailable, λ sound. (left_same (store.holds old) h left, left_sound (store.holds old) h left sound))
+        | inr ahead ↦ let done = ahead.1 stood.0 in (answer.Response done.0, done.1)
+      ]
 
   pub reopened_stands : ReopenedStands store
   reopened_stands s honest kept h left key points before st =

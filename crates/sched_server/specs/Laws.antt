@@ -15,7 +15,9 @@ use Rattle.sched_book.specs.declared.instance.Owner.{Owner}
 use Rattle.sched_book.specs.declared.instance.Place.{Place}
 use Rattle.sched_book.specs.declared.settings.Settings.{Settings}
 use Rattle.sched_book.specs.declared.world.World.{World}
-use Rattle.sched_machine.specs.Runs.{owner_at}
+use Rattle.sched_machine.specs.Classes.{ClassesStay}
+use Rattle.sched_machine.specs.Decisions.{CanonicalsStay, VerdictsStay, StatusesStay, CreditsStay}
+use Rattle.sched_machine.specs.Runs.{owner_at, OwnersStay, ReportsStay, LapsesStay}
 use Rattle.pasts.specs.Messages.{Rpc, heard_now}
 use Rattle.pasts.specs.Stands.{told_by}
 use Rattle.past_laws.specs.Laws.{IsSentAgainBy, IsInSight}
@@ -70,6 +72,14 @@ WhatIsLeftStands {S} store =
     (s : S) → store.honest s → store.well_kept s → (key upgrade_points : List ℕ) (before : List Came) → StandsFor key (store.holds s) upgrade_points before
     → (h : Held) → store.may_leave s h → StandsFor key h upgrade_points before
 
+-- Suppose that an open store acts on a message. What a stop then leaves of it is what the message leaves, handled with some answer, which
+-- maybe nobody read. So each law over messages that are handled in turn holds up to what a stop leaves.
+abbrev pub StopsAreHandled : {S : Type 0} → Parts S → Type 0
+StopsAreHandled {S} store =
+    (key bytes : List ℕ) (now : ℕ) (a : Answer) (old new : S) → Acts store (is_answered a) (IsHandled key bytes now (store.holds old)) old new
+    → (upgrade_points : List ℕ) (before : List Came) → StoreStandsFor store key upgrade_points before old → store.honest old
+    → (h : Held) → store.may_leave new h → (some : Answer) × HandledAs key bytes now some (store.holds old) h
+
 -- a store that holds what a stop left agrees with what that agreed with
 abbrev pub ReopenedStands : {S : Type 0} → Parts S → Type 0
 ReopenedStands {S} store =
@@ -110,6 +120,31 @@ HoldsOverMessages R =
 
 abbrev pub Lasts : (World → World → Type 0) → Type 0
 Lasts R = HoldsAtAMessage R × HoldsOverMessages R
+
+-- Messages came in stretches, with a stop after each but the newest. The newest stretch is first. A store that was opened after a stop holds what
+-- the stretches before it left. Then the messages of its stretch were handled in turn. The one at which a stop came has some answer, as
+-- StopsAreHandled gives it.
+abbrev pub HandledOverStops : List ℕ → List (List Came) → Held → Held → Type 0
+HandledOverStops key [] old new = IsLeft old new
+HandledOverStops key (came ∷ stretches) old new =
+    (left : Held) × (opened : Held) × HandledOverStops key stretches old left × IsLeft opened left × HandledInTurn key came opened new
+
+-- R holds between the world before many messages and the world after them, over any stops between them
+abbrev pub HoldsOverStops : (World → World → Type 0) → Type 0
+HoldsOverStops R =
+    (key : List ℕ) (old new : Held) (upgrade_points : List ℕ) (stretches : List (List Came)) (before : List Came)
+    → StandsFor key old upgrade_points before → HandledOverStops key stretches old new → R old.world new.world
+
+-- everything that lasts over messages
+pub record AllStay (old new : World) : Type 0 where
+  pub owners : OwnersStay old new
+  pub reports : ReportsStay old new
+  pub lapses : LapsesStay old new
+  pub canonicals : CanonicalsStay old new
+  pub verdicts : VerdictsStay old new
+  pub statuses : StatusesStay old new
+  pub credits : CreditsStay old new
+  pub classes : ClassesStay old new
 
 -- A deadline stays, or the message is a call of the instance's host, which has the instance sent again.
 abbrev pub DeadlinesMoveByResendsAlone : Type 0

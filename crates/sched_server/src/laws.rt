@@ -5,7 +5,7 @@ ghost use Rattle.sched_machine.specs.Classes.{ClassesStay};
 ghost use Rattle.sched_machine.specs.Decisions.{CanonicalsStay, VerdictsStay, StatusesStay, CreditsStay, CreditsAddUp};
 ghost use Rattle.sched_machine.specs.Runs.{OwnersStay, ReportsStay, LapsesStay, OneForEachUser};
 ghost use Rattle.sched_server.specs.Classes.{OwnersAreOfClassesAtAMessage, OwnersAreOfClassesOverMessages, OwnersWereGiven};
-ghost use Rattle.sched_server.specs.Laws.{NewStoresStand, HandledStands, ServedStands, ReadsStand, WhatIsLeftStands, ReopenedStands, UpgradedStands, FormerWorldsAreUnclassed, HoldsOfWhatStands, Lasts, DeadlinesMoveByResendsAlone, DeadlinesMoveByResendsOverMessages, NoHeldJobDropsFromSight};
+ghost use Rattle.sched_server.specs.Laws.{NewStoresStand, HandledStands, ServedStands, ReadsStand, WhatIsLeftStands, StopsAreHandled, ReopenedStands, UpgradedStands, FormerWorldsAreUnclassed, HoldsOfWhatStands, Lasts, HoldsOverStops, AllStay, DeadlinesMoveByResendsAlone, DeadlinesMoveByResendsOverMessages, NoHeldJobDropsFromSight};
 
 use crate::service::Service;
 use http_serving::Handler;
@@ -38,6 +38,12 @@ pub fn reads_stand<S: Store>()
 /// message is in it.
 pub fn what_is_left_stands<S: Store>()
     ensures { WhatIsLeftStands S.Store }
+{}
+
+/// What a stop leaves of an open store that acts on a message is what that message leaves, with some answer. So the
+/// laws over messages below also hold up to what a stop leaves.
+pub fn stops_are_handled<S: Store>()
+    ensures { StopsAreHandled S.Store }
 {}
 
 /// A store that is opened again, and holds what a stop left, agrees with what that agreed with.
@@ -101,6 +107,12 @@ pub fn statuses_stay()
 /// The credit of no host and no user falls.
 pub fn credits_never_fall()
     ensures { Lasts CreditsStay }
+{}
+
+/// Everything that stays over messages stays over any number of stops between them. Each stop may come at any moment of
+/// the last message before it.
+pub fn all_stays_over_stops()
+    ensures { HoldsOverStops AllStay }
 {}
 
 /// The hosts together, and the users together, have the credit of all valid results, each once.
