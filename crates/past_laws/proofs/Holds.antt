@@ -11,6 +11,7 @@ use Rattle.pasts.specs.Laws.{calls_in, worlds_in, last_world, IsRunTo, RunsTo}
 use Rattle.pasts.specs.Many.{ServesAll, followed}
 use Rattle.pasts.specs.Runs.{Turn}
 use Rattle.pasts.specs.Stands.{Heard, Tables, Same}
+use Rattle.pasts.proofs.Carried.{served_settings}
 use Rattle.pasts.proofs.OneRun.{is_one_run, serves_by_one_run, stands_is_carried_by_all}
 use Rattle.sched_machine.specs.Classes.{ClassesStay}
 use Rattle.sched_machine.specs.Decisions.{CanonicalsStay, VerdictsStay, StatusesStay, CreditsStay, CreditsAddUp}
@@ -22,7 +23,7 @@ use Rattle.sched_machine.proofs.Runs.Lasting as lasting
 use Rattle.sched_machine.proofs.Runs.Stretches.{settings_stay_in_step}
 use Rattle.sched_machine.proofs.Runs.Users as users
 use Rattle.sched_machine.proofs.Moves.Sound.{the_empty_world_is_sound}
-use Rattle.past_laws.specs.Laws.{HaveStood, HoldsWhereTablesStand, HoldsOfMessages}
+use Rattle.past_laws.specs.Laws.{HaveStood, HoldsWhereTablesStand, HoldsOfMessages, SettingsStay}
 use Rattle.past_laws.proofs.Sounds.{calls_in_limits, last_after, what_stands_is_sound}
 
 -- R holds between the first world of a run and its last
@@ -46,17 +47,17 @@ between R holds self old new more stood all =
     (to_the_last R holds self old.world runs.0 runs.1 sound (calls_in_limits runs.0 runs.2.limits) runs.2.trace)
 
 -- a run keeps the settings, so the tables after many messages agree with a longer past
-settings_stay : (w : World) (calls : List (Call × ℕ)) (turns : List (Answered × World)) → Trace w calls turns → (last_world w turns).settings ≡ w.settings
-settings_stay w calls [] trace = refl
-settings_stay w [] (t ∷ ts) trace = absurd trace
-settings_stay w (e ∷ es) (t ∷ ts) trace = settings_stay t.1 es ts trace.1 ∙ settings_stay_in_step w t.1 e.0 e.1 t.0 trace.0
+run_settings : (w : World) (calls : List (Call × ℕ)) (turns : List (Answered × World)) → Trace w calls turns → (last_world w turns).settings ≡ w.settings
+run_settings w calls [] trace = refl
+run_settings w [] (t ∷ ts) trace = absurd trace
+run_settings w (e ∷ es) (t ∷ ts) trace = run_settings t.1 es ts trace.1 ∙ settings_stay_in_step w t.1 e.0 e.1 t.0 trace.0
 
 pub have_stood_on : (old mid : Tables) (some : List Heard) → HaveStood old → ServesAll old some mid → HaveStood mid
 have_stood_on old mid some stood all =
     let runs : RunsTo old.world mid.world = serves_by_one_run old mid some all in record {
       settings =
           subst AreSettingsInLimits
-          (sym (ap (λ (w : World). w.settings) (sym runs.2.last) ∙ settings_stay old.world runs.0 runs.1 runs.2.trace)) stood.settings;
+          (sym (ap (λ (w : World). w.settings) (sym runs.2.last) ∙ run_settings old.world runs.0 runs.1 runs.2.trace)) stood.settings;
       past = followed stood.past some;
       stands = stands_is_carried_by_all old mid some all stood.past stood.stands;
     }
@@ -80,6 +81,14 @@ where_tables_stand P holds t stood =
     let all = holds (empty_world s) (calls_in turns) (worlds_in turns) (the_empty_world_is_sound s stood.settings)
     (calls_in_limits (calls_in turns) run.limits) run.trace in
     subst P run.last (last_after P (empty_world s) (worlds_in turns) all.0 all.1)
+
+-- the settings stay in each message, from any tables
+pub settings_stay : HoldsOfMessages SettingsStay
+settings_stay = (λ old new m answer stood serves. served_settings old new m answer serves, λ old mid new some more stood first second. all_settings mid new more second)
+  where
+    all_settings : (old new : Tables) (more : List Heard) → ServesAll old more new → SettingsStay old.world new.world
+    all_settings old new [] same = ap (λ (w : World). w.settings) same.world
+    all_settings old new (h ∷ more) all = all_settings all.0 new more all.2 ∙ served_settings old all.0 h.message h.answer all.1
 
 pub owners_stay : HoldsOfMessages OwnersStay
 owners_stay = of_messages OwnersStay lasting.owners_stay (λ w p o is. (o, is, refl, refl))

@@ -44,6 +44,10 @@ HoldsOverMessages R =
 abbrev pub HoldsOfMessages : (World → World → Type 0) → Type 0
 HoldsOfMessages R = HoldsAtAMessage R × HoldsOverMessages R
 
+-- the later world has the settings of the earlier one
+abbrev pub SettingsStay : World → World → Type 0
+SettingsStay old new = new.settings ≡ old.settings
+
 -- the message is a call of a host, which has the instance at a place sent again
 pub record IsSentAgainBy (w : World) (m : Message) (p : Place) (o : Owner) : Type 0 where
   pub caller : Caller

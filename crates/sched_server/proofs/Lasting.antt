@@ -14,6 +14,7 @@ use Rattle.pasts.specs.Stands.{Heard, Tables, Same, Serves}
 use Rattle.pasts.proofs.Carried.{same_itself}
 use Rattle.pasts.specs.declared.answer.Answer as told
 use Rattle.past_laws.specs.Laws as past
+use Rattle.past_laws.specs.Laws.{SettingsStay}
 use Rattle.past_laws.proofs.Calls as calls_of_pasts
 use Rattle.past_laws.proofs.Calls.{same_host}
 use Rattle.past_laws.proofs.Holds as holds
@@ -123,6 +124,7 @@ over_stops R law key old new points stretches before st all =
 
 pub all_stays_over_stops : HoldsOverStops AllStay
 all_stays_over_stops key old new points stretches before st all = record {
+  settings = over_stops SettingsStay holds.settings_stay key old new points stretches before st all;
   owners = over_stops OwnersStay holds.owners_stay key old new points stretches before st all;
   reports = over_stops ReportsStay holds.reports_stay key old new points stretches before st all;
   lapses = over_stops LapsesStay holds.lapses_stay key old new points stretches before st all;

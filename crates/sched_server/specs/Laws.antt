@@ -20,7 +20,7 @@ use Rattle.sched_machine.specs.Decisions.{CanonicalsStay, VerdictsStay, Statuses
 use Rattle.sched_machine.specs.Runs.{owner_at, OwnersStay, ReportsStay, LapsesStay}
 use Rattle.pasts.specs.Messages.{Rpc, heard_now}
 use Rattle.pasts.specs.Stands.{told_by}
-use Rattle.past_laws.specs.Laws.{IsSentAgainBy, IsInSight}
+use Rattle.past_laws.specs.Laws.{SettingsStay, IsSentAgainBy, IsInSight}
 use Rattle.stores.specs.Acting.{Parts, Acts}
 use Rattle.stores.specs.Eras.{this_era, era_of_classes, new_upgrade_points}
 use Rattle.stores.specs.Held.{Held, IsLeft, IsNew}
@@ -137,6 +137,7 @@ HoldsOverStops R =
 
 -- everything that lasts over messages
 pub record AllStay (old new : World) : Type 0 where
+  pub settings : SettingsStay old new
   pub owners : OwnersStay old new
   pub reports : ReportsStay old new
   pub lapses : LapsesStay old new

@@ -1,5 +1,6 @@
 //! Laws of the definitions. Each function does nothing; its contract is the law.
 
+ghost use Rattle.past_laws.specs.Laws.{SettingsStay};
 ghost use Rattle.sched_machine.specs.Bounds.{IsCreditBounded};
 ghost use Rattle.sched_machine.specs.Classes.{ClassesStay};
 ghost use Rattle.sched_machine.specs.Decisions.{CanonicalsStay, VerdictsStay, StatusesStay, CreditsStay, CreditsAddUp};
@@ -61,6 +62,11 @@ pub fn upgraded_stands()
 /// and no workunit is marked. So an upgrade of its tables can add these, and leave it as it was.
 pub fn former_worlds_are_unclassed()
     ensures { FormerWorldsAreUnclassed }
+{}
+
+/// No message changes the settings.
+pub fn settings_stay()
+    ensures { Lasts SettingsStay }
 {}
 
 /// For any messages, an instance that was given to a host stays that host's, with its moment of sending.
