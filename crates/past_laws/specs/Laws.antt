@@ -13,7 +13,7 @@ use Rattle.sched_book.specs.declared.machine.Caller.{Caller}
 use Rattle.sched_book.specs.declared.world.World.{World}
 use Rattle.pasts.specs.Many.{ServesAll}
 use Rattle.pasts.specs.Messages.{Rpc, Message}
-use Rattle.pasts.specs.Stands.{Heard, Past, Tables, Stands, Serves, told_by}
+use Rattle.pasts.specs.Stands.{Heard, Past, Tables, Same, Stands, Serves, messages_in, told_by}
 use Rattle.pasts.specs.declared.answer.Answer.{Answer}
 use Rattle.pasts.specs.declared.answer.Answer.TheVariants.{Good}
 use Rattle.sched_machine.specs.Held.{IsHeldByName}
@@ -27,6 +27,13 @@ pub record HaveStood (t : Tables) : Type 0 where
 
 abbrev pub StandsIsSound : Type 0
 StandsIsSound = (t : Tables) → HaveStood t → Sound t.world
+
+-- Suppose that two tables have the same settings, and agree with pasts of the same messages. Then they hold the same, and the answers are the
+-- same.
+abbrev pub TablesAreDetermined : Type 0
+TablesAreDetermined =
+    (one other : Tables) (past other_past : Past) → Stands one past → Stands other other_past → one.world.settings ≡ other.world.settings
+    → messages_in past ≡ messages_in other_past → Same one other × (past ≡ other_past)
 
 -- P holds of the world of such tables
 abbrev pub HoldsWhereTablesStand : (World → Type 0) → Type 0

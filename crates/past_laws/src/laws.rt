@@ -2,7 +2,7 @@
 //! and the tables before agree with some past.
 
 ghost use Rattle.past_laws.specs.Classes.{OwnersAreOfClassesAtAMessage, OwnersAreOfClassesOverMessages, OwnersWereGiven};
-ghost use Rattle.past_laws.specs.Laws.{StandsIsSound, HoldsOfMessages, HoldsWhereTablesStand, SettingsStay, DeadlinesMoveByResendsAlone, DeadlinesMoveByResendsOverMessages, NoHeldJobDropsFromSight};
+ghost use Rattle.past_laws.specs.Laws.{StandsIsSound, TablesAreDetermined, HoldsOfMessages, HoldsWhereTablesStand, SettingsStay, DeadlinesMoveByResendsAlone, DeadlinesMoveByResendsOverMessages, NoHeldJobDropsFromSight};
 ghost use Rattle.sched_machine.specs.Classes.{ClassesStay};
 ghost use Rattle.sched_machine.specs.Decisions.{CanonicalsStay, VerdictsStay, StatusesStay, CreditsStay, CreditsAddUp};
 ghost use Rattle.sched_machine.specs.Runs.{OwnersStay, ReportsStay, LapsesStay, OneForEachUser};
@@ -10,6 +10,11 @@ ghost use Rattle.sched_machine.specs.Runs.{OwnersStay, ReportsStay, LapsesStay, 
 /// Tables that agree with a past are sound.
 pub fn what_stands_is_sound()
     ensures { StandsIsSound }
+{}
+
+/// The messages and the settings determine what tables hold, and the answers. So no two runs answer the same messages.
+pub fn tables_are_determined()
+    ensures { TablesAreDetermined }
 {}
 
 /// No message changes the settings.

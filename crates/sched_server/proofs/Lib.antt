@@ -9,3 +9,4 @@ mod Lasting
 mod Owners
 mod Former
 mod Standing
+mod Determined

@@ -1,6 +1,6 @@
 -- Promise. Laws that join the promises of a store, and the laws of every run, for what is stored before and after messages of bytes. (This
 -- project's own: BOINC's rules are in the machine's step.)
-use Rattle.std.specs.Prelude.{◌≡◌, ◌⊎◌, ℕ, suc, ◌<◌, true, List, [], ◌∷◌, ◌++◌, length, Option, Some, None}
+use Rattle.std.specs.Prelude.{◌≡◌, ◌⊎◌, ℕ, suc, ◌<◌, true, List, [], ◌∷◌, ◌++◌, length, map, Option, Some, None}
 use Rattle.http_responses.specs.Answers.{answer_bytes}
 use Rattle.http_responses.specs.declared.answer.Answer.{Answer}
 use Rattle.http_responses.specs.declared.answer.Answer.TheVariants as answer
@@ -19,15 +19,16 @@ use Rattle.sched_machine.specs.Classes.{ClassesStay}
 use Rattle.sched_machine.specs.Decisions.{CanonicalsStay, VerdictsStay, StatusesStay, CreditsStay}
 use Rattle.sched_machine.specs.Runs.{owner_at, OwnersStay, ReportsStay, LapsesStay}
 use Rattle.pasts.specs.Messages.{Rpc, heard_now}
-use Rattle.pasts.specs.Stands.{told_by}
+use Rattle.pasts.specs.Stands.{Same, told_by}
 use Rattle.past_laws.specs.Laws.{SettingsStay, IsSentAgainBy, IsInSight}
 use Rattle.stores.specs.Acting.{Parts, Acts}
 use Rattle.stores.specs.Eras.{this_era, era_of_classes, new_upgrade_points}
 use Rattle.stores.specs.Held.{Held, IsLeft, IsNew}
 use Rattle.message_engine.specs.Stores.{tables_by}
-use Rattle.sched_server.specs.Arrivals.{Came, answered, StandsFor, StandsIn, StoreStandsFor, HandledInTurn}
+use Rattle.sched_server.specs.Arrivals.{Came, Answered, answered, StandsFor, StandsIn, StoreStandsFor, HandledInTurn}
 use Rattle.sched_server.specs.Handled.{is_answered, Handles, HandledAs, IsHandled}
 use Rattle.sched_server.specs.Views.{store_of, key_of}
+use Rattle.sched_server.specs.declared.arrival.Arrival.{Arrival}
 use Rattle.sched_server.specs.declared.service.Service.{Service}
 
 -- a new store agrees with no arrivals, with the upgrade points of new tables
@@ -99,6 +100,19 @@ abbrev pub FormerWorldsAreUnclassed : Type 0
 FormerWorldsAreUnclassed =
     (era : ℕ) (key : List ℕ) (held : Held) (upgrade_points : List ℕ) (before : List Came) → era < era_of_classes → StandsIn era key held upgrade_points before
     → IsUnclassed held.world
+
+-- the arrivals of these, without the responses
+abbrev pub arrivals_of : List Answered → List Arrival
+arrivals_of = map (λ (a : Answered). a.arrival)
+
+-- Suppose that what two stores hold agrees with the same answered arrivals, with the same upgrade points, and that the settings are the same.
+-- Then they hold the same, and the responses are the same.
+abbrev pub StoresAreDetermined : Type 0
+StoresAreDetermined =
+    (era : ℕ) (key : List ℕ) (one other : Held) (upgrade_points : List ℕ) (before other_before : List Came)
+    → StandsIn era key one upgrade_points before → StandsIn era key other upgrade_points other_before → one.world.settings ≡ other.world.settings
+    → arrivals_of (answered before) ≡ arrivals_of (answered other_before)
+    → Same (tables_by one) (tables_by other) × (answered before ≡ answered other_before)
 
 -- ---- the laws of every run
 

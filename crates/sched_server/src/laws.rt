@@ -6,9 +6,10 @@ ghost use Rattle.sched_machine.specs.Classes.{ClassesStay};
 ghost use Rattle.sched_machine.specs.Decisions.{CanonicalsStay, VerdictsStay, StatusesStay, CreditsStay, CreditsAddUp};
 ghost use Rattle.sched_machine.specs.Runs.{OwnersStay, ReportsStay, LapsesStay, OneForEachUser};
 ghost use Rattle.sched_server.specs.Classes.{OwnersAreOfClassesAtAMessage, OwnersAreOfClassesOverMessages, OwnersWereGiven};
-ghost use Rattle.sched_server.specs.Laws.{NewStoresStand, HandledStands, ServedStands, ReadsStand, WhatIsLeftStands, StopsAreHandled, ReopenedStands, UpgradedStands, FormerWorldsAreUnclassed, HoldsOfWhatStands, Lasts, HoldsOverStops, AllStay, DeadlinesMoveByResendsAlone, DeadlinesMoveByResendsOverMessages, NoHeldJobDropsFromSight};
+ghost use Rattle.sched_server.specs.Laws.{NewStoresStand, HandledStands, ServedStands, ReadsStand, WhatIsLeftStands, StopsAreHandled, ReopenedStands, UpgradedStands, FormerWorldsAreUnclassed, StoresAreDetermined, HoldsOfWhatStands, Lasts, HoldsOverStops, AllStay, DeadlinesMoveByResendsAlone, DeadlinesMoveByResendsOverMessages, NoHeldJobDropsFromSight};
 
 use crate::service::Service;
+use http_messages::laws::a_message_has_one_meaning;
 use http_serving::Handler;
 use stores::Store;
 
@@ -63,6 +64,14 @@ pub fn upgraded_stands()
 pub fn former_worlds_are_unclassed()
     ensures { FormerWorldsAreUnclassed }
 {}
+
+/// The answered arrivals, the upgrade points and the settings determine what a store holds, and the responses. So one
+/// list of messages has one world.
+pub fn stores_are_determined()
+    ensures { StoresAreDetermined }
+{
+    a_message_has_one_meaning();
+}
 
 /// No message changes the settings.
 pub fn settings_stay()
