@@ -2,5 +2,6 @@
 pub mod Settled
 pub mod Jobs
 pub mod Said
+pub mod Results
 pub mod Named
 pub mod Now

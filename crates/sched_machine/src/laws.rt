@@ -6,6 +6,7 @@ ghost use Rattle.sched_machine.specs.Bounds.{CreditIsBounded, ResentSecondsAreBo
 ghost use Rattle.sched_machine.specs.Decisions.{CanonicalsStay, VerdictsStay, StatusesStay, CreditsStay, CreditsAddUp};
 ghost use Rattle.sched_machine.specs.Held.{ReportsEndHolding, HeldByPlaces, HoldsWhatIsListedOrNamed};
 ghost use Rattle.sched_machine.specs.Laws.{EntryKeepsSound, ReportsKeepWell, LapsesKeepWell, LostJobsKeepWell, SettlementSettles, GrantKeepsSettled, ImportKeepsSound, StepKeepsSound, RunsKeepSound, EmptyIsSound};
+ghost use Rattle.sched_machine.specs.Results.{RepliesNameEachJob};
 ghost use Rattle.sched_machine.specs.Runs.{HoldsInRuns, OwnersStay, ReportsStay, LapsesStay, StepIsDetermined, RunIsDetermined, HoldsAlways, OneForEachUser, DeadlinesMoveByResends};
 ghost use Rattle.sched_machine.specs.Stretches.{DeadlinesMoveByResendsInRuns, HoldsWhatIsListedOrNamedInRuns};
 
@@ -115,6 +116,12 @@ pub fn held_jobs_by_place()
 /// So it holds exactly what it held, lists and did not report, and what the reply names.
 pub fn a_host_holds_what_is_listed_or_named()
     ensures { HoldsWhatIsListedOrNamed }
+{}
+
+/// From a sound world, the reply of a call has one job for each place that is sent again or granted, in order: with the
+/// name of the instance and its deadline. The host then holds each of these instances.
+pub fn replies_name_each_job()
+    ensures { RepliesNameEachJob }
 {}
 
 /// In every run a canonical result stays the canonical one.

@@ -103,7 +103,7 @@ module _ (w v : World) (like : IsLike w v) where
   name_same : (p : Place) → name_at v p ≡ name_at w p
   name_same p = read_same (λ (o : Option UnitBook). unwrap_or (option_map (λ (b : UnitBook). instance_name b.unit.name p.number) o) []) (λ b. refl) p.unit
 
-  deadline_same : (p : Place) → deadline_at v p ≡ deadline_at w p
+  pub deadline_same : (p : Place) → deadline_at v p ≡ deadline_at w p
   deadline_same p = ap (λ (o : Option Instance). unwrap_or (option_map (λ (x : Instance). deadline_of x.owner) o) 0) (instance_same p)
 
   versions_same : (h : HostRow) → version_for v h ≡ version_for w h

@@ -1,8 +1,8 @@
 -- What a host holds after its call, in the terms of the request and of the reply.
-use Rattle.std.proofs.Common.{◌≡◌, ◌≢◌, ◌⊎◌, inl, inr, ℕ, ◌+◌, ◌<◌, ◌≤◌, Bool, true, false, List, [], ◌++◌, length, Option, Some, sym, ap, ◌∙◌, subst, arith}
+use Rattle.std.proofs.Common.{◌≡◌, ◌≢◌, ◌⊎◌, inl, inr, ℕ, ◌+◌, ◌<◌, ◌≤◌, true, false, List, [], ◌++◌, length, Option, Some, sym, ap, ◌∙◌, subst, arith}
 use Rattle.std.proofs.lemmas.Bool.{cases_lt}
 use Rattle.std.specs.Prelude.{◌&&◌, AllPairs, Contains, filter_map, is_none, is_some, option_map, option_and_then, slice_get, unwrap_or}
-use Rattle.std.proofs.lemmas.List.Elements.{All-contains, Contains-append_cases, Contains-append_left, Contains-append_right}
+use Rattle.std.proofs.lemmas.List.Elements.{Contains-append_cases, Contains-append_left, Contains-append_right}
 use Rattle.std.proofs.lemmas.Option.{slice_get_within}
 use Rattle.rpc_records.specs.declared.reply.Job.{Job}
 use Rattle.rpc_records.specs.declared.reply.Reply.{Reply}
@@ -13,7 +13,7 @@ use Rattle.sched_book.specs.Limits.{most_instances}
 use Rattle.sched_book.specs.Names.{instance_name, name_parts}
 use Rattle.sched_book.specs.Places.{instance_at, is_held_by, name_at, unit_at}
 use Rattle.sched_book.specs.Sound.{IsSoundUnit, Sound}
-use Rattle.sched_book.specs.Step.{after_grant, after_settlement, asking_of, at_entry, granted, host_number, host_at_entry, job_at, lost_of, resent_of, IsCaller, after_reports}
+use Rattle.sched_book.specs.Step.{after_settlement, asking_of, at_entry, granted, host_number, host_at_entry, job_at, lost_of, resent_of, IsCaller, after_reports}
 use Rattle.sched_book.specs.declared.instance.Instance.{Instance}
 use Rattle.sched_book.specs.declared.instance.Place.{Place}
 use Rattle.sched_book.specs.declared.instance.UnitBook.{UnitBook}
@@ -28,9 +28,8 @@ use Rattle.lost_jobs.proofs.Reported.{reports_hold_no_more}
 use Rattle.sched_book.proofs.ByPlace.{all_nth}
 use Rattle.sched_machine.specs.Asked.{holds}
 use Rattle.sched_machine.specs.Held.{HoldsWhatIsListedOrNamed, IsHeldByName, IsHeldByPlace, IsNamed, IsRetained}
-use Rattle.sched_machine.proofs.Alike.Settled.{the_settled_world_is_like_the_first}
-use Rattle.sched_machine.proofs.Classes.Left.{classed_like, job_same}
 use Rattle.sched_machine.proofs.Held.Jobs.{held_jobs_by_place}
+use Rattle.sched_machine.proofs.Held.Results.{jobs_are_eligible, results_are}
 use Rattle.sched_machine.proofs.Held.Said.{eligible_runs, gave, given_by, resent_runs, said_name, said_of}
 use Rattle.sched_machine.proofs.OptionParts.{any_by, some_by, then_by}
 use Rattle.sched_machine.proofs.Rows.Listed.{pairs_get}
@@ -190,22 +189,5 @@ module _ (w : World) (c : Caller) (r : Request) (now : ℕ) (reply : Reply) (nam
 -- the law
 pub a_host_holds_what_is_listed_or_named : HoldsWhatIsListedOrNamed
 a_host_holds_what_is_listed_or_named w after c r now reply names step sound resends lists =
-    by_name w c r now reply names step.jobs after results sound step.caller eligible (held_jobs_by_place w after c r now reply names step sound resends lists)
-  where
-    left : World
-    left = granted (after_settlement w c r now) (host_number w c) now step.jobs
-
-    -- what is said of jobs does not depend on classes
-    said : (resent : Bool) → job_at (after_grant w c r now step.jobs) (host_at_entry w c r) resent ≡ job_at left (host_at_entry w c r) resent
-    said resent = λ i p. job_same left (after_grant w c r now step.jobs) (classed_like w (host_at_entry w c r) step.jobs left) (host_at_entry w c r) resent p i
-
-    results : reply.results ≡ filter_map (job_at left (host_at_entry w c r) true) (resent_of w c r) ++ filter_map (job_at left (host_at_entry w c r) false) step.jobs
-    results =
-        ap (λ (z : Reply). z.results) step.answer
-        ∙ ap (λ v. filter_map (job_at v (host_at_entry w c r) true) (resent_of w c r) ++ filter_map (job_at v (host_at_entry w c r) false) step.jobs) step.left
-        ∙ (λ i. filter_map (said true i) (resent_of w c r) ++ filter_map (said false i) step.jobs)
-
-    eligible : (p : Place) → Contains step.jobs p → is_eligible w (asking_of w c r now).host p ≡ true
-    eligible p job =
-        sym ((the_settled_world_is_like_the_first w c r now sound step.caller step.room).eligible p)
-        ∙ All-contains (λ q. is_eligible (after_settlement w c r now) (asking_of w c r now).host q ≡ true) step.jobs p step.grant.eligible job
+    by_name w c r now reply names step.jobs after (results_are w after c r now reply step) sound step.caller (jobs_are_eligible w after c r now reply step sound)
+    (held_jobs_by_place w after c r now reply names step sound resends lists)

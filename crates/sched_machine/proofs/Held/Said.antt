@@ -115,6 +115,17 @@ module _ (w : World) (c : Caller) (r : Request) (now : ℕ) (jobs : List Place) 
       let v = mapped_by (job_of (name_at after p) (deadline_at after p) h resent b.0.unit) (version_for after h b.0.unit.app) j b.2 in
       sym (ap (λ (z : Job). z.name) v.2) ∙ name_stays p
 
+  -- the deadline of the instance there, and whether it is sent again
+  pub said_rest : (h : HostRow) (resent : Bool) (p : Place) (j : Job) → job_at after h resent p ≡ Some j
+      → (j.report_deadline ≡ deadline_at after p) × (j.resent ≡ resent)
+  said_rest h resent p j is =
+      let b = then_by (λ (b : UnitBook). option_map (job_of (name_at after p) (deadline_at after p) h resent b.unit) (version_for after h b.unit.app))
+      (unit_at after p.unit) j is in
+      let v = mapped_by (job_of (name_at after p) (deadline_at after p) h resent b.0.unit) (version_for after h b.0.unit.app) j b.2 in (
+        sym (ap (λ (z : Job). z.report_deadline) v.2),
+        sym (ap (λ (z : Job). z.resent) v.2),
+      )
+
   -- the host runs a version for what fits it
   fits_runs : (h : HostRow) (p : Place) (b : UnitBook) → unit_at w p.unit ≡ Some b → unit_fits w h b ≡ true → Runs h p
   fits_runs h p b stands fits =
