@@ -2,6 +2,7 @@
 pub mod Words
 pub mod Left
 pub mod Kept
+pub mod ByPlace
 pub mod Owners
 pub mod Sound
 pub mod Runs

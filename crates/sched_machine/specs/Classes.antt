@@ -1,12 +1,13 @@
--- Rule. What holds of the classes of workunits in every run: a class stays, and every owner got its instance with a version
--- of it.
-use Rattle.std.specs.Prelude.{◌≡◌, ◌⊎◌, ℕ, ◌<◌, ◌≤◌, false, List, length, Option, Some, option_map, slice_get}
+-- Rule. What holds of the classes of workunits in every run: a class stays, only a grant brings one, and every owner got its
+-- instance with a version of it.
+use Rattle.std.specs.Prelude.{◌≡◌, ◌⊎◌, ℕ, ◌<◌, ◌≤◌, true, false, List, length, map, Option, Some, None, option_map, slice_get}
 use Rattle.rpc_records.specs.declared.request.Request.{Request}
-use Rattle.sched_book.specs.Classes.{is_of_first}
+use Rattle.sched_book.specs.Classes.{imported, is_of_first, rule_after}
 use Rattle.sched_book.specs.Fits.{version_at_unit}
+use Rattle.sched_book.specs.Grant.{has_unit}
 use Rattle.sched_book.specs.Places.{unit_at}
 use Rattle.sched_book.specs.Sound.{Sound}
-use Rattle.sched_book.specs.Step.{Step, Trace, host_number, host_at_entry}
+use Rattle.sched_book.specs.Step.{Step, Trace, classed, host_number, host_at_entry}
 use Rattle.sched_book.specs.declared.instance.Owner.{Owner}
 use Rattle.sched_book.specs.declared.instance.Place.{Place}
 use Rattle.sched_book.specs.declared.instance.UnitBook.{UnitBook}
@@ -16,6 +17,7 @@ use Rattle.sched_book.specs.declared.machine.Call.TheVariants as call
 use Rattle.sched_book.specs.declared.machine.Caller.{Caller}
 use Rattle.sched_book.specs.declared.rows.ClassRule.{ClassRule}
 use Rattle.sched_book.specs.declared.rows.ClassRule.TheVariants.{Any, OfFirst, Only}
+use Rattle.sched_book.specs.declared.rows.HostRow.{HostRow}
 use Rattle.sched_book.specs.declared.rows.Version.{Version}
 use Rattle.sched_book.specs.declared.world.World.{World}
 use Rattle.sched_machine.specs.Laws.{AreCallsInLimits}
@@ -28,6 +30,27 @@ rule_at w unit = option_map (λ (b : UnitBook). b.unit.class_rule) (unit_at w un
 -- each workunit's rule stays, unless its class is still to be taken: so a class stays, and no workunit becomes marked
 abbrev pub ClassesStay : World → World → Type 0
 ClassesStay old new = (unit : ℕ) (rule : ClassRule) → is_of_first rule ≡ false → rule_at old unit ≡ Some rule → rule_at new unit ≡ Some rule
+
+-- a workunit with its row as it was imported
+abbrev pub as_imported : UnitBook → UnitBook
+as_imported b = record b { unit = imported b.unit }
+
+-- Everything stays, except the classes of workunits.
+pub record ChangesClassesAlone (old new : World) : Type 0 where
+  pub rest : new ≡ record old { units = new.units }
+  pub units : map as_imported new.units ≡ map as_imported old.units
+
+-- What a grant of these jobs to a host leaves of the classes. The version is the one that the host runs in the world that
+-- the call found. A workunit that is marked and has no class takes the version's; any other keeps its rule (`rule_after`).
+pub record HasTakenClasses (entry : World) (h : HostRow) (w : World) (jobs : List Place) (after : World) : Type 0 where
+  pub job : (unit : ℕ) (v : Version) → has_unit unit jobs ≡ true → version_at_unit entry h unit ≡ Some v
+      → rule_at after unit ≡ option_map (λ rule. rule_after rule v.class) (rule_at w unit)
+  pub no_version : (unit : ℕ) → version_at_unit entry h unit ≡ None → rule_at after unit ≡ rule_at w unit
+  pub other : (unit : ℕ) → has_unit unit jobs ≡ false → rule_at after unit ≡ rule_at w unit
+  pub rest : ChangesClassesAlone w after
+
+abbrev pub ClassesAreByPlace : Type 0
+ClassesAreByPlace = (entry : World) (h : HostRow) (w : World) (jobs : List Place) → HasTakenClasses entry h w jobs (classed entry h w jobs)
 
 -- a workunit of this rule keeps to the version's class, or to no class at all
 abbrev pub Follows : ClassRule → Version → Type 0

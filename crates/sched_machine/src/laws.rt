@@ -1,7 +1,7 @@
 //! Laws of the machine. Each function does nothing; its contract is the law.
 
 ghost use Rattle.sched_machine.specs.Alike.{SettledIsLike};
-ghost use Rattle.sched_machine.specs.Classes.{ClassesStay, OwnersAreOfClasses, OwnersAreOfClassesInRuns};
+ghost use Rattle.sched_machine.specs.Classes.{ClassesAreByPlace, ClassesStay, OwnersAreOfClasses, OwnersAreOfClassesInRuns};
 ghost use Rattle.sched_machine.specs.Bounds.{CreditIsBounded, ResentSecondsAreBounded};
 ghost use Rattle.sched_machine.specs.Decisions.{CanonicalsStay, VerdictsStay, StatusesStay, CreditsStay, CreditsAddUp};
 ghost use Rattle.sched_machine.specs.Held.{ReportsEndHolding, HeldByPlaces, HoldsWhatIsListedOrNamed};
@@ -176,6 +176,12 @@ pub fn a_host_holds_what_is_listed_or_named_in_runs()
 /// In every run a workunit that keeps to a class always keeps to it, and one that is not marked is never marked.
 pub fn classes_stay()
     ensures { HoldsInRuns ClassesStay }
+{}
+
+/// A grant changes the class of a workunit only if the workunit is marked, has no class, and one of its instances is
+/// granted. It then takes the class of the version that the host runs. Nothing else changes.
+pub fn classes_are_by_place()
+    ensures { ClassesAreByPlace }
 {}
 
 /// From a sound world: after a step the owner of an instance owned it before, or is the caller and got it by this step.

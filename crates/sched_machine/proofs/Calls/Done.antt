@@ -27,13 +27,14 @@ use Rattle.quorum_credit.specs.Scores.{credits_in}
 use Rattle.quorum_credit.specs.Settling.{AreScores}
 use Rattle.quorum_credit.proofs.FitReports.{limited_from_sound}
 use Rattle.quorum_credit.proofs.SettledAll.{units_in_limits}
+use Rattle.sched_machine.specs.Classes.{ChangesClassesAlone}
 use Rattle.sched_machine.specs.Granting.{with_classes, AreRunBy, CanTake, FitWithHost}
 use Rattle.sched_machine.specs.Prepared.{IsReady}
 use Rattle.sched_machine.specs.Replying.{AreReplyParts, IsGranted, reply_of}
 use Rattle.sched_machine.specs.Totals.{user_credits_in}
 use Rattle.sched_machine.specs.declared.preparing.Ready.{Ready}
 use Rattle.sched_machine.specs.declared.reply.Told.{Told}
-use Rattle.sched_machine.proofs.Classes.Left.{IsLike, classed_like, credits_same, user_same}
+use Rattle.sched_machine.proofs.Classes.Left.{classed_like, credits_same, user_same}
 use Rattle.sched_machine.proofs.Calls.Taken.{can_take, taken_is}
 use Rattle.sched_machine.proofs.Credit.Scored.{totals_known}
 use Rattle.sched_machine.proofs.Moves.Sound.{settled_sound, host_stands}
@@ -90,7 +91,7 @@ module _ (w v : World) (r : Request) (now : ℕ) (ready : Ready) (changes : List
     abbrev given : World
     given = granted (after_settlement w caller r now) number now done.jobs
 
-    like : IsLike given (after_grant w caller r now done.jobs)
+    like : ChangesClassesAlone given (after_grant w caller r now done.jobs)
     like = classed_like w (host_at_entry w caller r) done.jobs given
 
     totals : ((n : ℕ) → host_credit (granted (after_settlement w caller r now) number now done.jobs) n ≡ host_credit w n + credits_in ready.settled.scores n)

@@ -24,9 +24,10 @@ use Rattle.job_choice.specs.Chosen.{places_of}
 use Rattle.job_choice.specs.declared.granted.Granted.{Granted}
 use Rattle.quorum_credit.specs.Limited.{IsLimited}
 use Rattle.quorum_credit.proofs.FitReports.{fit_more}
+use Rattle.sched_machine.specs.Classes.{as_imported}
 use Rattle.sched_machine.specs.Granting.{with_classes, AreRunBy, CanTake, FitWithHost}
 use Rattle.sched_machine.proofs.Classes.Words.{version_word}
-use Rattle.sched_machine.proofs.Classes.Left.{plain, granted_like, plain_same, instance_same}
+use Rattle.sched_machine.proofs.Classes.Left.{granted_like, plain_same, instance_same}
 use Rattle.sched_machine.proofs.OptionParts.{mapped_by, then_by}
 
 -- ---- changes that fit
@@ -65,8 +66,8 @@ stands_after w cs unit is = ap is_some (unit_at-applied w unit cs) ∙ still_sta
 class_limited : (w : World) (unit : ℕ) (class : List ℕ) → IsLimited w → IsLimited (class_granted w unit class)
 class_limited w unit class limited = record {
   few = λ n b stands.
-      (let c = mapped_by plain (unit_at w n) (plain b)
-      (sym (plain_same w (class_granted w unit class) (granted_like w unit class) n) ∙ ap (option_map plain) stands) in
+      (let c = mapped_by as_imported (unit_at w n) (as_imported b)
+      (sym (plain_same w (class_granted w unit class) (granted_like w unit class) n) ∙ ap (option_map as_imported) stands) in
       subst (λ (z : UnitBook). length z.instances ≤ most_instances) c.2 (limited.few n c.0 c.1));
   each = λ p x stands. limited.each p x (sym (instance_same w (class_granted w unit class) (granted_like w unit class) p) ∙ stands);
 }

@@ -4,7 +4,7 @@ use Rattle.std.specs.Prelude.{◌==◌, map, sum_by, option_map, option_and_then
 use Rattle.std.specs.List.{enumerate_from}
 use Rattle.std.proofs.lemmas.List.Sums.{sum_by-cons}
 use Rattle.rpc_records.specs.declared.reply.Job.{Job}
-use Rattle.sched_book.specs.Classes.{class_of, rule_after, imported, with_class}
+use Rattle.sched_book.specs.Classes.{class_of, rule_after, with_class}
 use Rattle.sched_book.specs.Fits.{version_for, version_at_unit}
 use Rattle.sched_book.specs.Names.{instance_name}
 use Rattle.sched_book.specs.Places.{nth, unit_at, instance_at, deadline_of, name_at, credit_in, host_credit, user_credit, is_held_by}
@@ -23,34 +23,26 @@ use Rattle.sched_book.proofs.Classes.{first_stays, limits_with_rule}
 use Rattle.sched_book.proofs.PlaceChanges.{map_changed_nth}
 use Rattle.sched_book.proofs.Settling.{nth-map}
 use Rattle.sched_machine.specs.Asked.{holds}
+use Rattle.sched_machine.specs.Classes.{as_imported, ChangesClassesAlone}
 use Rattle.sched_machine.proofs.Classes.Words.{version_word}
 use Rattle.sched_machine.proofs.Rows.Kept.{rows_changed}
 use Rattle.sched_machine.proofs.Rows.Listed.{all_changed_nth}
 use Rattle.texts.specs.Words.{IsWord}
 
--- a workunit as if it had taken no class
-abbrev pub plain : UnitBook → UnitBook
-plain b = record b { unit = imported b.unit }
-
--- The second world is the first one except for the classes of its workunits.
-pub record IsLike (w v : World) : Type 0 where
-  pub rest : v ≡ record w { units = v.units }
-  pub units : map plain v.units ≡ map plain w.units
-
-like_self : (w : World) → IsLike w w
+like_self : (w : World) → ChangesClassesAlone w w
 like_self w = record { rest = refl; units = refl }
 
-like_then : (u v w : World) → IsLike u v → IsLike v w → IsLike u w
+like_then : (u v w : World) → ChangesClassesAlone u v → ChangesClassesAlone v w → ChangesClassesAlone u w
 like_then u v w first second = record {
   rest = second.rest ∙ ap (λ (z : World). record z { units = w.units }) first.rest;
   units = second.units ∙ first.units;
 }
 
 -- one class that is granted, and the classes of all jobs
-pub granted_like : (w : World) (unit : ℕ) (class : List ℕ) → IsLike w (class_granted w unit class)
+pub granted_like : (w : World) (unit : ℕ) (class : List ℕ) → ChangesClassesAlone w (class_granted w unit class)
 granted_like w unit class = record {
   rest = refl;
-  units = map_changed_nth plain (with_class class)
+  units = map_changed_nth as_imported (with_class class)
       (λ b. ap (λ (rule : ClassRule). record b { unit = record b.unit { class_rule = rule } }) (first_stays b.unit.class_rule class)) w.units unit;
 }
 
@@ -65,9 +57,9 @@ classes_keep P entry h one (p ∷ jobs) w was = classes_keep P entry h one jobs 
     cases None is = was
     cases (Some v) is = one w p.unit v is was
 
-pub classed_like : (entry : World) (h : HostRow) (jobs : List Place) (w : World) → IsLike w (classed entry h w jobs)
+pub classed_like : (entry : World) (h : HostRow) (jobs : List Place) (w : World) → ChangesClassesAlone w (classed entry h w jobs)
 classed_like entry h jobs w =
-    classes_keep (IsLike w) entry h (λ u unit v is like. like_then w u (class_granted u unit v.class) like (granted_like u unit v.class)) jobs w (like_self w)
+    classes_keep (ChangesClassesAlone w) entry h (λ u unit v is like. like_then w u (class_granted u unit v.class) like (granted_like u unit v.class)) jobs w (like_self w)
 
 -- a value of a list stays the same if each element is replaced by one with the same value
 pub sum_mapped : {X : Type 0} (g : X → X) (f : X → ℕ) → ((x : X) → f (g x) ≡ f x) → (xs : List X) → sum_by f (map g xs) ≡ sum_by f xs
@@ -79,16 +71,16 @@ sum_mapped g f same (x ∷ xs) =
     ∙ sym (sum_by-cons f x xs)
 
 -- What the two worlds agree on.
-module _ (w v : World) (like : IsLike w v) where
-  pub plain_same : (n : ℕ) → option_map plain (unit_at v n) ≡ option_map plain (unit_at w n)
-  plain_same n = sym (nth-map plain v.units n) ∙ ap (λ us. nth us n) like.units ∙ nth-map plain w.units n
+module _ (w v : World) (like : ChangesClassesAlone w v) where
+  pub plain_same : (n : ℕ) → option_map as_imported (unit_at v n) ≡ option_map as_imported (unit_at w n)
+  plain_same n = sym (nth-map as_imported v.units n) ∙ ap (λ us. nth us n) like.units ∙ nth-map as_imported w.units n
 
   -- any value of a workunit that does not depend on its class
-  pub read_same : {Y : Type 0} (f : Option UnitBook → Y) → ((b : UnitBook) → f (Some (plain b)) ≡ f (Some b)) → (n : ℕ)
+  pub read_same : {Y : Type 0} (f : Option UnitBook → Y) → ((b : UnitBook) → f (Some (as_imported b)) ≡ f (Some b)) → (n : ℕ)
       → f (unit_at v n) ≡ f (unit_at w n)
   read_same {Y} f blind n = sym (each (unit_at v n)) ∙ ap f (plain_same n) ∙ each (unit_at w n)
     where
-      each : (o : Option UnitBook) → f (option_map plain o) ≡ f o
+      each : (o : Option UnitBook) → f (option_map as_imported o) ≡ f o
       each None = refl
       each (Some b) = blind b
 
@@ -127,9 +119,9 @@ module _ (w v : World) (like : IsLike w v) where
       each : (n : ℕ) → host_credit v n ≡ host_credit w n
       each n =
           ap (λ (z : World). sum_by (credit_in z.apps n) v.units) like.rest
-          ∙ sym (sum_mapped plain (credit_in w.apps n) (λ b. refl) v.units)
+          ∙ sym (sum_mapped as_imported (credit_in w.apps n) (λ b. refl) v.units)
           ∙ ap (sum_by (credit_in w.apps n)) like.units
-          ∙ sum_mapped plain (credit_in w.apps n) (λ b. refl) w.units
+          ∙ sum_mapped as_imported (credit_in w.apps n) (λ b. refl) w.units
 
   pub user_same : (account : ℕ) → user_credit v account ≡ user_credit w account
   user_same account =

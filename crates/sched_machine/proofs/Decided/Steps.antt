@@ -25,7 +25,8 @@ use Rattle.sched_book.specs.declared.world.World.{World}
 use Rattle.sched_book.proofs.PlaceChanges.{grants_are_by_place, lapses_are_by_place}
 use Rattle.sched_book.proofs.PlacesOf.{nth-front}
 use Rattle.sched_book.proofs.ByPlace.{all_get, all_nth, nth-map_places}
-use Rattle.sched_machine.proofs.Classes.Left.{plain, IsLike, classed_like, plain_same}
+use Rattle.sched_machine.proofs.Classes.Left.{classed_like, plain_same}
+use Rattle.sched_machine.specs.Classes.{as_imported, ChangesClassesAlone}
 use Rattle.sched_machine.proofs.Decided.Good.{AllBecame}
 use Rattle.sched_machine.proofs.Rows.Entry.{AccountsStay, accounts_at_entry}
 use Rattle.sched_machine.proofs.Rows.Named.{agreement_stays}
@@ -70,19 +71,19 @@ accounts_settled old new hosts n h stands =
     (with_quota old new (n, h), nth-map_places (with_quota old new) hosts n ∙ ap (option_map (λ k. with_quota old new (n, k))) stands, refl)
 
 -- after workunits took classes
-became_like : (w v u : World) → IsLike v u → WorldBecame w v → WorldBecame w u
+became_like : (w v u : World) → ChangesClassesAlone v u → WorldBecame w v → WorldBecame w u
 became_like w v u like became = record {
   units = λ k. cases (nth w.units k) (nth v.units k) (nth u.units k) (plain_same v u like k) (became.units k);
   hosts = subst (AccountsStay w.hosts) (sym (ap (λ (z : World). z.hosts) like.rest)) became.hosts;
   agreements = λ name known. ap (λ (z : World). agreement_by z.apps name) like.rest ∙ became.agreements name known;
 }
   where
-    cases : (p o q : Option UnitBook) → option_map plain q ≡ option_map plain o → UnitBecameAt w.apps p o → UnitBecameAt w.apps p q
+    cases : (p o q : Option UnitBook) → option_map as_imported q ≡ option_map as_imported o → UnitBecameAt w.apps p o → UnitBecameAt w.apps p q
     cases None o q alike was = tt
     cases (Some b) None q alike was = absurd was
     cases (Some b) (Some c) None alike was = absurd cc
     cases (Some b) (Some c) (Some d) alike was =
-        let same : plain c ≡ plain d = cc in
+        let same : as_imported c ≡ as_imported d = cc in
         record {
           row = ap (λ (z : UnitBook). z.unit) (sym same) ∙ was.row;
           became = subst (λ (z : UnitBook). AllBecame (count_by is_judged b.instances) (has_failed (book_status w.apps b)) b.instances z.instances) same was.became;
