@@ -40,7 +40,7 @@ impl fmt::Display for Refused {
         match self {
             Refused::BadAccount => write!(f, "no account has the authenticator"),
             Refused::BadHost => write!(f, "the number is not that of the caller's host"),
-            Refused::HostsFull => write!(f, "no more hosts may stand"),
+            Refused::HostsFull => write!(f, "there is no room for another host"),
             Refused::Unavailable => write!(f, "unavailable"),
         }
     }
