@@ -31,5 +31,5 @@ abbrev pub SameLeft : {X Y : Type 0} → (X → Option Y) → List Y → List Y 
 SameLeft f rows left keys more = (rows ≡ filter_map f keys → left ≡ filter_map f more) × (left ≡ filter_map f more → rows ≡ filter_map f keys)
 
 module _ {X Y : Type 0} (f : X → Option Y) (rows left : List Y) (keys more : List X) (x : X) where
-  pub none_behind : ((behind : List Y) → left ≢ cons_option (f x) behind) → SameLeft f rows left keys (x ∷ more) → rows ≢ filter_map f keys
-  none_behind none before = λ same. none (filter_map f more) (before.0 same)
+  pub none_after : ((rest : List Y) → left ≢ cons_option (f x) rest) → SameLeft f rows left keys (x ∷ more) → rows ≢ filter_map f keys
+  none_after none before = λ same. none (filter_map f more) (before.0 same)

@@ -108,16 +108,16 @@ fn are_setting_rows(alloc: Global, settings: &Settings, rows: &[StoredRow]) -> R
 }
 
 /// The rows after the world's own row, if they begin with it. If the world has none, all of the rows.
-fn behind<'a>(own: &Option<StoredRow>, rows: &'a [StoredRow]) -> Option<&'a [StoredRow]>
+fn rest_after<'a>(own: &Option<StoredRow>, rows: &'a [StoredRow]) -> Option<&'a [StoredRow]>
     ensures { MatchOption result ((more : _) → rows.now ≢ cons_option own.now more) (λ more. rows.now ≡ cons_option own.now more.now) }
 {
     let Some(own) = own else {
         return Some(rows);
     };
-    let [row, behind @ ..] = rows else {
+    let [row, rest @ ..] = rows else {
         return None;
     };
-    same_row(own, row).then_some(behind)
+    same_row(own, row).then_some(rest)
 }
 
 /// Whether these are the rows of the world at some keys, in their order.
@@ -132,10 +132,10 @@ fn are_rows_at(
 {
     let mut left = rows;
     for key in keys {
-        let behind = behind(&row_at(alloc, world, totals, *key)?, left);
-        match behind {
+        let rest = rest_after(&row_at(alloc, world, totals, *key)?, left);
+        match rest {
             None => return Ok(false),
-            Some(behind) => left = behind,
+            Some(rest) => left = rest,
         }
     }
     Ok(left.is_empty())
