@@ -192,7 +192,7 @@ fn settle_onto<D: Desk>(
 }
 
 /// The changes of a list after the first `count`.
-fn behind(alloc: Global, delta: Delta, count: usize) -> Result<Delta, Memory>
+fn changes_after(alloc: Global, delta: Delta, count: usize) -> Result<Delta, Memory>
     ensures { IfOk result (λ more. more ≡ drop count delta) }
 {
     Ok(Listed::of(delta.into_vec().into_iter().skip(count).collect(alloc)?))
@@ -223,7 +223,7 @@ pub fn settle_all<D: Desk>(
 {
     let mut page = Page::new(alloc, desk.settings(alloc)?);
     settle_onto(alloc, desk, &mut page, delta, touched)?;
-    Ok(behind(alloc, page.delta, delta.len())?)
+    Ok(changes_after(alloc, page.delta, delta.len())?)
 }
 
 /// Lets each held instance whose deadline is before this moment lapse late, and settles their workunits.

@@ -16,7 +16,7 @@ pub fn canonical(agreement: &Agreement, unit: &Workunit, instances: &[Instance])
     count::canonical(agreement, unit, instances)
 }
 
-/// How many instances a workunit of this status is to get.
+/// How many further instances a workunit is to get: as many as it needs if it is open, else none.
 pub(crate) fn new_instances(agreement: &Agreement, unit: &Workunit, instances: &[Instance]) -> usize
     requires { length instances.now ≤ MOST_INSTANCES }
     ensures { result ≡ new_instances agreement.now unit.now instances.now }

@@ -33,12 +33,12 @@ told g c honest kept =
 
 pub returns-clause-settled : goal.returns-clause-settled
 returns-clause-settled g c = λ honest kept.
-    let t = told g c honest kept in joined_settle _ _ _ _ _ t.settlement _ c.len.ensures c.in_ok-behind.ensures t.puts
+    let t = told g c honest kept in joined_settle _ _ _ _ _ t.settlement _ c.len.ensures c.in_ok-changes_after.ensures t.puts
 
 pub returns-clause-fits : goal.returns-clause-fits
 returns-clause-fits g c = λ honest kept.
-    let t = told g c honest kept in joined_fit _ _ _ _ _ t.settlement _ c.len.ensures c.in_ok-behind.ensures t.puts
+    let t = told g c honest kept in joined_fit _ _ _ _ _ t.settlement _ c.len.ensures c.in_ok-changes_after.ensures t.puts
 
 pub returns-clause-puts : goal.returns-clause-puts
 returns-clause-puts g c = λ honest kept.
-    let t = told g c honest kept in joined_put _ _ _ _ _ t.settlement _ c.len.ensures c.in_ok-behind.ensures t.puts
+    let t = told g c honest kept in joined_put _ _ _ _ _ t.settlement _ c.len.ensures c.in_ok-changes_after.ensures t.puts
