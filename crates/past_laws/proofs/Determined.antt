@@ -18,14 +18,11 @@ use Rattle.pasts.specs.Runs.{Turn, SaysCall, IsTurn, turn_body, world_of, kept_o
 use Rattle.pasts.specs.Stands.{Heard, Past, Answers, messages_in}
 use Rattle.pasts.specs.Told.{told}
 use Rattle.pasts.specs.declared.answer.Answer.TheVariants.{Good}
+use Rattle.pasts.proofs.ByNumber.{caller_of}
+use Rattle.pasts.proofs.Rising.{head_of}
 use Rattle.past_laws.specs.Laws.{TablesAreDetermined}
 
 -- ---- one turn
-
-caller_in : (w after : World) (c : Caller) (r : Request) (now : ℕ) (answer : Answered) → Step w (call.Rpc c r) now after answer → IsCaller w c r
-caller_in w after c r now (answered.Rpc reply) step = step.caller
-caller_in w after c r now (answered.Imported count) step = absurd step
-caller_in w after c r now (answered.Lapsed count) step = absurd step
 
 one_caller : (w : World) (c d : Caller) (r : Request) → IsCaller w c r → IsCaller w d r → c ≡ d
 one_caller w c d r one other =
@@ -40,7 +37,7 @@ one_call : (w v u : World) (said : Said) (c d : Call) (now : ℕ) (a b : Answere
 one_call w v u (Rpc request) (call.Rpc c r) (call.Rpc d q) now a b says tells first second =
     let same : r ≡ q = says ∙ sym tells in
     let P : Request → Type 0 = λ x. Step w (call.Rpc d x) now u b in
-    let one : c ≡ d = one_caller w c d r (caller_in w v c r now a first) (caller_in w u d r now b (subst P (sym same) second)) in
+    let one : c ≡ d = one_caller w c d r (caller_of w v c r now a first) (caller_of w u d r now b (subst P (sym same) second)) in
     λ i. call.Rpc (one i) (same i)
 one_call w v u (Rpc request) (call.Rpc c r) (call.Import new) now a b says tells first second = absurd tells
 one_call w v u (Rpc request) (call.Rpc c r) call.Tick now a b says tells first second = absurd tells
@@ -98,9 +95,6 @@ newest s h g past other_past turns others m rest below (inr (first, tells, one))
     sym tells ∙ (λ i. told (world_of s (under.0 i)) (kept_of (under.0 i)) (batch_of (under.0 i)) (m i).said) ∙ says in
     let answer : h.answer ≡ g.answer = cc in
     (under.0, λ i. record { message = m i; answer = answer i } ∷ under.1 i)
-
-head_of : (x y : Message) (xs ys : List Message) → x ∷ xs ≡ y ∷ ys → (x ≡ y) × (xs ≡ ys)
-head_of x y xs ys same = (cc, cc)
 
 no_more : (x : Message) (xs : List Message) → x ∷ xs ≡ [] → ⊥
 no_more x xs same = cc

@@ -314,7 +314,7 @@ as_many w after kept same of host beyond = of host (omega (arith, same, beyond))
 
 -- ---- each message
 
-caller_of : (w after : World) (c : Caller) (r : Request) (now : ℕ) (answer : Answered) → Step w (call.Rpc c r) now after answer → IsCaller w c r
+pub caller_of : (w after : World) (c : Caller) (r : Request) (now : ℕ) (answer : Answered) → Step w (call.Rpc c r) now after answer → IsCaller w c r
 caller_of w after c r now (answered.Rpc reply) step = step.caller
 caller_of w after c r now (answered.Imported n) step = absurd step
 caller_of w after c r now (answered.Lapsed n) step = absurd step

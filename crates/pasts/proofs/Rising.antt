@@ -16,7 +16,7 @@ abbrev HeadIsFirst : Settings → List Message → Type 0
 HeadIsFirst s heard =
     (newer : List Message) (m : Message) (older : List Message) → heard ≡ newer ++ m ∷ older → is_first_heard s older m.said ≡ true
 
-head_of : (x y : Message) (xs ys : List Message) → x ∷ xs ≡ y ∷ ys → (x ≡ y) × (xs ≡ ys)
+pub head_of : (x y : Message) (xs ys : List Message) → x ∷ xs ≡ y ∷ ys → (x ≡ y) × (xs ≡ ys)
 head_of x y xs ys same = (cc, cc)
 
 one_more : (s : Settings) (m : Message) (heard : List Message) (first : Bool) → is_first_heard s heard m.said ≡ first

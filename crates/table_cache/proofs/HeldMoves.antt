@@ -13,7 +13,7 @@ use Rattle.sched_book.specs.declared.instance.Place.{Place}
 use Rattle.sched_book.specs.declared.instance.UnitBook.{UnitBook}
 use Rattle.sched_book.specs.declared.world.World.{World}
 use Rattle.table_desk.specs.Sorted.{has, AreSorted}
-use Rattle.table_desk.proofs.PlaceOrder.{one_place}
+use Rattle.sched_book.proofs.Recording.{is_same-true}
 use Rattle.table_desk.proofs.SortedPlaces.{same_sorted, where_sorted, where_has}
 use Rattle.table_cache.specs.Carrying.{with_one}
 use Rattle.table_cache.specs.Covering.{jobs_of}
@@ -104,7 +104,7 @@ module _ (holders : ℕ → ℕ → Option ℕ) (place : Place) (holder : Option
   list_stays host places is same = list_moved host places places is is.sorted (λ p. stays p (is_same place p) refl)
     where
       stays : (p : Place) (b : Bool) → is_same place p ≡ b → has places p ≡ cond b (option_any (λ n. n == host) holder) (has places p)
-      stays p true one = is.each p ∙ ap (λ (q : Place). option_any (λ n. n == host) (holders q.unit q.number)) (sym (one_place place p one)) ∙ same
+      stays p true one = is.each p ∙ ap (λ (q : Place). option_any (λ n. n == host) (holders q.unit q.number)) (sym (is_same-true place p one)) ∙ same
       stays p false apart = refl
 
   -- ---- what is known of hosts, if only one of them held the place or holds it now

@@ -18,7 +18,7 @@ use Rattle.sched_book.specs.declared.instance.Owner.{Owner}
 use Rattle.sched_book.specs.declared.instance.Place.{Place}
 use Rattle.table_desk.specs.Skips.{SkipPlaces, most_came, no_skip, covers, raised, with_came}
 use Rattle.table_desk.specs.declared.hosts.CountedHost.{CountedHost}
-use Rattle.table_desk.proofs.PlaceOrder.{one_place}
+use Rattle.sched_book.proofs.Recording.{is_same-true}
 use Rattle.table_meaning.specs.Rows.{columns_of, whole}
 use Rattle.table_meaning.specs.declared.rows.StoredHost.{StoredHost}
 use Rattle.table_meaning.specs.declared.rows.StoredInstance.{StoredInstance}
@@ -110,7 +110,7 @@ module _ (jobs : ℕ → ℕ → Option Instance) (hosts : ℕ → Option Counte
         where
           apart : (unit number : ℕ) → covers skip (record { unit = unit; number = number }) ≡ true → (b : Bool) → is_same (record { unit = unit; number = number }) place ≡ b → is_same (record { unit = unit; number = number }) place ≡ false
           apart unit number covered false other = other
-          apart unit number covered true same = absurd (true≢false (sym covered ∙ ap (covers skip) (one_place (record { unit = unit; number = number }) place same) ∙ free))
+          apart unit number covered true same = absurd (true≢false (sym covered ∙ ap (covers skip) (is_same-true (record { unit = unit; number = number }) place same) ∙ free))
 
       came : IsSkipFor then jobs hosts (Some account) (with_came skip place)
       came = one (covers skip place) refl (nat_lt (length skip.came) most_came)

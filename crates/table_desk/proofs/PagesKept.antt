@@ -20,7 +20,8 @@ use Rattle.table_meaning.specs.Worlds.{is_queued}
 use Rattle.table_desk.specs.Pages.{candidates_at, behind, unsent_on}
 use Rattle.table_desk.specs.Sorted.{has, rest_from, AreSorted}
 use Rattle.table_desk.specs.WaitingPage.{is_before_end, is_within, waiting_of, waits_at, with_wait_at, AreWaiting}
-use Rattle.table_desk.proofs.PlaceOrder.{not_before, not_both, one_place}
+use Rattle.sched_book.proofs.Recording.{is_same-true}
+use Rattle.table_desk.proofs.PlaceOrder.{not_before, not_both}
 use Rattle.table_desk.proofs.SortedPlaces.{all_before, has_contained, joined_sorted, rest_has, rest_sorted, same_sorted, taken_length, taken_sorted, where_has}
 use Rattle.table_desk.proofs.Waiting.{open_code, parted, unsent_parted, waiting, waiting_on, waits}
 
@@ -42,10 +43,10 @@ has_kept keep (q ∷ qs) p = parts (keep q) ∙ one (keep q) refl (is_same p q) 
     parts false = refl
 
     one : (b : Bool) → keep q ≡ b → (s : Bool) → is_same p q ≡ s → has rest p ≡ (keep p && has qs p) → cond b (s || has rest p) (has rest p) ≡ (keep p && (s || has qs p))
-    one true kept true is later = sym (ap (λ t. t && true) (ap keep (one_place p q is) ∙ kept))
+    one true kept true is later = sym (ap (λ t. t && true) (ap keep (is_same-true p q is) ∙ kept))
     one true kept false other later = later
     one false drops true is later =
-        let no = ap keep (one_place p q is) ∙ drops in
+        let no = ap keep (is_same-true p q is) ∙ drops in
         later ∙ and_left (keep p) (has qs p) no ∙ sym (and_left (keep p) true no)
     one false drops false other later = later
 
@@ -251,7 +252,7 @@ module _ (waiting : ℕ → ℕ → Option Bool) (from : Place) (end : Option Pl
   }
     where
       turn : (p : Place) (s : Bool) → is_same place p ≡ s → cond s b (has page p) ≡ (is_within from end p && cond s b (waits_at waiting p))
-      turn p true is = sym (ap (λ t. t && b) (ap (is_within from end) (sym (one_place place p is)) ∙ within))
+      turn p true is = sym (ap (λ t. t && b) (ap (is_within from end) (sym (is_same-true place p is)) ∙ within))
       turn p false other = are.each p
 
   -- elsewhere
@@ -264,6 +265,6 @@ module _ (waiting : ℕ → ℕ → Option Bool) (from : Place) (end : Option Pl
     where
       turn : (p : Place) (s : Bool) → is_same place p ≡ s → (is_within from end p && waits_at waiting p) ≡ (is_within from end p && cond s b (waits_at waiting p))
       turn p true is =
-          let no = ap (is_within from end) (sym (one_place place p is)) ∙ outside in
+          let no = ap (is_within from end) (sym (is_same-true place p is)) ∙ outside in
           and_left (is_within from end p) (waits_at waiting p) no ∙ sym (and_left (is_within from end p) b no)
       turn p false other = refl

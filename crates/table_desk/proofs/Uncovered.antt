@@ -6,7 +6,8 @@ use Rattle.std.proofs.lemmas.Bool.{and_from, and_left, and_parts, and_right, not
 use Rattle.sched_book.specs.Places.{is_before, is_same}
 use Rattle.sched_book.specs.declared.instance.Place.{Place}
 use Rattle.table_desk.specs.Skips.{SkipPlaces, covers, nearer, first_listed}
-use Rattle.table_desk.proofs.PlaceOrder.{not_itself, not_both, not_before, one_place, is_itself}
+use Rattle.sched_book.proofs.Recording.{is_same-true, is_same-self}
+use Rattle.table_desk.proofs.PlaceOrder.{not_itself, not_both, not_before}
 
 -- ---- the first of some places from one place on
 
@@ -47,7 +48,7 @@ module _ (from : Place) where
       apart : (b : Bool) → is_same p x ≡ b → is_before (nearer from n x) found ≡ false → is_same p x ≡ false
       apart false is least = is
       apart true is least =
-          let one = one_place p x is in
+          let one = is_same-true p x is in
           let past = reached (replaces n x) refl (ap (λ q. is_before q from) (sym one) ∙ late) least in
           absurd (true≢false (sym before ∙ ap (λ q. is_before q found) one ∙ past))
 
@@ -63,7 +64,7 @@ module _ (from : Place) where
       found = first_listed from (nearer from n x) xs
 
       turn : (b : Bool) → replaces n x ≡ b → found ≡ cond b x n → (found ≡ n) ⊎ ((is_same found x || list_any (is_same found) xs) ≡ true)
-      turn true is same = inr (or_left (is_same found x) (list_any (is_same found) xs) (ap (λ q. is_same q x) same ∙ is_itself x))
+      turn true is same = inr (or_left (is_same found x) (list_any (is_same found) xs) (ap (λ q. is_same q x) same ∙ is_same-self x))
       turn false is same = inl same
 
 -- ---- where a skip goes on
