@@ -28,3 +28,4 @@ pub mod Firsts
 pub mod KeysSeen
 pub mod ByPlace
 pub mod LeftByImports
+pub mod UnsentPlaces

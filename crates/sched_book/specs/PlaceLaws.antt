@@ -1,13 +1,16 @@
 -- Rule. What lists of places and of reports contain, and what the parts of a step change: each place by itself, and
 -- nothing else.
-use Rattle.std.specs.Prelude.{◌⊎◌, ◌≡◌, ◌≢◌, ℕ, ◌<◌, Bool, true, false, if◌then◌else◌, ◌+◌, List, [], map, fold, filter_map, All, AllPairs, Contains, Option, Some, option_map, slice_get}
+use Rattle.std.specs.Prelude.{◌⊎◌, ◌≡◌, ◌≢◌, ℕ, ◌<◌, Bool, true, false, ◌&&◌, if◌then◌else◌, ◌+◌, List, [], map, fold, filter_map, All, AllPairs, Contains, Option, Some, option_map, is_none, slice_get}
 use Rattle.rpc_records.specs.declared.request.Report.{Report}
-use Rattle.sched_book.specs.Count.{tells_success, report_of, place_of, good}
+use Rattle.sched_book.specs.Count.{tells_success, report_of, place_of, good, is_open}
+use Rattle.sched_book.specs.Desk.{workunit_at}
 use Rattle.sched_book.specs.Fits.{estimate_at}
 use Rattle.sched_book.specs.Lost.{lost, is_resent, resend_or_drop, delay_at, deadline_after, with_deadline, with_lapse}
-use Rattle.sched_book.specs.Places.{instance_at, passes, places_where, is_held_by, is_overdue, is_before, name_at}
+use Rattle.sched_book.specs.Offers.{unsent}
+use Rattle.sched_book.specs.Places.{instance_at, passes, places_where, status_of, is_held_by, is_overdue, is_before, name_at}
 use Rattle.sched_book.specs.Reports.{first_of_each, first_reports, recorded}
 use Rattle.sched_book.specs.Step.{with_owner, granted, lapsed}
+use Rattle.sched_book.specs.declared.desk.Candidate.{Candidate}
 use Rattle.sched_book.specs.declared.instance.Instance.{Instance}
 use Rattle.sched_book.specs.declared.instance.Lapse.TheVariants.{Late, Dropped}
 use Rattle.sched_book.specs.declared.instance.Place.{Place}
@@ -62,6 +65,25 @@ pub record ArePlacesWhere (w : World) (test : UnitBook → Instance → Bool) (p
 
 abbrev pub PlacesAreThoseThatPass : Type 0
 PlacesAreThoseThatPass = (w : World) (test : UnitBook → Instance → Bool) → ArePlacesWhere w test (places_where w test)
+
+-- the workunit is open, and the instance was given to nobody
+abbrev pub is_unsent : World → UnitBook → Instance → Bool
+is_unsent w b x = is_open (status_of w b) && is_none x.owner
+
+-- A candidate: an unsent instance at this place or after it, with its workunit's row.
+pub record IsUnsentFrom (w : World) (from : Place) (c : Candidate) : Type 0 where
+  pub unsent : passes w (is_unsent w) c.place ≡ true
+  pub reached : is_before c.place from ≡ false
+  pub row : workunit_at w c.place.unit ≡ Some c.unit
+
+-- The candidates from a place on, each once, in the order of their places. No unsent instance from there on is missed.
+pub record AreUnsentFrom (w : World) (from : Place) (cs : List Candidate) : Type 0 where
+  pub each : All (IsUnsentFrom w from) cs
+  pub none_missed : (p : Place) → passes w (is_unsent w) p ≡ true → is_before p from ≡ false → Contains (map (λ (c : Candidate). c.place) cs) p
+  pub rising : AllPairs (λ (c d : Candidate). is_before c.place d.place ≡ true) cs
+
+abbrev pub OffersAreTheUnsent : Type 0
+OffersAreTheUnsent = (w : World) (from : Place) → AreUnsentFrom w from (unsent w from)
 
 -- Lost jobs are sent again, the client sent a list, the host holds the instance at the place, and its name is not in the
 -- list.

@@ -2,7 +2,7 @@
 
 ghost use Rattle.sched_book.specs.Laws.{CanonicalIsFirstLeader, VersionIsNewestOfFirst, SettlementIsPointwise, FirstReportsAreFirst, ReportsAreRecordedByPlace, MadeNamesAreSplit, SplitNamesAreMade, FittingKeepsBounds};
 ghost use Rattle.sched_book.specs.Bounds.{SoundIsBounded, InstancesAreFew, ChargesAreFew};
-ghost use Rattle.sched_book.specs.PlaceLaws.{FirstReportsAreOfEachName, FirstNamesAreOfEachName, GoodAreJudgedSuccesses, PlacesAreThoseThatPass, LostAreHeldAndUnlisted, ReportsChangeInstancesAlone, LapsesAreByPlace, GrantsAreByPlace, LostJobsAreByPlace};
+ghost use Rattle.sched_book.specs.PlaceLaws.{FirstReportsAreOfEachName, FirstNamesAreOfEachName, GoodAreJudgedSuccesses, PlacesAreThoseThatPass, OffersAreTheUnsent, LostAreHeldAndUnlisted, ReportsChangeInstancesAlone, LapsesAreByPlace, GrantsAreByPlace, LostJobsAreByPlace};
 
 /// Take the shortest front of the good reports in which some report agrees with a majority. The canonical result is the
 /// first such report. If no front has one, there is none.
@@ -66,6 +66,12 @@ pub fn good_reports_are_the_judged_successes()
 /// in order.
 pub fn places_are_those_that_pass()
     ensures { PlacesAreThoseThatPass }
+{}
+
+/// The candidates from a place on are the unsent instances of open workunits, each once, in order, each with its
+/// workunit's row. No such instance is passed over.
+pub fn offers_are_the_unsent()
+    ensures { OffersAreTheUnsent }
 {}
 
 /// The lost jobs of a host are what it holds and its client does not list, each once, in the order of their places.
