@@ -29,3 +29,4 @@ pub mod KeysSeen
 pub mod ByPlace
 pub mod LeftByImports
 pub mod UnsentPlaces
+pub mod UnitsHad

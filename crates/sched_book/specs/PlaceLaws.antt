@@ -3,11 +3,11 @@
 use Rattle.std.specs.Prelude.{◌⊎◌, ◌≡◌, ◌≢◌, ℕ, ◌<◌, Bool, true, false, ◌&&◌, if◌then◌else◌, ◌+◌, List, [], map, fold, filter_map, All, AllPairs, Contains, Option, Some, option_map, is_none, slice_get}
 use Rattle.rpc_records.specs.declared.request.Report.{Report}
 use Rattle.sched_book.specs.Count.{tells_success, report_of, place_of, good, is_open}
-use Rattle.sched_book.specs.Desk.{workunit_at}
+use Rattle.sched_book.specs.Desk.{workunit_at, units_of_user}
 use Rattle.sched_book.specs.Fits.{estimate_at}
 use Rattle.sched_book.specs.Lost.{lost, is_resent, resend_or_drop, delay_at, deadline_after, with_deadline, with_lapse}
 use Rattle.sched_book.specs.Offers.{unsent}
-use Rattle.sched_book.specs.Places.{instance_at, passes, places_where, status_of, is_held_by, is_overdue, is_before, name_at}
+use Rattle.sched_book.specs.Places.{instance_at, passes, places_where, status_of, user_of, is_held_by, is_overdue, is_before, name_at}
 use Rattle.sched_book.specs.Reports.{first_of_each, first_reports, recorded}
 use Rattle.sched_book.specs.Step.{with_owner, granted, lapsed}
 use Rattle.sched_book.specs.declared.desk.Candidate.{Candidate}
@@ -84,6 +84,22 @@ pub record AreUnsentFrom (w : World) (from : Place) (cs : List Candidate) : Type
 
 abbrev pub OffersAreTheUnsent : Type 0
 OffersAreTheUnsent = (w : World) (from : Place) → AreUnsentFrom w from (unsent w from)
+
+-- Some instance of the workunit at a place was given to a host of this account.
+pub record IsUnitOfUser (w : World) (account unit : ℕ) : Type 0 where
+  pub number : ℕ
+  pub instance : Instance
+  pub stands : instance_at w (record { unit = unit; number = number }) ≡ Some instance
+  pub given : user_of w.hosts instance ≡ Some account
+
+-- The places of the workunits that a user had, each once, in their order.
+pub record AreUnitsOfUser (w : World) (account : ℕ) (units : List ℕ) : Type 0 where
+  pub each : All (IsUnitOfUser w account) units
+  pub none_missed : (unit : ℕ) → IsUnitOfUser w account unit → Contains units unit
+  pub rising : AllPairs (λ m n. m < n) units
+
+abbrev pub UnitsOfUserAreThoseHad : Type 0
+UnitsOfUserAreThoseHad = (w : World) (account : ℕ) → AreUnitsOfUser w account (units_of_user w account)
 
 -- Lost jobs are sent again, the client sent a list, the host holds the instance at the place, and its name is not in the
 -- list.

@@ -2,7 +2,7 @@
 
 ghost use Rattle.sched_book.specs.Laws.{CanonicalIsFirstLeader, VersionIsNewestOfFirst, SettlementIsPointwise, FirstReportsAreFirst, ReportsAreRecordedByPlace, MadeNamesAreSplit, SplitNamesAreMade, FittingKeepsBounds};
 ghost use Rattle.sched_book.specs.Bounds.{SoundIsBounded, InstancesAreFew, ChargesAreFew};
-ghost use Rattle.sched_book.specs.PlaceLaws.{FirstReportsAreOfEachName, FirstNamesAreOfEachName, GoodAreJudgedSuccesses, PlacesAreThoseThatPass, OffersAreTheUnsent, LostAreHeldAndUnlisted, ReportsChangeInstancesAlone, LapsesAreByPlace, GrantsAreByPlace, LostJobsAreByPlace};
+ghost use Rattle.sched_book.specs.PlaceLaws.{FirstReportsAreOfEachName, FirstNamesAreOfEachName, GoodAreJudgedSuccesses, PlacesAreThoseThatPass, OffersAreTheUnsent, UnitsOfUserAreThoseHad, LostAreHeldAndUnlisted, ReportsChangeInstancesAlone, LapsesAreByPlace, GrantsAreByPlace, LostJobsAreByPlace};
 
 /// Take the shortest front of the good reports in which some report agrees with a majority. The canonical result is the
 /// first such report. If no front has one, there is none.
@@ -72,6 +72,11 @@ pub fn places_are_those_that_pass()
 /// workunit's row. No such instance is passed over.
 pub fn offers_are_the_unsent()
     ensures { OffersAreTheUnsent }
+{}
+
+/// The workunits of a user are those of which some instance was given to a host of the user, each once, in order.
+pub fn units_of_user_are_those_had()
+    ensures { UnitsOfUserAreThoseHad }
 {}
 
 /// The lost jobs of a host are what it holds and its client does not list, each once, in the order of their places.
