@@ -30,3 +30,4 @@ pub mod ByPlace
 pub mod LeftByImports
 pub mod UnsentPlaces
 pub mod UnitsHad
+pub mod FirstKnown

@@ -1,10 +1,12 @@
 -- Rule. What the definitions that compute amount to, in the terms of the subject.
-use Rattle.std.specs.Prelude.{◌⊎◌, not, is_some, ◌≡◌, ℕ, ◌<◌, ◌≤◌, true, false, List, ◌∷◌, ◌++◌, length, take, Contains, Option, Some, None, option_map, MatchOption}
+use Rattle.std.specs.Prelude.{◌⊎◌, not, is_some, ◌≡◌, ℕ, ◌<◌, ◌≤◌, true, false, Bool, ◌+◌, List, ◌∷◌, ◌++◌, length, take, Contains, Option, Some, None, option_map, MatchOption}
 use Rattle.sched_book.specs.Count.{good, leader, majority, canonical}
 use Rattle.sched_book.specs.Places.{unit_at, host_at}
 use Rattle.sched_book.specs.Fits.{is_version_for, version_among}
+use Rattle.std.specs.List.{list_any}
 use Rattle.std.specs.Str.{bytes_eq}
 use Rattle.rpc_records.specs.declared.request.Report.{Report}
+use Rattle.sched_book.specs.Imports.{first_known, same_account, same_app, same_version, same_unit}
 use Rattle.sched_book.specs.Names.{instance_name, name_parts}
 use Rattle.sched_book.specs.Limits.{most_hosts, IsBounded}
 use Rattle.sched_book.specs.Delta.{applied, Fits}
@@ -115,3 +117,30 @@ SplitNamesAreMade = (name unit : List ℕ) (number : ℕ) → name_parts name �
 -- changes that fit keep every table within its bounds
 abbrev pub FittingKeepsBounds : Type 0
 FittingKeepsBounds = (w : World) (changes : List Change) → w.settings.max_hosts ≤ most_hosts → IsBounded w → Fits w changes → IsBounded (applied w changes)
+
+-- no row of a list has the name of a known row or of a row before it
+abbrev pub HaveNewNames : {X : Type 0} → (X → X → Bool) → List X → List X → Type 0
+HaveNewNames {X} same known rows =
+    (earlier : List X) (row : X) (later : List X) → rows ≡ earlier ++ row ∷ later → list_any (same row) (known ++ earlier) ≡ false
+
+-- The row at this place has the name of a known row or of an earlier row, and no earlier row has.
+pub record IsFirstKnown {X : Type 0} (same : X → X → Bool) (known rows : List X) (place : ℕ) : Type 0 where
+  pub earlier : List X
+  pub row : X
+  pub later : List X
+  pub split : rows ≡ earlier ++ row ∷ later
+  pub at_place : place ≡ length earlier + 1
+  pub known_name : list_any (same row) (known ++ earlier) ≡ true
+  pub none_before : HaveNewNames same known earlier
+
+-- The first row whose name exists is found. If none is found, no row has such a name.
+abbrev pub FindsFirstKnown : {X : Type 0} → (X → X → Bool) → Type 0
+FindsFirstKnown {X} same = (known rows : List X)
+    → MatchOption (first_known same 1 known rows) (HaveNewNames same known rows) (IsFirstKnown same known rows)
+
+-- the same of the rows of each kind of import
+pub record FirstKnownIsFirst : Type 0 where
+  pub accounts : FindsFirstKnown same_account
+  pub apps : FindsFirstKnown same_app
+  pub versions : FindsFirstKnown same_version
+  pub units : FindsFirstKnown same_unit

@@ -1,6 +1,6 @@
 //! Laws of the definitions. Each function does nothing; its contract is the law.
 
-ghost use Rattle.sched_book.specs.Laws.{CanonicalIsFirstLeader, VersionIsNewestOfFirst, SettlementIsPointwise, FirstReportsAreFirst, ReportsAreRecordedByPlace, MadeNamesAreSplit, SplitNamesAreMade, FittingKeepsBounds};
+ghost use Rattle.sched_book.specs.Laws.{CanonicalIsFirstLeader, VersionIsNewestOfFirst, SettlementIsPointwise, FirstReportsAreFirst, ReportsAreRecordedByPlace, MadeNamesAreSplit, SplitNamesAreMade, FittingKeepsBounds, FirstKnownIsFirst};
 ghost use Rattle.sched_book.specs.Bounds.{SoundIsBounded, InstancesAreFew, ChargesAreFew};
 ghost use Rattle.sched_book.specs.PlaceLaws.{FirstReportsAreOfEachName, FirstNamesAreOfEachName, GoodAreJudgedSuccesses, PlacesAreThoseThatPass, OffersAreTheUnsent, UnitsOfUserAreThoseHad, LostAreHeldAndUnlisted, ReportsChangeInstancesAlone, LapsesAreByPlace, GrantsAreByPlace, LostJobsAreByPlace};
 
@@ -39,6 +39,12 @@ pub fn made_names_are_split()
 /// A name that can be split was made of its parts, so different names have different parts.
 pub fn split_names_are_made()
     ensures { SplitNamesAreMade }
+{}
+
+/// The row that an import reports as a duplicate is the first one whose name a known or an earlier row has. If none is
+/// reported, there is no such row.
+pub fn first_known_is_first()
+    ensures { FirstKnownIsFirst }
 {}
 
 /// Changes that fit a world keep every table within its bounds.
