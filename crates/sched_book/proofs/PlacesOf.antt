@@ -45,7 +45,7 @@ nth-front xs more zero x is = absurd cc
 nth-front xs more (suc i) x is = nth-suc (xs ++ more) i ∙ slice_get-front xs more i x (sym (nth-suc xs i) ∙ is)
 
 -- one more element, after the others
-slice_get-push : {X : Type 0} (xs : List X) (x : X) (i : ℕ) → slice_get (xs ++ x ∷ []) i ≡ cond (eqb (length xs) i) (Some x) (slice_get xs i)
+pub slice_get-push : {X : Type 0} (xs : List X) (x : X) (i : ℕ) → slice_get (xs ++ x ∷ []) i ≡ cond (eqb (length xs) i) (Some x) (slice_get xs i)
 slice_get-push [] x zero = refl
 slice_get-push [] x (suc i) = sym (ap (λ (b : Bool). cond b (Some x) None) (eqb-zero-suc i))
 slice_get-push (y ∷ ys) x zero = sym (ap (λ (b : Bool). cond b (Some x) (Some y)) (eqb-suc-zero (length ys)))
