@@ -8,12 +8,16 @@ from pathlib import Path
 
 import hypothesis.configuration
 import pytest
+from hypothesis import settings
 
 sys.dont_write_bytecode = True
 BRIDGE = Path(__file__).resolve().parent.parent
 sys.path[:0] = [str(BRIDGE), str(BRIDGE.parent / "bench"), str(BRIDGE / "tests")]
 
 hypothesis.configuration.set_hypothesis_home_dir(BRIDGE / ".pytest_cache" / "hypothesis")
+# a busy machine may take any time for an example
+settings.register_profile("without deadlines", deadline=None)
+settings.load_profile("without deadlines")
 
 from twin import Twin  # noqa: E402
 

@@ -44,6 +44,32 @@ def test_the_gate_says_at_its_end_that_they_are_skipped(lacking: Path) -> None:
     assert lines[-2].startswith("test: the Python tests are skipped: ")
 
 
+def stand_ins(folder: Path, *failing: str) -> None:
+    """Puts stand-ins in place of all that the Python part runs. Command lines with one of these texts fail."""
+    text = (TOP / "test").read_text().replace("MODULES=(", "MODULES=() OTHERS=(")
+    for name in ("python3", "mypy", "flake8"):
+        text = text.replace(f"/usr/bin/{name}", f"{folder}/bin/{name}")
+        path = folder / "bin" / name
+        lines = "".join(f'case "$*" in *"{what}"*) exit 1 ;; esac\n' for what in failing)
+        path.write_text(f'#!/bin/sh\n[ "$1" != -c ] || exit 0\necho "{name} $*"\n{lines}')
+        path.chmod(0o755)
+    (folder / "test").write_text(text)
+
+
+def test_the_python_part_continues_after_a_failure(lacking: Path) -> None:
+    stand_ins(lacking, "cacheprovider bridge", "cache-dir=/dev/null tools")
+    status, lines = outcome(lacking, "python")
+    assert status == 1
+    assert any(line.endswith("cacheprovider packaging") for line in lines)
+    assert lines[-2:] == ["  mypy found errors in tools/bsched_tools", "  the tests of bridge failed"]
+
+
+def test_the_python_part_without_a_failure(lacking: Path) -> None:
+    stand_ins(lacking)
+    status, lines = outcome(lacking, "python")
+    assert status == 0 and lines[-1].startswith("test: the Python part is good, after ")
+
+
 def test_proofs_alone(lacking: Path) -> None:
     assert outcome(lacking, "proofs") == (0, ["7 passed, 0 failed"])
 

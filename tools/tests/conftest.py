@@ -5,10 +5,15 @@ from collections.abc import Iterator
 from pathlib import Path
 
 import pytest
+from hypothesis import settings
 
 sys.dont_write_bytecode = True
 TOOLS = Path(__file__).resolve().parent.parent
 sys.path[:0] = [str(TOOLS), str(TOOLS.parent / "bench"), str(TOOLS / "tests")]
+
+# a busy machine may take any time for an example
+settings.register_profile("without deadlines", deadline=None)
+settings.load_profile("without deadlines")
 
 from small_project import Twin, make_tables  # noqa: E402
 

@@ -21,7 +21,7 @@ LATELY = ("hosts with a job of the last day", "users with a job of the last day"
 SAMPLE = re.compile(r'bsched_[a-z_]+(\{[a-z]+="[a-z_]+"\})? [0-9.]+')
 
 
-@settings(max_examples=8, deadline=None, database=None)
+@settings(max_examples=8, database=None)
 @given(seed=strategies.integers(0, 2**32))
 def test_counts_are_those_of_the_plain_scheduler(tmp_path_factory: pytest.TempPathFactory, seed: int) -> None:
     lived = life_of(seed)

@@ -61,7 +61,7 @@ def test_good_tables(tmp_path: Path) -> None:
     assert told_of(short_life(tmp_path / "2.db")) == []
 
 
-@settings(max_examples=6, deadline=None, database=None)
+@settings(max_examples=6, database=None)
 @given(seed=strategies.integers(0, 2**32))
 def test_the_tables_of_random_lives_are_good(tmp_path_factory: pytest.TempPathFactory, seed: int) -> None:
     path = stored_life(life_of(seed), tmp_path_factory.mktemp("life") / "project.db")

@@ -37,7 +37,7 @@ def lines_of(*paths: Path, **more: Any) -> list[dict[str, Any]]:
     return [json.loads(line) for line in file.getvalue().splitlines()]
 
 
-@settings(max_examples=10, deadline=None, database=None)
+@settings(max_examples=10, database=None)
 @given(seed=strategies.integers(0, 2**32))
 def test_results_are_those_of_the_plain_scheduler(
     tmp_path_factory: pytest.TempPathFactory, seed: int,
@@ -78,7 +78,7 @@ def test_both_forms_have_the_hosts_users_and_credits_of_the_plain_scheduler(tmp_
     assert {False, True} == {row["verdict"] == "valid" for row in rows}
 
 
-@settings(max_examples=6, deadline=None, database=None)
+@settings(max_examples=6, database=None)
 @given(seed=strategies.integers(0, 2**32), parts=strategies.integers(2, 12))
 def test_with_a_cursor_each_result_comes_once(
     tmp_path_factory: pytest.TempPathFactory, seed: int, parts: int,
