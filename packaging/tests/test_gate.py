@@ -45,7 +45,7 @@ def test_the_gate_says_at_its_end_that_they_are_skipped(lacking: Path) -> None:
 
 
 def stand_ins(folder: Path, *failing: str) -> None:
-    """Puts stand-ins in place of all that the Python part runs. Command lines with one of these texts fail."""
+    """Puts stand-ins in place of all that the Python part runs. Lines with one of these texts fail."""
     text = (TOP / "test").read_text().replace("MODULES=(", "MODULES=() OTHERS=(")
     for name in ("python3", "mypy", "flake8"):
         text = text.replace(f"/usr/bin/{name}", f"{folder}/bin/{name}")

@@ -1,15 +1,22 @@
 """Tests bsched-project with folders of their own. What needs root or the packages is put off by functions of
 the shell."""
+import contextlib
 import fcntl
 import os
 import re
+import shutil
 import subprocess
+import tomllib
+from fractions import Fraction
 from pathlib import Path
 
 import pytest
+from hypothesis import HealthCheck, given, settings
+from hypothesis import strategies as st
 
 PACKAGING = Path(__file__).resolve().parent.parent
-SERVICE, EXAMPLE = PACKAGING / "service", PACKAGING.parent / "bridge" / "example"
+TOP = PACKAGING.parent
+SERVICE, EXAMPLE, TEMPLATE = PACKAGING / "service", TOP / "bridge" / "example", PACKAGING / "project"
 # in place of the programs that need root or an installed package
 STUBS = """
 chown() { :; }
@@ -25,20 +32,41 @@ class Machine:
     """A folder of projects, and what the packages install."""
 
     def __init__(self, folder: Path) -> None:
-        self.projects, self.bridge, self.folder = folder / "projects", folder / "bridge", folder
+        self.projects, self.templates, self.folder = folder / "projects", folder / "templates", folder
         self.projects.mkdir()
-        self.bridge.mkdir()
-        (self.bridge / "bridge.toml").write_text((EXAMPLE / "bridge.toml").read_text())
+        shutil.copytree(TEMPLATE, self.templates / "project")
+        (self.templates / "example").mkdir()
+        for file in (*EXAMPLE.glob("*.csv"), EXAMPLE / "settings.toml"):
+            shutil.copy(file, self.templates / "example")
+        (self.templates / "example" / "bridge").mkdir()
+        shutil.copy(EXAMPLE / "bridge.toml", self.templates / "example" / "bridge")
 
-    def make(self, *words: str, stubs: str = "") -> "subprocess.CompletedProcess[str]":
-        """Runs bsched-project."""
+    def words(self, *words: str, stubs: str = "") -> list[str]:
+        """Returns the command line that runs bsched-project."""
         script = (
             f". {PACKAGING}/bsched-project\n"
-            f"PROJECTS={self.projects} EXAMPLE={EXAMPLE} BRIDGE_EXAMPLE={self.bridge} SERVICE={SERVICE}\n"
+            f"PROJECTS={self.projects} TEMPLATES={self.templates} SERVICE={SERVICE}\n"
             f'TURN_SECONDS=0\n{STUBS}{stubs}\nmain "$@"\n'
         )
-        command = ["bash", "-c", script, "bsched-project", *words]
-        return subprocess.run(command, capture_output=True, text=True, timeout=30)
+        return ["bash", "-c", script, "bsched-project", *words]
+
+    def make(self, *words: str, stubs: str = "") -> "subprocess.CompletedProcess[str]":
+        """Runs bsched-project without a terminal."""
+        command = self.words(*words, stubs=stubs)
+        return subprocess.run(command, stdin=subprocess.DEVNULL, capture_output=True, text=True, timeout=60)
+
+    def answered(self, answers: str, *words: str) -> tuple[int, str]:
+        """Runs bsched-project on a terminal, types the answers, and returns its status and what it shows."""
+        leader, terminal = os.openpty()
+        process = subprocess.Popen(self.words(*words), stdin=terminal, stdout=terminal, stderr=terminal)
+        os.close(terminal)
+        os.write(leader, answers.encode())
+        shown = b""
+        with contextlib.suppress(OSError):  # the end of a terminal is an error
+            while part := os.read(leader, 65536):
+                shown += part
+        os.close(leader)
+        return process.wait(60), shown.decode().replace("\r", "")
 
     def settings(self, line: str) -> str:
         """Writes a file of settings with this line for the operator's key."""
@@ -116,7 +144,8 @@ def test_projects_are_made_one_after_the_other(machine: Machine) -> None:
 
 
 def test_the_bridge_of_an_older_project(machine: Machine) -> None:
-    assert machine.make("sums", stubs="BRIDGE_EXAMPLE=/none").returncode == 0
+    assert machine.make("sums", stubs="mv $TEMPLATES/project/bridge $TEMPLATES").returncode == 0
+    shutil.move(machine.templates / "bridge", machine.templates / "project")
     folder = machine.projects / "sums"
     assert not (folder / "bridge").exists()
     (folder / "settings.toml").write_text("operator_key = 'my-own.key_1'\n")
@@ -130,9 +159,129 @@ def test_the_bridge_of_an_older_project(machine: Machine) -> None:
 def test_the_printed_commands_end_at_a_refused_import(
     machine: Machine, refused: str, done: list[str],
 ) -> None:
-    printed = machine.make("sums").stdout.partition("\nThe bridge: ")[0]
+    printed = machine.make("--example", "sums").stdout.partition("\nThe bridge: ")[0]
     commands = "\n".join(line for line in printed.splitlines() if line.startswith("  "))
     stubs = f"bsched() {{ echo $5; [ $5 != {refused} ]; }}\nsystemctl() {{ echo systemctl; }}\n"
     words = ["bash", "-c", f"{STUBS}{stubs}{commands}"]
     told = subprocess.run(words, capture_output=True, text=True, timeout=30)
     assert told.stdout.split() == done and told.stderr == ""
+
+
+# ---- Settings
+
+
+def of_project(machine: Machine, name: str) -> dict[str, int]:
+    """Returns the settings of a project that are numbers."""
+    told = tomllib.loads((machine.projects / name / "settings.toml").read_text())
+    return {key: value for key, value in told.items() if type(value) is int}
+
+
+def shown_in(text: str, begins: str) -> dict[str, int]:
+    """Returns the settings that are numbers in a text, from a line on."""
+    found = re.findall(r"^(\w+) = (\d+)\b", text[text.index(begins):], re.MULTILINE)
+    return {key: int(value) for key, value in found[:5]}
+
+
+def test_the_settings_of_jobs_and_computers(machine: Machine) -> None:
+    """A computer of 64 processors with jobs of 600 seconds has one job for each processor, and what it does
+    in twice 60 seconds: 64 * (1 + 120 / 600) = 76.8. It does 9,216 jobs a day, and may get twice as many."""
+    told = machine.make("--job-time", "10m", "--processors", "64", "sums")
+    assert of_project(machine, "sums") == {
+        "daily_result_quota": 18432, "max_hosts": 100000, "max_wus_in_progress": 77, "max_wus_to_send": 39,
+        "request_delay": 60,
+    }
+    lines = [line for line in told.stdout.splitlines() if line.startswith("- with")]
+    assert lines == [
+        "- with 1 processor it is kept busy by jobs of 5 seconds and more",
+        "- with 4 processors it is kept busy by jobs of 19 seconds and more",
+        "- with 16 processors it is kept busy by jobs of 75 seconds and more",
+        "- with 64 processors it is kept busy by jobs of 10 minutes and more",
+        "- with 256 processors it never has a job for each of them",
+    ]
+
+
+def test_the_pages_have_the_settings_that_a_project_gets_without_options(machine: Machine) -> None:
+    assert machine.make("sums").returncode == 0
+    numbers = of_project(machine, "sums")
+    page = (TOP / "docs" / "OPERATING.md").read_text()
+    assert shown_in(page[page.index("\n## The installed service"):], "daily_result_quota = ") == numbers
+    manual = (PACKAGING / "man" / "bsched-settings.5").read_text()
+    assert shown_in(manual, "daily_result_quota = ") == numbers
+
+
+@settings(max_examples=15, suppress_health_check=[HealthCheck.function_scoped_fixture])
+@given(st.integers(1, 100 * 86400), st.integers(1, 256))
+def test_the_rule_of_the_settings(machine: Machine, job: int, processors: int) -> None:
+    shutil.rmtree(machine.projects / "sums", ignore_errors=True)
+    told = machine.make("--job-time", str(job), "--processors", str(processors), "sums")
+    assert (told.returncode, told.stderr) == (0, "")
+    numbers = of_project(machine, "sums")
+    needed = processors * (1 + Fraction(2 * 60, job))
+    assert numbers["max_wus_in_progress"] >= min(needed, 1000)
+    assert numbers["max_wus_in_progress"] < needed + 1
+    assert numbers["max_wus_to_send"] >= min(Fraction(numbers["max_wus_in_progress"], 2), 100)
+    assert numbers["daily_result_quota"] >= min(2 * Fraction(processors * 86400, job), 1_000_000)
+    assert numbers["daily_result_quota"] >= 2 * numbers["max_wus_in_progress"]
+    ranges = {"max_wus_in_progress": 1000, "max_wus_to_send": 100, "daily_result_quota": 1_000_000}
+    assert all(1 <= numbers[name] <= most for name, most in ranges.items())
+
+
+def test_a_real_project_has_no_accounts(machine: Machine) -> None:
+    assert machine.make("--url", "https://sums.example/", "sums").returncode == 0
+    for kind in ("accounts", "apps", "versions", "workunits"):
+        header = (EXAMPLE / f"{kind}.csv").read_text().splitlines()[0]
+        assert (machine.projects / "sums" / f"{kind}.csv").read_text() == f"{header}\n"
+    bridge = tomllib.loads((machine.projects / "sums" / "bridge" / "bridge.toml").read_text())
+    ports = (machine.projects / "sums" / "environment").read_text().split()
+    port, bridge_port = (line.partition("=")[2] for line in ports)
+    assert bridge == {
+        "name": "sums", "url": "https://sums.example/", "listen": f"127.0.0.1:{bridge_port}",
+        "scheduler": f"127.0.0.1:{port}", "operator_key": machine.key("sums"), "catalogue": "catalogue.toml",
+        "state": "bridge.db", "accounts": {"most_a_day": 100, "address_field": "X-Real-IP"},
+    }
+
+
+def test_the_example_has_accounts(machine: Machine) -> None:
+    assert machine.make("--example", "sums").returncode == 0
+    assert "ann-key,Ann" in (machine.projects / "sums" / "accounts.csv").read_text()
+    assert of_project(machine, "sums")["max_hosts"] == 100
+
+
+def test_questions_on_a_terminal(machine: Machine) -> None:
+    status, shown = machine.answered("long\n2h\n\n\ny\n", "sums")
+    assert status == 0 and "'long' is not possible." in shown and "[64]" in shown
+    # 64 * (1 + 120 / 7200) = 65.07
+    assert of_project(machine, "sums")["max_wus_in_progress"] == 66
+    bridge = (machine.projects / "sums" / "bridge" / "bridge.toml").read_text()
+    assert 'url = "https://sums.example/project/"' in bridge
+    status, shown = machine.answered("\n\n\n\n", "others")
+    assert status == 1 and shown.endswith("nothing was made\n")
+    assert [path.name for path in machine.projects.iterdir()] == ["sums"]
+
+
+def test_no_question_if_the_options_say_all(machine: Machine) -> None:
+    words = ("--job-time", "1d", "--processors", "8", "--url", "http://sums.example/p/", "sums")
+    assert machine.answered("", *words)[0] == 0
+
+
+def test_the_fault_in_a_file_of_settings_is_named(machine: Machine) -> None:
+    stubs = (
+        "bsched() { echo 'bsched: settings' >&2; return 1; }\n"
+        f"bsched-tools() {{ PYTHONPATH={TOP}/tools /usr/bin/python3 -m bsched_tools \"$@\"; }}\n"
+    )
+    path = machine.settings("max_host = 7\noperator_key = 'my-own.key_1'")
+    told = machine.make("--settings", path, "sums", stubs=stubs)
+    assert told.returncode == 1 and told.stderr.count("\n") == 1
+    assert "max_host is not a setting" in told.stderr
+
+
+@pytest.mark.parametrize("words", [
+    ["--job-time", "0", "x"], ["--job-time", "5w", "x"], ["--job-time", "101d", "x"],
+    ["--processors", "many", "x"], ["--processors", "0", "x"],
+    ["--url", "sums.example", "x"], ["--url", "https://Sums.example/", "x"],
+    ["--url", "https://sums.example", "x"],
+    ["--settings", "a", "--processors", "4", "x"], ["--example", "--url", "https://sums.example/", "x"],
+])
+def test_options_that_are_not_possible(machine: Machine, words: list[str]) -> None:
+    told = machine.make(*words)
+    assert told.returncode == 64 and told.stderr.count("\n") == 1 and told.stdout == ""
