@@ -35,6 +35,7 @@ class Machine:
         self.projects, self.templates, self.folder = folder / "projects", folder / "templates", folder
         self.projects.mkdir()
         shutil.copytree(TEMPLATE, self.templates / "project")
+        shutil.copytree(PACKAGING / "nginx", self.templates / "nginx")
         (self.templates / "example").mkdir()
         for file in (*EXAMPLE.glob("*.csv"), EXAMPLE / "settings.toml"):
             shutil.copy(file, self.templates / "example")

@@ -72,7 +72,11 @@ def test_each_synopsis_has_the_options_of_the_help(module: str) -> None:
 
 
 def test_the_synopsis_of_bsched_project_has_the_options_of_its_help() -> None:
-    assert synopsis("bsched-project.8") == {"": offered_by(f"{TOP}/packaging/bsched-project")}
+    page = synopsis("bsched-project.8")
+    assert set().union(*page.values()) == offered_by(f"{TOP}/packaging/bsched-project")
+    usage = subprocess.run([f"{TOP}/packaging/bsched-project", "--help"], capture_output=True, text=True).stdout
+    for command in page:
+        assert f" bsched-project {command}" in usage
 
 
 def test_the_synopsis_of_bsched_has_the_options_of_the_profile() -> None:

@@ -1,0 +1,165 @@
+"""Tests the files for nginx that bsched-project writes: what they say, and what nginx does with them."""
+import http.client
+import re
+import shutil
+import socket
+import ssl
+import subprocess
+import threading
+import time
+from collections.abc import Iterator
+from contextlib import contextmanager
+from http.server import BaseHTTPRequestHandler, ThreadingHTTPServer
+from pathlib import Path
+
+import pytest
+from test_project import Machine
+
+NGINX = shutil.which("nginx", path="/usr/sbin:/usr/bin")
+URL = "https://sums.example/project/"
+
+
+@pytest.fixture
+def machine(tmp_path: Path) -> Machine:
+    """Makes an empty folder of projects."""
+    return Machine(tmp_path)
+
+
+def written(machine: Machine, name: str, url: str) -> Path:
+    """Makes a project with its files for nginx, and returns their folder."""
+    assert machine.make("--url", url, name).returncode == 0
+    told = machine.make("nginx", name)
+    assert (told.returncode, told.stderr) == (0, "")
+    return machine.projects / name / "nginx"
+
+
+@pytest.mark.parametrize("url, port", [(URL, 443), ("https://sums.example:8443/", 8443)])
+def test_the_files_of_a_project(machine: Machine, url: str, port: int) -> None:
+    folder = written(machine, "sums", url)
+    site, locations = (folder / "site.conf").read_text(), (folder / "locations.conf").read_text()
+    assert f"listen {port} ssl;" in site and "listen 80;" in site
+    assert site.count("server_name sums.example;") == 2
+    has_redirect = "location = / {" in site and f"return 301 {url}get_project_config.php;" in site
+    assert has_redirect == (url == URL)
+    path = "/project/" if url == URL else "/"
+    assert f"location {path} {{" in locations and "http://127.0.0.1:8081;" in locations
+    assert "@" not in site + locations
+
+
+def test_what_has_no_files(machine: Machine) -> None:
+    assert machine.make("--url", "http://sums.example/", "sums").returncode == 0
+    told = machine.make("nginx", "sums")
+    assert told.returncode == 1 and "these files are for https" in told.stderr
+    assert machine.make("nginx", "others").returncode == 1
+    assert machine.make("nginx", "../sums").returncode == 64
+    (machine.projects / "sums" / "bridge" / "bridge.toml").write_text("name = 1\n")
+    assert "has no url" in machine.make("nginx", "sums").stderr
+
+
+# ---- With nginx
+
+
+class Bridge(BaseHTTPRequestHandler):
+    """Stands for a bridge: answers with its name, the path, and the address that nginx gives."""
+
+    def do_GET(self) -> None:
+        """Answers."""
+        body = f"{self.server.server_port} {self.path} {self.headers['X-Real-IP']}".encode()
+        self.send_response(200)
+        self.send_header("content-length", str(len(body)))
+        self.end_headers()
+        self.wfile.write(body)
+
+    def log_message(self, *_words: object) -> None:
+        """Prints nothing."""
+
+
+@contextmanager
+def bridge() -> Iterator[int]:
+    """Yields the port of a bridge."""
+    server = ThreadingHTTPServer(("127.0.0.1", 0), Bridge)
+    thread = threading.Thread(target=server.serve_forever, daemon=True)
+    thread.start()
+    try:
+        yield server.server_port
+    finally:
+        server.shutdown()
+        thread.join(10)
+        server.server_close()
+
+
+def free_port() -> int:
+    """Returns a port that is free."""
+    with socket.create_server(("127.0.0.1", 0)) as made:
+        return int(made.getsockname()[1])
+
+
+@contextmanager
+def served(folder: Path, files: list[Path], ports: dict[int, int]) -> Iterator[None]:
+    """Runs nginx with the files of some projects. A port in them is replaced by another one."""
+    for name in ("conf.d", "snippets", "live", "log", "live/sums.example", "live/others.example"):
+        (folder / name).mkdir()
+    for host in ("sums.example", "others.example"):
+        where = folder / "live" / host
+        words = ["openssl", "req", "-x509", "-newkey", "rsa:2048", "-nodes", "-subj", f"/CN={host}"]
+        words += ["-keyout", str(where / "privkey.pem"), "-out", str(where / "fullchain.pem")]
+        subprocess.run(words, check=True, capture_output=True, timeout=60)
+    for number, path in enumerate(files):
+        text = re.sub(r" *listen \[::\].*\n", "", path.read_text()).replace("/etc/letsencrypt", str(folder))
+        for old, new in ports.items():
+            text = re.sub(rf"(listen |127\.0\.0\.1:){old}\b", rf"\g<1>{new}", text)
+        project = path.parent.parent.name
+        name = {"limits.conf": "conf.d/limits.conf", "site.conf": f"conf.d/{number}.conf"}.get(path.name)
+        (folder / (name or f"snippets/bsched-{project}.conf")).write_text(text)
+    main = f"daemon off; pid {folder}/pid; error_log {folder}/log/error; events {{}}\n"
+    temporary = "".join(f"{kind}_temp_path {folder}/log/{kind};\n" for kind in (
+        "client_body", "proxy", "fastcgi", "uwsgi", "scgi"))
+    main += f"http {{\naccess_log off;\n{temporary}include conf.d/*.conf;\n}}\n"
+    (folder / "nginx.conf").write_text(main)
+    process = subprocess.Popen([NGINX or "", "-p", str(folder), "-c", str(folder / "nginx.conf")])
+    try:
+        for _ in range(300):
+            with socket.socket() as tried:
+                if tried.connect_ex(("127.0.0.1", ports[80])) == 0:
+                    break
+            assert process.poll() is None, "nginx refuses the files"
+            time.sleep(0.1)
+        yield
+    finally:
+        process.terminate()
+        process.wait(30)
+
+
+def asked(connection: http.client.HTTPConnection, host: str, path: str) -> tuple[int, str]:
+    """Returns the status of an answer, and where it leads or what it says."""
+    connection.request("GET", path, headers={"Host": host})
+    response = connection.getresponse()
+    said = response.read().decode()
+    connection.close()
+    return response.status, response.headers.get("Location") or said
+
+
+@pytest.mark.skipif(NGINX is None, reason="nginx is not installed")
+def test_two_projects_by_nginx(machine: Machine, tmp_path: Path) -> None:
+    sums, others = written(machine, "sums", URL), written(machine, "others", "https://others.example/")
+    folder, port, tls_port = tmp_path / "nginx", free_port(), free_port()
+    folder.mkdir()
+    files = [sums / "limits.conf", sums / "locations.conf", sums / "site.conf"]
+    files += [others / "locations.conf", others / "site.conf"]
+    with bridge() as first, bridge() as second:
+        with served(folder, files, {80: port, 443: tls_port, 8081: first, 8083: second}):
+            plain = http.client.HTTPConnection("127.0.0.1", port, timeout=30)
+            # what the Manager asks if the URL was typed without a scheme, and the name alone
+            assert asked(plain, "sums.example", "/project/get_project_config.php") == (
+                301, f"{URL}get_project_config.php")
+            assert asked(plain, "sums.example", "/") == (301, "https://sums.example/")
+            context = ssl.create_default_context()
+            context.check_hostname, context.verify_mode = False, ssl.CERT_NONE
+            tls = http.client.HTTPSConnection("127.0.0.1", tls_port, context=context, timeout=30)
+            assert asked(tls, "sums.example", "/") == (301, URL)
+            config = asked(tls, "sums.example", "/get_project_config.php")
+            assert config == (301, f"{URL}get_project_config.php")
+            assert asked(tls, "sums.example", "/other")[0] == 404
+            for page in ("/project/status", "/project/get_passwd.php"):
+                assert asked(tls, "sums.example", page) == (200, f"{first} {page} 127.0.0.1")
+            assert asked(tls, "others.example", "/status") == (200, f"{second} /status 127.0.0.1")
