@@ -7,8 +7,10 @@ A request goes through these modules, in this order:
 
 application      the WSGI application: it chooses the handler for each URL
 client_requests  what a client's XML says
-exchange         one request and its answer: resends, counts, what a client reads after a refusal
-counts           the keys, with their counts and their calls without an answer
+exchange         one request and its answer: resends, whose host a client is, what it reads after a refusal
+hosts            the hosts that the bridge knows, and the numbers that their clients were told
+host_search      which host has a result, by bsched's statements
+call_numbers     the numbers of calls, and the calls without an answer
 calls            the JSON text of a call
 archives         the credit from earlier files of the project, which is added to replies
 scheduler        the connection to bsched, and what its answers say

@@ -272,7 +272,7 @@ def hosts_markup(status: AccountStatus) -> list[Markup]:
         return [together] if status.credit else [element("p", "None of your computers has called yet.")]
     header = ["computer", "called last (UTC)", "credit"]
     rows: list[list[object]] = [
-        [Number(one.host.hostid), moment_text(one.host.heard_at), Number(credits_text(one.credit))]
+        [Number(one.host.hostid or "–"), moment_text(one.host.heard_at), Number(credits_text(one.credit))]
         for one in hosts
     ]
     if status.recent.with_results:

@@ -12,12 +12,14 @@ from .account_messages import AccountMessages, project_config
 from .account_pages import AccountPages
 from .accounts import Accounts
 from .archives import read_archives
+from .call_numbers import CallNumbers
 from .catalogue import Catalogue, MissingFile, read_catalogue
 from .client_replies import ReplyWriter
 from .client_requests import ClientRequest, RequestFault, read_request
-from .counts import Counts
 from .exchange import HOUR, TOO_BUSY, Exchange, PutOff, Resending
 from .host_rules import HostRuleReader
+from .host_search import HostSearch
+from .hosts import Hosts
 from .http_messages import (
     BYTES,
     PHRASES,
@@ -58,7 +60,7 @@ class Application:
         rules: Callable[[], HostRules] | None = None, passwords: Passwords | None = None,
     ):
         self.settings, self.catalogue, self.scheduler = settings, catalogue, scheduler
-        counts, self.members, archives = Counts(file), Members(file), read_archives(settings.archives)
+        hosts, self.members, archives = Hosts(file), Members(file), read_archives(settings.archives)
         self.account_places = Places(max(1, settings.threads // 2))
         self.accounts: Accounts | None = None
         if settings.accounts is not None and settings.operator_key is not None:
@@ -66,13 +68,14 @@ class Application:
                 settings.accounts, self.members, scheduler, settings.operator_key, passwords or Passwords()
             )
         self.exchange = Exchange(
-            counts, scheduler, settings.retry_delay, rules or (lambda: settings.host_rules),
+            hosts, CallNumbers(file), scheduler, settings.retry_delay, rules or (lambda: settings.host_rules),
+            HostSearch(hosts, scheduler, settings.operator_key),
             self.accounts.is_imported_again if self.accounts else lambda _authenticator: False,
             archives,
         )
         self.writer = ReplyWriter(catalogue, settings.name, settings.url)
         self.statements = Statements(
-            counts, self.members, scheduler, settings.operator_key, settings.counts, archives
+            hosts, self.members, scheduler, settings.operator_key, settings.counts, archives
         )
         self._large = KeyLocks(LARGE_SECONDS)
         self._handlers = self._new_handlers()
@@ -153,12 +156,12 @@ class Application:
             return Answer(XML, self.writer.put_off(PutOff(f"Error in request message: {fault}", HOUR)))
         except Busy:
             return Answer(XML, self.writer.put_off(PutOff(TOO_BUSY, self.settings.retry_delay)))
-        reply = self.exchange.answer(request)
-        if isinstance(reply, PutOff):
-            return Answer(XML, self.writer.put_off(reply))
+        answered = self.exchange.answer(request)
+        if isinstance(answered, PutOff):
+            return Answer(XML, self.writer.put_off(answered))
         member = self.members.of_key(request.authenticator)  # the user may have chosen another name
-        reply = reply if member is None else replace(reply, user_name=member.name)
-        return Answer(XML, self.writer.reply(request, reply))
+        reply = answered.reply if member is None else replace(answered.reply, user_name=member.name)
+        return Answer(XML, self.writer.reply(request, reply, answered.hostid, answered.notice))
 
     def _request(self, body: bytes) -> ClientRequest:
         """Reads a request. Large ones are read one after the other, since anybody can send them, and several

@@ -11,7 +11,7 @@ from dataclasses import dataclass, field, replace
 from pathlib import Path
 from urllib.parse import quote
 
-from .counts import Key
+from .hosts import Key
 from .operator_files import OperatorFault
 from .scheduler import Reply
 

@@ -81,16 +81,21 @@ class ReplyWriter:
             add(root, "project_is_down", 1)
         return written(root)
 
-    def reply(self, request: ClientRequest, reply: Reply) -> bytes:
-        """Returns the reply to a request. It gives a hostid only to a client that has none. A client that has
-        one would take another one as a sign that it was copied.
+    def reply(
+        self, request: ClientRequest, reply: Reply, hostid: int | None = None, notice: str | None = None
+    ) -> bytes:
+        """Returns the reply to a request, with a notice for the volunteer. It has a hostid only for a client
+        that did not send it: a client that has one takes any as a sign that it was copied, takes a new
+        host_cpid and counts its requests anew.
         """
         root = self._begun(reply.request_delay)
         add(root, "user_name", reply.user_name)
         add(root, "user_total_credit", f"{reply.user_total_credit / MILLICREDITS:.3f}")
         add(root, "host_total_credit", f"{reply.host_total_credit / MILLICREDITS:.3f}")
-        if request.hostid == 0:
-            add(root, "hostid", reply.hostid)
+        if hostid is not None:
+            add(root, "hostid", hostid)
+        if notice is not None:
+            add_message(root, notice, "notice")
         for what, names in (("result_ack", reply.result_ack), ("result_abort", reply.result_abort)):
             for name in names:
                 add(SubElement(root, what), "name", name)

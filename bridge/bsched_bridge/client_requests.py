@@ -53,6 +53,7 @@ class ClientRequest:
 
     authenticator: str
     hostid: int  # the number that the client was given, or 0
+    rpc_seqno: int  # the client's count of the replies that it got
     host_cpid: str
     p_fpops: int
     m_nbytes: int
@@ -221,6 +222,7 @@ def read_request(body: bytes) -> ClientRequest:
     return ClientRequest(
         authenticator=word_of(root, "authenticator"),
         hostid=whole_of(root, "hostid", 0, 2**31 - 1, 0),
+        rpc_seqno=whole_of(root, "rpc_seqno", 0, 2**31 - 1, 0),
         host_cpid=word_of(root, "host_info/host_cpid"),
         p_fpops=whole_of(root, "host_info/p_fpops", 1, MOST_NUMBER, 1),
         m_nbytes=whole_of(root, "host_info/m_nbytes", 0, MOST_NUMBER, 0),

@@ -11,13 +11,16 @@ client that sends no list can't say what it lacks, so none of its jobs goes out 
 """
 import logging
 import threading
-from collections.abc import Callable
+from collections import Counter
+from collections.abc import Callable, Iterable
 from dataclasses import dataclass, replace
 
 from .archives import Archives
+from .call_numbers import CallNumbers, ClientState, CountEnded, TooManyHosts
 from .calls import call_text
-from .client_requests import ClientRequest
-from .counts import FIRST_KEY, CountEnded, Counts, Key, TooManyHosts
+from .client_requests import ClientRequest, Report
+from .host_search import HostSearch, TooManySearches
+from .hosts import FIRST_KEY, Hosts, Key, KnownHost
 from .key_locks import Busy, KeyLocks
 from .scheduler import Job, NoAnswer, Refusal, Reply, Scheduler
 from .settings import HostRules
@@ -38,6 +41,15 @@ class PutOff:
     delay: int
     priority: str = "low"  # the client shows a "notice" to the volunteer
     is_down: bool = False  # the project is down: the client leaves all as it was, and asks again later
+
+
+@dataclass(frozen=True, slots=True)
+class Answered:
+    """The reply to a request."""
+
+    reply: Reply
+    hostid: int | None = None  # the number that the client is told, if it did not send it
+    notice: str | None = None  # what the volunteer reads
 
 
 NO_ANSWER = "The project's scheduler gives no answer at the moment."
@@ -78,20 +90,33 @@ def too_many_hosts(count: int) -> PutOff:
     )
 
 
+def not_taken(names: list[str]) -> str:
+    """Returns what a volunteer reads whose results no known host has."""
+    return (
+        f"The project can't tell which computer got {names[0]}, so it does not take {len(names)} finished "
+        "tasks yet. If this stays so for days, remove and add the project."
+    )
+
+
+Found = tuple[Key, dict[str, Key]]  # the key of a client, and for each result the host that has it
+
+
 class Exchange:
     """Answers requests."""
 
     def __init__(
-        self, counts: Counts, scheduler: Scheduler, retry_delay: int, rules: Callable[[], HostRules],
+        self, hosts: Hosts, numbers: CallNumbers, scheduler: Scheduler, retry_delay: int,
+        rules: Callable[[], HostRules], search: HostSearch,
         is_imported_again: Callable[[str], bool] = lambda _authenticator: False,
         archives: Archives | None = None,
     ):
-        self.counts, self.scheduler, self.retry_delay, self.rules = counts, scheduler, retry_delay, rules
+        self.hosts, self.numbers, self.scheduler, self.search = hosts, numbers, scheduler, search
+        self.retry_delay, self.rules = retry_delay, rules
         self.is_imported_again = is_imported_again  # imports an account again that bsched has lost
         self.archives = archives or Archives()
         self._locks = KeyLocks(wait_seconds=2 * scheduler.answer_seconds)
 
-    def answer(self, request: ClientRequest) -> Reply | PutOff:
+    def answer(self, request: ClientRequest) -> Answered | PutOff:
         """Returns the reply to a request, with the jobs that were in hand. If the request is put off, returns
         why and for how long.
         """
@@ -102,17 +127,118 @@ class Exchange:
                 shown_key(request.authenticator),
             )
             return BARRED
-        key = self.counts.key_of(request.authenticator, request.hostid, request.host_cpid)
         try:
-            with self._locks.held(key):
-                self._resend(key)
-                return self._call(key, request)
+            known = self.hosts.of_number(request.authenticator, request.hostid)
+            if known is not None and request.rpc_seqno >= known.client_seqno:
+                reply = self._call(known.key, request, ClientState(seqno=request.rpc_seqno))
+                return reply if isinstance(reply, PutOff) else Answered(reply)
+            with self._locks.held((request.authenticator, request.hostid, request.host_cpid)):
+                return self._of_unknown(request, known)
         except NoAnswer:
             return PutOff(NO_ANSWER, self.retry_delay, is_down=True)
         except Busy:
             return PutOff(BUSY, self.retry_delay)
+        except TooManySearches:
+            return PutOff(TOO_BUSY, self.retry_delay)
         except CountEnded:
             return COUNT_ENDED
+
+    # ---- Clients that don't send the number of their host
+
+    def _of_unknown(self, request: ClientRequest, original: KnownHost | None) -> Answered | PutOff:
+        """Returns the reply to a client that has no number, one that the bridge does not know, or that of the
+        host of which it is a copy.
+
+        A client without results is the host that its host_cpid names. One with results is the host that has
+        them. A copy is a new host, as in BOINC. Results that another host of the account has are reported for
+        that host. Results that no host is known to have are not reported, and as long as there are any, the
+        client is told no number: with a number its reports would be acknowledged.
+        """
+        client = ClientState()
+        if original is None:
+            found = self._host_of(request)
+        else:
+            log.warning("a client of host %d is a copy, and gets a number of its own", request.hostid)
+            found = self._host_of_copy(request, original)
+            client = ClientState(copy_of=request.hostid)
+            request = replace(request, work_req_seconds=0)  # the reply may be lost, and its jobs with it
+        if isinstance(found, PutOff):
+            return found
+        key, holders = found
+        acknowledged: list[str] = []
+        for other in dict.fromkeys(holders.values()):
+            if other != key:
+                acknowledged += self._reported_for(other, request, holders)
+        unheld = [name for name in names_of(request.results) if name not in holders]
+        reply = self._call(key, of_host(request, key, holders, unheld), client)
+        if isinstance(reply, PutOff):
+            return reply
+        reply = replace(reply, result_ack=reply.result_ack + acknowledged)
+        if not unheld:
+            return Answered(reply, self.numbers.told_hostid(key))
+        log.warning(
+            "account %s: no known host has %s, so its report is not taken (%d results)",
+            shown_key(request.authenticator), unheld[0], len(unheld),
+        )
+        return Answered(replace(reply, result_abort=[]), notice=not_taken(unheld))
+
+    def _host_of_copy(self, request: ClientRequest, original: KnownHost) -> "Found | PutOff":
+        """Returns the key of a copy, and which host has each of its reported results.
+
+        Those that the original had when it was copied are the original's. If bsched does not know that it
+        gave them out, for example after a restore, nobody can report them. The copy may forget them then, as
+        the original may.
+        """
+        reported = names_of(request.results)
+        if reported and self.search.operator_key is not None and not self._has_host(original.key):
+            asked = self._call(original.key, without_results(request))
+            if isinstance(asked, PutOff):
+                return asked
+        key = self.hosts.key_for_copy(request.authenticator, request.hostid)
+        holders = self.search.holders(original.key, reported)
+        if self.search.operator_key is None:
+            holders = dict.fromkeys(reported, original.key)
+        return key, {name: holders.get(name, key) for name in reported}
+
+    def _host_of(self, request: ClientRequest) -> "Found | PutOff":
+        """Returns the key of a client whose number is not known, and which host has each of its results, as
+        far as that is known.
+        """
+        key = Key(request.authenticator, request.host_cpid)
+        reported = set(names_of(request.results))
+        if self.search.operator_key is None:
+            # without statements, a client is its host if bsched has the same number for it
+            is_host = reported and request.hostid and self.scheduler.has_host(
+                key.authenticator, key.host_cpid, request.hostid
+            )
+            return key, dict.fromkeys(reported, key) if is_host else {}
+        holders = self.search.holders(key, reported | set(request.other_results or ()))
+        if reported - holders.keys() and not self._has_host(key):
+            # bsched may have the host, and the bridge does not know by which number: a call tells it
+            asked = self._call(key, without_results(request))
+            if isinstance(asked, PutOff):
+                return asked
+            holders |= dict.fromkeys(self.search.held(key, reported - holders.keys()), key)
+        counted = Counter(holders.values())
+        most = max(counted.values(), default=0)
+        if counted[key] < most:
+            key = next(other for other in counted if counted[other] == most)
+        return key, holders
+
+    def _has_host(self, key: Key) -> bool:
+        """Returns whether bsched has a host under the number that the bridge knows."""
+        number = self.hosts.scheduler_hostid(key)
+        return number is not None and self.scheduler.has_host(key.authenticator, key.host_cpid, number)
+
+    def _reported_for(self, key: Key, request: ClientRequest, holders: dict[str, Key]) -> list[str]:
+        """Reports the results that another host has, and returns the names that are acknowledged."""
+        results = tuple(result for result in request.results if holders.get(result.name) == key)
+        if not results:
+            return []
+        reply = self._call(key, replace(without_results(request), results=results))
+        return [] if isinstance(reply, PutOff) else reply.result_ack
+
+    # ---- Calls
 
     def resend(self, key: Key) -> None:
         """Sends the open call of a key again, if there is one. Raises NoAnswer if it gets no answer again."""
@@ -121,25 +247,33 @@ class Exchange:
 
     def _resend(self, key: Key) -> None:
         """Does the same while the key is held."""
-        call = self.counts.open_call(key)
+        call = self.numbers.open_call(key)
         if call is None:
             return
         answer = self._answer(key, call)
         if isinstance(answer, Refusal):
             log.warning("a call of %s that was sent again is refused as %s", key.host_cpid, answer.error)
-            self.counts.refused(key)
+            self.numbers.refused(key)
         else:
-            self.counts.answered(key, answer, jobs_with(answer, self.counts.jobs_in_hand(key)))
+            self.numbers.answered(key, answer, jobs_with(answer, self.numbers.jobs_in_hand(key)))
 
     def _answer(self, key: Key, call: bytes) -> Reply | Refusal:
         """Returns the answer to a call, with the credit of the archives added."""
         answer = self.scheduler.call(call)
         return self.archives.added_to(key, answer) if isinstance(answer, Reply) else answer
 
-    def _call(self, key: Key, request: ClientRequest) -> Reply | PutOff:
+    def _call(
+        self, key: Key, request: ClientRequest, client: ClientState = ClientState()
+    ) -> Reply | PutOff:
+        """Returns the reply to a request under a key. An open call of the key is sent first."""
+        with self._locks.held(key):
+            self._resend(key)
+            return self._called(key, request, client)
+
+    def _called(self, key: Key, request: ClientRequest, client: ClientState) -> Reply | PutOff:
         """Returns the reply to a request. The key is held, and has no open call."""
-        listed = {*(request.other_results or ()), *(report.name for report in request.results)}
-        in_hand = [job for job in self.counts.jobs_in_hand(key) if job.name not in listed]
+        listed = {*(request.other_results or ()), *names_of(request.results)}
+        in_hand = [job for job in self.numbers.jobs_in_hand(key) if job.name not in listed]
         names, seconds = [job.name for job in in_hand], sum(job.estimate for job in in_hand)
 
         def text(number: int) -> bytes:
@@ -149,7 +283,7 @@ class Exchange:
         refusal = Refusal("stale")
         for _ in range(COUNT_ATTEMPTS):
             try:
-                call = self._opened(key, request.hostid, text, last)
+                call = self._opened(key, text, last, client)
             except TooManyHosts as many:
                 log.warning(
                     "host %s of account %s is refused: the account has %d hosts",
@@ -158,10 +292,10 @@ class Exchange:
                 return too_many_hosts(many.count)
             answer = self._answer(key, call)
             if isinstance(answer, Reply):
-                self.counts.answered(key, answer, [] if request.other_results is None else answer.results)
+                self.numbers.answered(key, answer, [] if request.other_results is None else answer.results)
                 return replace(answer, results=jobs_with(answer, in_hand))
             refusal = answer
-            self.counts.refused(key)
+            self.numbers.refused(key)
             if refusal.error == "bad_account" and self.is_imported_again(key.authenticator):
                 continue
             if refusal.error not in ("stale", "reused"):
@@ -170,24 +304,44 @@ class Exchange:
             log.warning("the count of %s continues from %d, which bsched had reached", key.host_cpid, last)
         return put_off_by(refusal)
 
-    def _opened(self, key: Key, hostid: int, text: Callable[[int], bytes], last: int) -> bytes:
+    def _opened(self, key: Key, text: Callable[[int], bytes], last: int, client: ClientState) -> bytes:
         """Returns the text of a new call. A new host is refused if its account has as many as it may have.
 
         The hosts are counted in the state file. If that file and bsched's tables are of different moments,
-        the two are reconciled first. A host that bsched has is not refused, and one that bsched does not have
-        is forgotten and makes room.
+        the two are reconciled first. A host that bsched does not have makes room.
         """
         most = self.rules().most_hosts
         try:
-            return self.counts.opened(key, text, last, most)
+            return self.numbers.opened(key, text, last, most, client)
         except TooManyHosts:
-            if hostid and self.scheduler.has_host(key.authenticator, key.host_cpid, hostid):
-                return self.counts.opened(key, text, last)
-            newest = self.counts.newest_host(key.authenticator)
+            newest = self.hosts.newest(key.authenticator)
             if newest is None or self.scheduler.has_host(key.authenticator, newest[0].host_cpid, newest[1]):
                 raise
-            self.counts.forgotten(newest[0])
-            return self.counts.opened(key, text, last, most)
+            self.hosts.is_gone(newest[0])
+            return self.numbers.opened(key, text, last, most, client)
+
+
+def names_of(results: Iterable[Report]) -> list[str]:
+    """Returns the names of reported results."""
+    return [result.name for result in results]
+
+
+def without_results(request: ClientRequest) -> ClientRequest:
+    """Returns a request that reports nothing, lists nothing and asks for no job."""
+    return replace(request, results=(), other_results=None, work_req_seconds=0)
+
+
+def of_host(
+    request: ClientRequest, key: Key, holders: dict[str, Key], unheld: list[str]
+) -> ClientRequest:
+    """Returns the request with the results that a host has. Those that nobody is known to have are listed, so
+    that they don't count as lost if the host has them after all.
+    """
+    other = request.other_results
+    return replace(
+        request, results=tuple(result for result in request.results if holders.get(result.name) == key),
+        other_results=None if other is None else (*other, *unheld),
+    )
 
 
 def jobs_with(reply: Reply, in_hand: list[Job]) -> list[Job]:
@@ -220,7 +374,7 @@ class Resending(threading.Thread):
             try:
                 if key == FIRST_KEY:
                     self._resend_accounts()
-                following = self.exchange.counts.next_open(key)
+                following = self.exchange.numbers.next_open(key)
                 key = following or FIRST_KEY
                 if following is not None:
                     self.exchange.resend(following)

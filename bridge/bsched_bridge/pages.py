@@ -142,7 +142,7 @@ def hosts_markup(status: Status) -> list[Markup]:
     header = ["computer", "user", "called last (UTC)", "credit"]
     rows: list[list[object]] = [
         [
-            Number(one.host.hostid),
+            Number(one.host.hostid or "–"),
             one.host.user_name,
             moment_text(one.host.heard_at),
             Number(credits_text(one.credit)),

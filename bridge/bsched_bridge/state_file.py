@@ -1,6 +1,7 @@
 """The state file: what must outlive a stop of the bridge, in SQLite.
 
-Two modules keep their rows in it: `counts` the keys of bsched with their calls, and `members` the accounts.
+Three modules keep their rows in it: `hosts` and `call_numbers` the keys of bsched with their numbers and
+their calls, and `members` the accounts.
 """
 import os
 import sqlite3
@@ -10,12 +11,16 @@ from contextlib import contextmanager
 from pathlib import Path
 
 # the name of the format, in the file's header: "bscb"
-APPLICATION_ID, SCHEMA_VERSION = 0x62736362, 2
+APPLICATION_ID, SCHEMA_VERSION = 0x62736362, 3
 HOSTS = """
 CREATE TABLE host (
   -- the key; the host_cpid is the one with which the host was made
   authenticator TEXT NOT NULL, host_cpid TEXT NOT NULL,
-  hostid INTEGER,             -- bsched's number of the host, once a reply told it
+  hostid INTEGER,             -- the bridge's number of the host, once a client was told it
+  -- the client's rpc_seqno in its last request with that number; NULL before the first one
+  client_seqno INTEGER,
+  copy_of INTEGER,            -- the hostid of the computer of which the host is a copy
+  scheduler_hostid INTEGER,   -- bsched's number of the host in its tables, by the last reply
   last_number INTEGER NOT NULL,  -- the rpc_seqno of the last call
   open_call BLOB,             -- its bytes, where no answer came yet
   jobs_in_hand TEXT NOT NULL DEFAULT '[]',  -- those that the client may lack, as JSON, as replies have them
@@ -23,9 +28,16 @@ CREATE TABLE host (
   user_name TEXT, user_credit INTEGER, host_credit INTEGER, heard_at INTEGER,
   PRIMARY KEY (authenticator, host_cpid)
 ) STRICT;
-CREATE UNIQUE INDEX host_by_number ON host (authenticator, hostid);
+CREATE UNIQUE INDEX host_by_number ON host (hostid);
+CREATE UNIQUE INDEX host_by_scheduler_number ON host (authenticator, scheduler_hostid);
+CREATE INDEX host_of_copy ON host (authenticator, copy_of) WHERE copy_of IS NOT NULL;
 CREATE INDEX host_with_open_call ON host (authenticator, host_cpid) WHERE open_call IS NOT NULL;
-CREATE INDEX host_heard ON host (heard_at) WHERE hostid IS NOT NULL;
+CREATE INDEX host_heard ON host (heard_at) WHERE scheduler_hostid IS NOT NULL;
+"""
+# The numbers that clients were told. Up to version 2 they were told bsched's, which are at most 100,000.
+NUMBERS = """
+CREATE TABLE numbers (last_hostid INTEGER NOT NULL) STRICT;
+INSERT INTO numbers (last_hostid) VALUES (100000);
 """
 MEMBERS = """
 CREATE TABLE member (
@@ -52,8 +64,22 @@ INSERT INTO member (authenticator, name, is_imported, cpid, created_at)
       AND (other.heard_at, other.hostid) < (one.heard_at, one.hostid)
   ) ORDER BY heard_at, hostid;
 """
-NEW_FILE = HOSTS + MEMBERS
-UPGRADES = {1: MEMBERS + HEARD_MEMBERS}  # the statements from each version to the next
+# Which number a client was told before is not known: it may be from earlier tables.
+HOSTS_OF_VERSION_2 = """
+DROP INDEX host_by_number;
+DROP INDEX host_with_open_call;
+DROP INDEX host_heard;
+ALTER TABLE host RENAME TO host_of_version_2;
+""" + HOSTS + """
+INSERT INTO host (authenticator, host_cpid, scheduler_hostid, last_number, open_call, jobs_in_hand, user_name,
+    user_credit, host_credit, heard_at)
+  SELECT authenticator, host_cpid, hostid, last_number, open_call, jobs_in_hand, user_name, user_credit,
+    host_credit, heard_at FROM host_of_version_2;
+DROP TABLE host_of_version_2;
+"""
+NEW_FILE = HOSTS + NUMBERS + MEMBERS
+# the statements from each version to the next
+UPGRADES = {1: MEMBERS + HEARD_MEMBERS, 2: HOSTS_OF_VERSION_2 + NUMBERS}
 
 
 class StateFault(Exception):

@@ -12,7 +12,8 @@ from decimal import Decimal, InvalidOperation
 from pathlib import Path
 
 from .archives import Archives
-from .counts import Counts, HeardHost
+from .hosts import HeardHost
+from .hosts import Hosts as KnownHosts
 from .members import Members
 from .scheduler import NoAnswer, Scheduler
 
@@ -121,19 +122,14 @@ class Statements:
 
     def __init__(
         self,
-        counts: Counts,
+        hosts: KnownHosts,
         members: Members,
         scheduler: Scheduler,
         operator_key: str | None,
         unit_counts: Path | None,
         archives: Archives,
     ):
-        self.counts, self.members, self.scheduler, self.operator_key = (
-            counts,
-            members,
-            scheduler,
-            operator_key,
-        )
+        self.hosts, self.members, self.scheduler, self.operator_key = hosts, members, scheduler, operator_key
         self.unit_counts, self.archives = unit_counts, archives
         self._lock, self._accounts_lock = threading.Lock(), threading.Lock()
         self._kept: tuple[Status, float] | None = None  # with the moment until which it is shown
@@ -174,7 +170,7 @@ class Statements:
         the credit of those that are shown, and of the others in the archives, is summed, too. Credit never
         falls, so the greater number is the later one.
         """
-        heard = self.counts.heard_hosts(MOST_HOSTS, authenticator)
+        heard = self.hosts.heard(MOST_HOSTS, authenticator)
         recent = self._hosts(heard)
         shown = sum(one.credit for one in recent.hosts)
         others = self.archives.users[authenticator] - sum(self.archives.hosts[host.key] for host in heard)
@@ -186,12 +182,12 @@ class Statements:
         names = self.members.names()
         heard = [
             replace(host, user_name=names.get(host.authenticator, "?"))
-            for host in self.counts.heard_hosts(MOST_HOSTS)
+            for host in self.hosts.heard(MOST_HOSTS)
         ]
         recent = self._hosts(heard) if with_statements else self._heard_only(heard)
-        ranking = [(names.get(key, "?"), credit) for key, credit in self.counts.user_credits()]
+        ranking = [(names.get(key, "?"), credit) for key, credit in self.hosts.user_credits()]
         return Status(
-            recent, self.counts.count_of_hosts(), sorted(ranking, key=lambda user: (-user[1], user[0])),
+            recent, self.hosts.count(), sorted(ranking, key=lambda user: (-user[1], user[0])),
             read_unit_counts(self.unit_counts), self.scheduler.silent_since,
         )
 
@@ -231,9 +227,9 @@ class Statements:
         The number of the host may be from an earlier file of the project. In the present one another user's
         host may have that number, so bsched is asked first.
         """
-        if not self.scheduler.has_host(host.authenticator, host.host_cpid, host.hostid):
+        if not self.scheduler.has_host(host.authenticator, host.host_cpid, host.scheduler_hostid):
             return self._without_results(host)
-        statement = self.scheduler.statement(host.hostid, operator_key)
+        statement = self.scheduler.statement(host.scheduler_hostid, operator_key)
         if statement is None:
             raise NoAnswer("the statement is refused")
         told = read_statement(host, statement)

@@ -63,6 +63,12 @@ def tmp_path():
         yield Path(folder)
 
 
+@pytest.fixture(autouse=True)
+def numbers_from_the_first(monkeypatch):
+    """Has bridges give the first number to the first host, whatever the time is."""
+    monkeypatch.setattr("bsched_bridge.hosts.number_by_clock", lambda: 0)
+
+
 @pytest.fixture(scope="session")
 def key():
     """Returns a code signing key."""
@@ -72,18 +78,23 @@ def key():
 @pytest.fixture
 def project(tmp_path, key):
     """Makes a folder with the files of a bridge."""
-    (tmp_path / "files").mkdir()
-    (tmp_path / "files" / "sum_1").write_text("#!/bin/sh\n")
-    (tmp_path / "files" / "two.txt").write_text("2\n")
-    (tmp_path / "key").write_text(public_key_text(key.public_key()))
-    (tmp_path / "sum_1.signature").write_text(signature_text(file_md5(tmp_path / "files" / "sum_1"), key))
-    (tmp_path / "catalogue.toml").write_text(CATALOGUE)
-    (tmp_path / "bridge.toml").write_text(
+    return new_project(tmp_path, key)
+
+
+def new_project(folder, key):
+    """Writes the files of a bridge into a folder, and returns it."""
+    (folder / "files").mkdir()
+    (folder / "files" / "sum_1").write_text("#!/bin/sh\n")
+    (folder / "files" / "two.txt").write_text("2\n")
+    (folder / "key").write_text(public_key_text(key.public_key()))
+    (folder / "sum_1.signature").write_text(signature_text(file_md5(folder / "files" / "sum_1"), key))
+    (folder / "catalogue.toml").write_text(CATALOGUE)
+    (folder / "bridge.toml").write_text(
         'name = "Sums"\nurl = "http://127.0.0.1:8081/p/"\nlisten = "127.0.0.1:8081"\nscheduler = '
         '"127.0.0.1:8080"\n'
         'operator_key = "change-this-key"\ncatalogue = "catalogue.toml"\nstate = "bridge.db"\n'
     )
-    return tmp_path
+    return folder
 
 
 @pytest.fixture
@@ -114,7 +125,8 @@ class Bridge:
             HostRuleReader(path, settings.host_rules).rules,
             Passwords(Cost(2**4, 8, 1)),
         )
-        self.counts, self.members = self.application.exchange.counts, self.application.members
+        self.hosts, self.numbers = self.application.exchange.hosts, self.application.exchange.numbers
+        self.members = self.application.members
 
     def restart(self) -> None:
         """Starts the bridge again from what is on the disk."""

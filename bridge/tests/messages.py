@@ -1,15 +1,21 @@
 """Requests that tests write, and what tests read in replies."""
 import re
 
+FIRST = 100_001  # the number that the first host is told, if the clock does not give a greater one
 
-def request(hostid=0, cpid="c1", key="ann-key", seconds=60, listed=(), reports=(), seqno=0, **more):
-    """Returns a scheduler_request. If listed is None, it has no list of what the client has."""
+def request(
+    hostid=0, cpid="c1", key="ann-key", seconds=60, listed=(), reports=(), seqno=0, statuses=None, **more
+):
+    """Returns a scheduler_request. If listed is None, it has no list of what the client has. Reports have the
+    exit status 0, if statuses has no other one for their names.
+    """
+    statuses = statuses or {}
     other = ""
     if listed is not None:
         names = "".join(f"<other_result><name>{name}</name></other_result>\n" for name in listed)
         other = f"<other_results>\n{names}</other_results>\n"
     results = "".join(
-        f"<result><name>{name}</name><exit_status>0</exit_status><state>5</state><stderr_out>"
+        f"<result><name>{name}</name><exit_status>{statuses.get(name, 0)}</exit_status><state>5</state><stderr_out>"
         "<core_client_version>7.20.5"
         f"</core_client_version>\n<![CDATA[\n<stderr_txt>\n{output}\n</stderr_txt>\n]]>\n"
         "</stderr_out></result>\n"

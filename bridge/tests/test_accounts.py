@@ -13,7 +13,7 @@ from hypothesis import strategies as st
 from joining import (
     CLIENT, account_query, client_hash, create, look_up, made_accounts, rows, told, wait_until, works,
 )
-from messages import request, value
+from messages import FIRST, request, value
 
 from bsched_bridge.accounts import account_import, clean_name, is_email
 from bsched_bridge.limits import RecentCounts, is_loopback, network_of
@@ -457,7 +457,7 @@ def test_account_messages_leave_threads_for_calls(open_bridge):
             kind = "application/x-www-form-urlencoded"
             assert b"The project is busy" in open_bridge.got(f"/p/{page}", method, form, CONTENT_TYPE=kind)[2]
         assert answers == []
-        assert value(open_bridge.call(request()), "hostid") == "1"
+        assert value(open_bridge.call(request()), "hostid") == str(FIRST)
     for thread in threads:
         thread.join()
     assert len({answer for answer in answers if isinstance(answer, str)}) == 1

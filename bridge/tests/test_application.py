@@ -3,7 +3,7 @@ import re
 import xml.etree.ElementTree as ElementTree
 
 import pytest
-from messages import jobs, names, request, value
+from messages import FIRST, jobs, names, request, value
 
 from bsched_bridge import client_requests
 
@@ -138,7 +138,7 @@ def test_a_job_whose_file_is_gone_comes_again(bridge):
     assert jobs(reply) == ["u1_0"]
     assert b"lacks a file for the job u2_0" in reply
     (bridge.folder / "files" / "two.txt").write_text("2\n")
-    assert jobs(bridge.call(request(hostid=1, listed=["u1_0"], seconds=0))) == ["u2_0"]
+    assert jobs(bridge.call(request(hostid=FIRST, listed=["u1_0"], seconds=0))) == ["u2_0"]
 
 
 def test_a_name_of_any_characters(bridge):
@@ -160,7 +160,7 @@ def test_why_there_are_no_jobs(bridge, end_word, told):
             break
         listed += jobs(reply)
         if end_word == "no_eligible_work":
-            bridge.call(request(hostid=1, listed=[], reports=[(name, "1") for name in listed], seconds=0))
+            bridge.call(request(hostid=FIRST, listed=[], reports=[(name, "1") for name in listed], seconds=0))
             listed = []
     assert told in value(reply, "message")
 
@@ -204,7 +204,7 @@ def test_large_requests_are_read_one_after_the_other(bridge, monkeypatch):
         reply = bridge.call(large)
         assert value(reply, "message") == "The project is busy at the moment."
         assert (value(reply, "request_delay"), jobs(reply)) == ("60.000000", [])
-        assert value(bridge.call(request()), "hostid") == "1"  # a small one need not wait
+        assert value(bridge.call(request()), "hostid") == str(FIRST)  # a small one need not wait
     assert jobs(bridge.call(large)) == ["u1_0"]
 
 

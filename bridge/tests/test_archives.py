@@ -6,11 +6,11 @@ import sqlite3
 
 import plain_tables
 import pytest
-from messages import request, value
+from messages import FIRST, request, value
 from twin import Twin
 
 from bsched_bridge.archives import Archives, read_archives
-from bsched_bridge.counts import Key
+from bsched_bridge.hosts import Key
 from bsched_bridge.operator_files import OperatorFault
 from bsched_bridge.settings import read_settings
 
@@ -69,10 +69,10 @@ def test_replies_and_the_page_have_the_credit(project, bridge):
     with (project / "bridge.toml").open("a") as file:
         file.write('archives = ["2026.db"]\n')
     bridge.restart()
-    told = bridge.call(request(hostid=1))
+    told = bridge.call(request(hostid=FIRST))
     assert (value(told, "user_total_credit"), value(told, "host_total_credit")) == ("6.500", "4.000")
     # the user's credit in the latest reply; the host's credit by its statement, which is 5.000 in the twin
-    assert shown(bridge, "status") == ["1", "6.500", "1", "9.000", *"11111", "all", "", *"11111"]
+    assert shown(bridge, "status") == ["1", "6.500", str(FIRST), "9.000", *"11111", "all", "", *"11111"]
 
 
 def shown(bridge, page):
@@ -95,11 +95,11 @@ def test_a_new_file_in_which_another_user_has_the_number_of_a_host(project, open
     open_bridge.call(request(key="bob-key", cpid="c2"))
     assert [host.number for host in twin.service.machine.hosts.values()] == [1]
     # Ann's host had the number 1 in the archive: it has its credit from there, and no results
-    assert shown(open_bridge, ANN) == ["1", "4.000", *"00000"]
+    assert shown(open_bridge, ANN) == [str(FIRST), "4.000", *"00000"]
     assert "Together <strong>6.500</strong>." in open_bridge.got(f"/p/{ANN}")[2].decode()
     assert "4.000" in shown(open_bridge, "status")
-    open_bridge.call(request(hostid=1))
+    open_bridge.call(request(hostid=FIRST))
     open_bridge.application.statements._accounts.clear()
-    assert shown(open_bridge, ANN) == ["2", "9.000", *"11111"]
+    assert shown(open_bridge, ANN) == [str(FIRST), "9.000", *"11111"]
     # 5.000 by the statement of this host, and 6.500 of both hosts in the archive
     assert "Together <strong>11.500</strong>." in open_bridge.got(f"/p/{ANN}")[2].decode()

@@ -4,16 +4,16 @@ import threading
 
 import pytest
 from joining import wait_until
-from messages import jobs, names, request, value
+from messages import FIRST, jobs, names, request, value
 from twin import Twin
 
-from bsched_bridge.counts import FIRST_KEY
+from bsched_bridge.hosts import FIRST_KEY, Key
 from bsched_bridge.exchange import Resending
 
 
 def test_a_first_call(bridge, twin):
     reply = bridge.call(request())
-    assert value(reply, "hostid") == "1"
+    assert value(reply, "hostid") == str(FIRST)
     assert jobs(reply) == ["u1_0"]
     assert value(reply, "user_name") == "Ann"
     call = twin.calls()[0]
@@ -22,8 +22,8 @@ def test_a_first_call(bridge, twin):
 
 def test_hostid_is_left_out_for_a_client_that_has_one(bridge):
     bridge.call(request())
-    assert value(bridge.call(request(hostid=1, listed=["u1_0"])), "hostid") is None
-    assert value(bridge.call(request(hostid=77, cpid="c1")), "hostid") is None
+    assert value(bridge.call(request(hostid=FIRST, listed=["u1_0"])), "hostid") is None
+    assert value(bridge.call(request(hostid=77, cpid="c1")), "hostid") == str(FIRST)  # 77 is not its number
 
 
 def test_the_bridge_counts_by_itself(bridge, twin):
@@ -34,29 +34,29 @@ def test_the_bridge_counts_by_itself(bridge, twin):
 
 def test_a_host_cpid_that_changes_is_mapped(bridge, twin):
     bridge.call(request(cpid="first"))
-    bridge.call(request(cpid="second", hostid=1))
+    bridge.call(request(cpid="second", hostid=FIRST))
     assert [call["host_info"]["host_cpid"] for call in twin.calls()] == ["first", "first"]
     assert [call["rpc_seqno"] for call in twin.calls()] == [1, 2]
     bridge.restart()
-    bridge.call(request(cpid="third", hostid=1))
+    bridge.call(request(cpid="third", hostid=FIRST))
     assert twin.calls()[-1]["host_info"]["host_cpid"] == "first"
 
 
 def test_a_reply_that_the_client_lost(bridge):
     assert jobs(bridge.call(request())) == ["u1_0"]
     assert jobs(bridge.call(request())) == ["u1_0"]  # the client lists nothing, so the job comes again
-    assert jobs(bridge.call(request(hostid=1, listed=["u1_0"]))) == ["u2_0"]
+    assert jobs(bridge.call(request(hostid=FIRST, listed=["u1_0"]))) == ["u2_0"]
 
 
 def test_a_quorum_brings_credit(bridge):
     bridge.call(request())
     bridge.call(request(key="bob-key", cpid="c2"))
-    assert names(bridge.call(request(hostid=1, seconds=0, reports=[("u1_0", "42")])), "result_ack") == [
+    assert names(bridge.call(request(hostid=FIRST, seconds=0, reports=[("u1_0", "42")])), "result_ack") == [
         "u1_0"
     ]
-    reply = bridge.call(request(hostid=2, key="bob-key", cpid="c2", seconds=0, reports=[("u1_1", "42")]))
+    reply = bridge.call(request(hostid=FIRST + 1, key="bob-key", cpid="c2", seconds=0, reports=[("u1_1", "42")]))
     assert value(reply, "user_total_credit") == "5.000"
-    assert value(bridge.call(request(hostid=1, seconds=0)), "host_total_credit") == "5.000"
+    assert value(bridge.call(request(hostid=FIRST, seconds=0)), "host_total_credit") == "5.000"
 
 
 def test_an_answer_that_is_lost_is_asked_for_again_with_the_same_bytes(bridge, twin):
@@ -70,11 +70,11 @@ def test_an_answer_that_is_lost_is_asked_for_again_with_the_same_bytes(bridge, t
 def test_no_answer_is_a_reply_with_a_delay_and_no_loss(bridge, twin, fault):
     bridge.call(request())
     twin.faults = [fault] * 3
-    reply = bridge.call(request(hostid=1, reports=[("u1_0", "42")]))
+    reply = bridge.call(request(hostid=FIRST, reports=[("u1_0", "42")]))
     assert value(reply, "request_delay") == "60.000000"
     assert value(reply, "project_is_down") == "1"
     assert names(reply, "result_ack") == []
-    reply = bridge.call(request(hostid=1, reports=[("u1_0", "42")]))
+    reply = bridge.call(request(hostid=FIRST, reports=[("u1_0", "42")]))
     assert names(reply, "result_ack") == ["u1_0"]
     assert twin.heard[1] == twin.heard[4]  # the call without an answer is sent first
     assert twin.calls()[5]["rpc_seqno"] == 3
@@ -104,11 +104,11 @@ def test_an_answer_that_is_too_long_is_an_error(bridge, twin, monkeypatch, caplo
     bridge.call(request())
     longest = max(map(len, twin.told))
     monkeypatch.setattr("bsched_bridge.scheduler.MOST_ANSWER", longest)
-    assert names(bridge.call(request(hostid=1, reports=[("u1_0", "42")], seconds=0)), "result_ack") == [
+    assert names(bridge.call(request(hostid=FIRST, reports=[("u1_0", "42")], seconds=0)), "result_ack") == [
         "u1_0"
     ]
     monkeypatch.setattr("bsched_bridge.scheduler.MOST_ANSWER", 100)
-    assert value(bridge.call(request(hostid=1)), "project_is_down") == "1"
+    assert value(bridge.call(request(hostid=FIRST)), "project_is_down") == "1"
     assert "the answer of bsched to POST /scheduler is longer than 100 bytes" in caplog.text
 
 
@@ -132,8 +132,8 @@ def test_jobs_of_an_answer_that_came_too_late_are_kept(project, monkeypatch, res
     assert twin.heard[2] == twin.heard[3]
     # the job of the late answer, and one more for the second that it does not fill
     assert jobs(reply) == ["u1_0", "u2_0"]
-    assert value(reply, "hostid") == "1"
-    assert jobs(bridge.call(request(hostid=1, listed=["u1_0", "u2_0"], seconds=0))) == []
+    assert value(reply, "hostid") == str(FIRST)
+    assert jobs(bridge.call(request(hostid=FIRST, listed=["u1_0", "u2_0"], seconds=0))) == []
     bridge.file.close()
     twin.close()
 
@@ -148,27 +148,27 @@ def test_jobs_of_a_reply_that_the_client_lost_go_out_once_more(project, monkeypa
     if is_restarted:
         bridge.restart()
     # the client has only one of them; for bsched it has both, and the seconds of the other one are there
-    reply = bridge.call(request(hostid=1, listed=["u1_0"], seconds=61))
+    reply = bridge.call(request(hostid=FIRST, listed=["u1_0"], seconds=61))
     assert jobs(reply) == ["u2_0", "u3_0"]
     assert twin.calls()[1]["other_results"] == ["u1_0", "u2_0"]
     assert twin.calls()[1]["work_req_seconds"] == 1
     # this reply is lost, too: only the job that went out once goes out again
-    assert jobs(bridge.call(request(hostid=1, listed=["u1_0"], seconds=0))) == ["u3_0"]
-    assert jobs(bridge.call(request(hostid=1, listed=["u1_0"], seconds=0))) == []
+    assert jobs(bridge.call(request(hostid=FIRST, listed=["u1_0"], seconds=0))) == ["u3_0"]
+    assert jobs(bridge.call(request(hostid=FIRST, listed=["u1_0"], seconds=0))) == []
     bridge.file.close()
     twin.close()
 
 
 def test_jobs_that_the_client_reports_are_not_in_hand(bridge, twin):
     assert jobs(bridge.call(request())) == ["u1_0"]
-    reply = bridge.call(request(hostid=1, listed=[], reports=[("u1_0", "42")], seconds=0))
+    reply = bridge.call(request(hostid=FIRST, listed=[], reports=[("u1_0", "42")], seconds=0))
     assert (jobs(reply), names(reply, "result_ack")) == ([], ["u1_0"])
     assert twin.calls()[1]["other_results"] == []
 
 
 def test_a_client_that_lists_nothing_gets_no_job_twice(bridge, twin):
     assert jobs(bridge.call(request(listed=None))) == ["u1_0"]
-    assert jobs(bridge.call(request(hostid=1, listed=None))) == ["u2_0"]
+    assert jobs(bridge.call(request(hostid=FIRST, listed=None))) == ["u2_0"]
     assert twin.calls()[1]["work_req_seconds"] == 60
 
 
@@ -181,22 +181,22 @@ def test_a_stop_between_a_call_and_its_answer(bridge, twin):
     handle = twin.service.scheduler
 
     def looked(body, now):
-        seen.append((body, bridge.counts.open_call(bridge.counts.key_of("ann-key", 1, "c1"))))
+        seen.append((body, bridge.numbers.open_call(Key("ann-key", "c1"))))
         return handle(body, now)
 
     twin.service.scheduler = looked
-    bridge.call(request(hostid=1, listed=["u1_0"]))
+    bridge.call(request(hostid=FIRST, listed=["u1_0"]))
     assert seen[0][0] == seen[0][1]
 
 
 def test_open_calls_are_sent_again_at_the_start(bridge, twin):
     bridge.call(request())
     twin.faults = ["unheard"] * 3
-    bridge.call(request(hostid=1, reports=[("u1_0", "42")], seconds=0))
+    bridge.call(request(hostid=FIRST, reports=[("u1_0", "42")], seconds=0))
     bridge.restart()
     resending = Resending(bridge.application.exchange, 0.01)
     resending.start()
-    wait_until(lambda: bridge.counts.next_open(FIRST_KEY) is None)
+    wait_until(lambda: bridge.numbers.next_open(FIRST_KEY) is None)
     resending.end()
     assert twin.heard[3] == twin.heard[4]
     assert len(twin.heard) == 5  # and no more after the answer
@@ -217,18 +217,18 @@ def test_a_call_that_gets_no_answer_does_not_keep_others_from_theirs(bridge, twi
     twin.service.scheduler = fails_for_ann
     resending = Resending(bridge.application.exchange, 0.01)
     resending.start()
-    ann, bob = (bridge.counts.key_of(*told) for told in (("ann-key", 0, "c1"), ("bob-key", 0, "c2")))
-    wait_until(lambda: bridge.counts.open_call(bob) is None)
-    assert bridge.counts.open_call(ann) == twin.heard[0]
+    ann, bob = Key("ann-key", "c1"), Key("bob-key", "c2")
+    wait_until(lambda: bridge.numbers.open_call(bob) is None)
+    assert bridge.numbers.open_call(ann) == twin.heard[0]
     twin.service.scheduler = handle
-    wait_until(lambda: bridge.counts.open_call(ann) is None)
+    wait_until(lambda: bridge.numbers.open_call(ann) is None)
     resending.end()
 
 
 def test_late_answers_are_not_handed_on_twice(bridge, twin):
     twin.faults = ["lost"] * 3
     bridge.call(request())
-    bridge.application.exchange.resend(bridge.counts.key_of("ann-key", 0, "c1"))
+    bridge.application.exchange.resend(Key("ann-key", "c1"))
     assert jobs(bridge.call(request(listed=["u1_0"], seconds=0))) == []  # the client has it by now
 
 
@@ -244,7 +244,7 @@ def test_two_requests_of_a_client_at_once_share_no_number(bridge, twin):
 
 def test_two_clients_at_once_do_not_wait_for_one_another(bridge, twin):
     locks = bridge.application.exchange._locks
-    with locks.held(bridge.counts.key_of("ann-key", 0, "c1")):
+    with locks.held(Key("ann-key", "c1")):
         assert jobs(bridge.call(request(key="bob-key", cpid="c2"))) == ["u1_0"]
         locks.wait_seconds = 0.01
         reply = bridge.call(request())
@@ -259,7 +259,7 @@ def test_a_count_that_was_lost_goes_on(bridge, twin, project):
     for path in project.glob("bridge.db*"):
         path.unlink()
     bridge.start()
-    assert value(bridge.call(request(seconds=90)), "hostid") == "1"
+    assert value(bridge.call(request(seconds=90)), "hostid") == str(FIRST)
     assert [call["rpc_seqno"] for call in twin.calls()[3:]] == [1, 4]
     bridge.call(request())
     assert twin.calls()[-1]["rpc_seqno"] == 5
@@ -306,12 +306,12 @@ def test_refusals(bridge, twin, error):
     twin.faults = [json.dumps({"error": error, "number": 1, **more})] * (
         1 if not more and error != "unavailable" else 3
     )
-    reply = bridge.call(request(hostid=1, reports=[("u1_0", "42")]))
+    reply = bridge.call(request(hostid=FIRST, reports=[("u1_0", "42")]))
     assert message in value(reply, "message")
     assert f'priority="{priority}"' in reply.decode()
     assert value(reply, "request_delay") == delay
     assert names(reply, "result_ack") == []
-    assert names(bridge.call(request(hostid=1, reports=[("u1_0", "42")])), "result_ack") == ["u1_0"]
+    assert names(bridge.call(request(hostid=FIRST, reports=[("u1_0", "42")])), "result_ack") == ["u1_0"]
 
 
 def test_a_faulty_member_is_named(bridge, twin):
@@ -325,7 +325,7 @@ def test_a_count_behind_that_of_bsched(bridge, twin, error):
     bridge.call(request())
     assert [call["rpc_seqno"] for call in twin.calls()] == [1, 42]
     twin.faults = [json.dumps({"error": error, "last": last, "number": 10}) for last in (50, 60, 70)]
-    assert "refused" in value(bridge.call(request(hostid=1)), "message")  # after three attempts
+    assert "refused" in value(bridge.call(request(hostid=FIRST)), "message")  # after three attempts
     assert [call["rpc_seqno"] for call in twin.calls()[2:]] == [43, 51, 61]
 
 

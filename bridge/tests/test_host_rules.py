@@ -3,7 +3,7 @@ import os
 import threading
 
 import pytest
-from messages import request, value
+from messages import FIRST, request, value
 
 FULL = "Your account has 3 computers at this project, and may have no more."
 
@@ -24,9 +24,10 @@ def settings(project, *lines):
 
 
 def called(bridge, number, key="ann-key", hostid=0):
-    """Has a host call. Returns its hostid, or the message to the volunteer."""
+    """Has a host call. Returns the place of its hostid in the order of all, or the message to the volunteer."""
     reply = bridge.call(request(key=key, cpid=f"c{number}", hostid=hostid, seconds=0))
-    return value(reply, "hostid") or value(reply, "message") or "known"
+    told = value(reply, "hostid")
+    return str(int(told) - FIRST + 1) if told else value(reply, "message") or "known"
 
 
 def test_one_account_fills_no_project(bridge, twin):
@@ -44,7 +45,7 @@ def test_a_host_too_many_gets_a_message(small, twin, caplog):
     assert value(reply, "request_delay") == "86400.000000"
     lines = [record.getMessage() for record in caplog.records if "refused" in record.getMessage()]
     assert lines == ["host c9 of account ann.. is refused: the account has 3 hosts"]
-    assert called(small, 1) == "2" and called(small, 1, hostid=2) == "known"
+    assert called(small, 1) == "2" and called(small, 1, hostid=FIRST + 1) == "known"
     assert called(small, 9, "bob-key") == "4"
     small.restart()
     assert FULL in called(small, 9)
@@ -54,9 +55,9 @@ def test_a_host_too_many_gets_a_message(small, twin, caplog):
 def test_a_host_whose_answer_was_lost_counts(small, twin):
     twin.faults = ["lost"] * 3
     called(small, 0)
-    assert [called(small, number) for number in (1, 2)] == ["2", "3"]
+    assert [called(small, number) for number in (1, 2)] == ["1", "2"]
     assert FULL in called(small, 3)
-    assert called(small, 0) == "1"
+    assert called(small, 0) == "3"
 
 
 def test_hosts_that_come_at_once(small, twin):
@@ -96,14 +97,14 @@ def test_a_barred_account(project, bridge, twin, caplog):
     assert called(bridge, 0) == "1"
     settings(project, 'barred = ["ann-key", "other"]')
     heard = len(twin.heard)
-    reply = bridge.call(request(cpid="c0", hostid=1))
+    reply = bridge.call(request(cpid="c0", hostid=FIRST))
     assert value(reply, "message") == "The project's operator has barred this account. Ask the operator why."
     assert value(reply, "request_delay") == "86400.000000"
     assert len(twin.heard) == heard
     assert "host c0 of account ann.. is refused: barred" in caplog.text
     assert called(bridge, 1, "bob-key") == "2"
     settings(project)
-    assert called(bridge, 0, hostid=1) == "known"
+    assert called(bridge, 0, hostid=FIRST) == "known"
 
 
 def test_hosts_that_bsched_has_lost_make_room(small, twin):
@@ -111,22 +112,24 @@ def test_hosts_that_bsched_has_lost_make_room(small, twin):
     machine = twin.service.machine
     for key in [key for key, host in machine.hosts.items() if host.number == 3]:  # as in an older copy
         del machine.hosts[key]
-    assert called(small, 7) == "3"
+    assert called(small, 7) == "4"  # no number is given twice
     assert FULL in called(small, 8)
-    assert FULL in called(small, 2)  # its place is taken
+    assert FULL in called(small, 2, hostid=FIRST + 2)  # its place is taken
     assert len(machine.hosts) == 3
 
 
-def test_a_host_that_bsched_has_is_let_in(small, twin, project):
+def test_without_the_state_file_the_hosts_that_call_count(small, twin, project, monkeypatch):
     for number in range(3):
         called(small, number)
     small.file.close()
     for path in project.glob("bridge.db*"):
         path.unlink()
+    monkeypatch.setattr("bsched_bridge.hosts.number_by_clock", lambda: FIRST + 99)
     small.start()
-    assert [called(small, number) for number in (7, 8, 9)] == ["4", "5", "6"]  # the file is new
-    assert called(small, 0, hostid=1) == "known"
-    assert FULL.replace("3", "4") in called(small, 10)
+    assert [called(small, number) for number in (7, 8, 9)] == ["101", "102", "103"]
+    assert FULL in called(small, 0, hostid=FIRST)
+    settings(project, "most_hosts = 4")
+    assert called(small, 0, hostid=FIRST) == "104"
 
 
 def test_no_answer_about_a_host(small, twin):

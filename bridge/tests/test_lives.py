@@ -7,6 +7,7 @@ import threading
 import time
 
 import pytest
+from lives import LIFE_SETTINGS, Life, SimulatedClock, life_twin
 from messages import jobs, names, request, value
 
 from trial.programs import Bridge
@@ -115,6 +116,27 @@ def test_a_life_of_a_client_that_lists_nothing(bridge, twin, seed):
             client.call(bridge, chance, loses=False)
     assert [host.credit for host in twin.service.machine.hosts.values()] == [40000, 40000]
     looked_at_numbers(twin)
+
+
+# ---- Two computers of one account, copies, other tables and other state files
+
+
+@pytest.mark.parametrize("seed", range(4))
+def test_each_acknowledged_report_is_recorded_and_no_job_is_given_twice(project, monkeypatch, seed):
+    """bridge/try_lives has many more steps."""
+    from conftest import Bridge
+
+    clock, twin = SimulatedClock(), life_twin()
+    clock.replaces(monkeypatch.setattr)
+    with (project / "bridge.toml").open("a") as file:
+        file.write(LIFE_SETTINGS)
+    bridge = Bridge(project, twin)
+    life = Life(bridge, twin, random.Random(seed), clock)
+    for _ in range(120):
+        life.step()
+    life.end()
+    bridge.file.close()
+    twin.close()
 
 
 # ---- A bridge that is killed

@@ -313,7 +313,7 @@ def test_a_ranking_of_all_users(open_bridge, twin):
     with open_bridge.file.transaction() as connection:
         for number in range(130):
             connection.execute(
-                "INSERT INTO host (authenticator, host_cpid, hostid, last_number, user_name, user_credit, "
+                "INSERT INTO host (authenticator, host_cpid, scheduler_hostid, last_number, user_name, user_credit, "
                 "host_credit, heard_at) "
                 "VALUES (?, 'c', ?, 1, ?, ?, 0, ?)",
                 (f"k{number}", number + 1, f"User {number:03}", number * 1000, number),

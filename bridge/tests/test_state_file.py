@@ -5,7 +5,8 @@ import sqlite3
 
 import pytest
 
-from bsched_bridge.counts import Counts, Key
+from bsched_bridge.call_numbers import CallNumbers
+from bsched_bridge.hosts import Hosts, Key
 from bsched_bridge.members import Members
 from bsched_bridge.state_file import SCHEMA_VERSION, StateFault, StateFile
 
@@ -26,6 +27,25 @@ CREATE INDEX host_heard ON host (heard_at) WHERE hostid IS NOT NULL;
 PRAGMA application_id = 1651729250;
 PRAGMA user_version = 1;
 """
+# what version 2 had besides
+VERSION_2 = """
+CREATE TABLE member (
+  id INTEGER PRIMARY KEY AUTOINCREMENT,  -- the user's number for statistics sites
+  authenticator TEXT NOT NULL UNIQUE,
+  email TEXT UNIQUE, salt BLOB, secret BLOB, cost TEXT,  -- NULL for an operator's account without a password
+  name TEXT NOT NULL,
+  batch TEXT UNIQUE,          -- the name of the import that makes the account; NULL for an operator's account
+  is_imported INTEGER NOT NULL,  -- 0 until bsched answered that import
+  cpid TEXT NOT NULL,         -- a random text, by which statistics sites know a user of several projects
+  consent_at INTEGER,         -- when the user agreed to the terms
+  is_exported INTEGER NOT NULL DEFAULT 0,  -- whether the user agreed to be shown by statistics sites
+  created_at INTEGER NOT NULL
+) STRICT;
+CREATE INDEX member_open ON member (id) WHERE is_imported = 0;
+CREATE INDEX member_created ON member (created_at) WHERE batch IS NOT NULL;
+INSERT INTO member (authenticator, name, is_imported, cpid, created_at) VALUES ('ann-key', 'Ann', 1, 'x', 100);
+PRAGMA user_version = 2;
+"""
 ROWS = [
     ("ann-key", "c1", 1, 7, None, "Ann", 5000, 5000, 200),
     ("ann-key", "c2", 3, 9, b"call 9", "Ann", 4000, 0, 100),
@@ -34,10 +54,10 @@ ROWS = [
 ]
 
 
-def old_file(path):
-    """Makes a state file of version 1."""
+def old_file(path, version=1):
+    """Makes a state file of an older version."""
     connection = sqlite3.connect(path)
-    connection.executescript(VERSION_1)
+    connection.executescript(VERSION_1 if version == 1 else VERSION_1 + VERSION_2)
     connection.executemany(
         "INSERT INTO host (authenticator, host_cpid, hostid, last_number, open_call, user_name, "
         "user_credit, host_credit, "
@@ -101,19 +121,34 @@ def test_a_newer_file_is_refused_and_not_changed(tmp_path):
     with pytest.raises(StateFault) as told:
         StateFile(path)
     assert str(told.value) == (
-        f"{path}: a newer bridge wrote this file (format 3, and this bridge knows 2): run that bridge"
+        f"{path}: a newer bridge wrote this file (format 4, and this bridge knows 3): run that bridge"
     )
     assert contents(path) == before
 
 
-def test_a_file_of_version_1_is_brought_to_version_2(tmp_path):
+@pytest.mark.parametrize("version", [1, 2])
+def test_a_file_of_an_older_version_keeps_its_hosts(tmp_path, version):
+    path = tmp_path / "state.db"
+    old_file(path, version)
+    file = StateFile(path)
+    numbers, hosts = CallNumbers(file), Hosts(file)
+    assert [numbers.open_call(Key("ann-key", cpid)) for cpid in ("c1", "c2")] == [None, b"call 9"]
+    assert numbers.open_call(Key("eve-key", "c4")) == b"call 1"
+    assert numbers.opened(Key("ann-key", "c1"), lambda number: b"%d" % number) == b"8"
+    # which numbers the clients were told is not known: they may be from earlier tables
+    assert [hosts.of_number("ann-key", number) for number in (1, 2, 3)] == [None] * 3
+    assert [host.scheduler_hostid for host in hosts.heard(9)] == [1, 3, 2]
+    assert numbers.told_hostid(Key("ann-key", "c2")) == 100_001
+    assert hosts.of_number("ann-key", 100_001).key == Key("ann-key", "c2")
+    assert hosts.count() == 3
+    file.close()
+
+
+def test_a_file_of_version_1_gets_accounts(tmp_path):
     path = tmp_path / "state.db"
     old_file(path)
     file = StateFile(path)
-    counts, members = Counts(file), Members(file)
-    assert [counts.open_call(Key("ann-key", cpid)) for cpid in ("c1", "c2")] == [None, b"call 9"]
-    assert counts.open_call(Key("eve-key", "c4")) == b"call 1"
-    assert counts.key_of("ann-key", 3, "new") == Key("ann-key", "c2")
+    members = Members(file)
     # the accounts whose hosts had a reply are known, in the order of the first replies; they have no batch
     ann, bob = members.of_key("ann-key"), members.of_key("bob-key")
     assert (ann.name, ann.created_at, ann.email, ann.batch, ann.is_imported) == ("Ann", 100, None, None, True)
@@ -125,29 +160,31 @@ def test_a_file_of_version_1_is_brought_to_version_2(tmp_path):
     kept = contents(path)
     StateFile(path).close()  # no upgrade is needed
     assert contents(path) == kept
-    assert kept[1] == 2
+    assert kept[1] == 3
 
 
-def test_an_upgrade_that_is_stopped_changes_nothing(tmp_path, monkeypatch):
+@pytest.mark.parametrize("version", [1, 2])
+def test_an_upgrade_that_is_stopped_changes_nothing(tmp_path, monkeypatch, version):
     path = tmp_path / "state.db"
-    old_file(path)
+    old_file(path, version)
     before = contents(path)
     from bsched_bridge import state_file
 
-    statements = [part for part in state_file.UPGRADES[1].split(";\n") if part.strip()]
+    statements = [part for part in state_file.UPGRADES[version].split(";\n") if part.strip()]
     for count in range(len(statements) + 1):
-        monkeypatch.setitem(state_file.UPGRADES, 1, ";\n".join([*statements[:count], "SELECT stop()"]))
+        monkeypatch.setitem(state_file.UPGRADES, version, ";\n".join([*statements[:count], "SELECT stop()"]))
         with pytest.raises(StateFault):
             StateFile(path)
         assert contents(path) == before
 
 
 def test_a_new_file_and_an_upgraded_one_have_the_same_tables(tmp_path):
-    old_file(tmp_path / "old.db")
+    old_file(tmp_path / "1.db")
+    old_file(tmp_path / "2.db", 2)
     shapes = []
-    for name in ("old.db", "new.db"):
+    for name in ("1.db", "2.db", "new.db"):
         file = StateFile(tmp_path / name)
         kept = file.rows("SELECT type, name FROM sqlite_schema WHERE name NOT LIKE 'sqlite_%' ORDER BY name")
         shapes.append([(kind, table, file.rows(f"PRAGMA table_xinfo({table})")) for kind, table in kept])
         file.close()
-    assert shapes[0] == shapes[1] and len(shapes[0]) == 7
+    assert shapes[0] == shapes[1] == shapes[2] and len(shapes[0]) == 10

@@ -28,6 +28,22 @@ total,,,,,,,5.000
 """
 
 
+def statement(machine, number):
+    """Returns the statement of a host with the states of its results, or None if there is no such host. Its
+    times and verdicts are left out.
+    """
+    host = next((host for host in machine.hosts.values() if host.number == number), None)
+    if host is None:
+        return None
+    lines = [STATEMENT.partition("\n")[0]]
+    for unit in machine.places:
+        for one in unit.instances:
+            if one.host is host:
+                state = (4, 0) if one.held() else (5, 1 if one.exit_status == 0 else 3 if one.exit_status else 4)
+                lines.append(f"{one.name()},{unit.app},,,{state[0]},{state[1]},0,0.000")
+    return "\n".join([*lines, f"total,,,,,,,{host.credit // 1000}.{host.credit % 1000:03}", ""])
+
+
 class Handler(BaseHTTPRequestHandler):
     """The handler of one message."""
 
@@ -92,7 +108,12 @@ class Handler(BaseHTTPRequestHandler):
         """Answers with a statement."""
         if self.headers["x-operator-key"] != "change-this-key":
             return self.say(403, '{"error":"not_operator","number":13}')
-        return self.say(200, STATEMENT)
+        twin = self.server.twin
+        if twin.statement is not None:
+            return self.say(200, twin.statement)
+        with twin.lock:
+            told = statement(twin.service.machine, int(self.path.rpartition("/")[2]))
+        return self.say(200, told) if told else self.say(404, '{"error":"no_such_host","number":19}')
 
     def say(self, status, told):
         """Writes an answer."""
@@ -135,6 +156,7 @@ class Twin:
             self.service.imported(kind, "first", text)
         self.lock, self.faults, self.heard, self.told = threading.Lock(), [], [], []
         self.import_faults, self.imports = [], []
+        self.statement = STATEMENT  # what each host gets as its statement; None: its own
         self.server = Server(("127.0.0.1", 0), Handler)
         self.server.twin = self
         self.address = Address(*self.server.server_address)

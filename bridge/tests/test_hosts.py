@@ -1,0 +1,254 @@
+"""Whose host a client is: numbers that clients were told, changed host_cpids, copies, and lost state files."""
+import pytest
+from lives import further_file
+from messages import FIRST, jobs, names, request, value
+
+from bsched_bridge.host_search import MOST_SEARCHES
+from bsched_bridge.hosts import FIRST_SECOND, LAST_BY_CLOCK, Hosts, Key
+
+A, B = FIRST, FIRST + 1  # two computers of Ann
+
+
+@pytest.fixture
+def two(bridge, twin):
+    """A bridge with two computers of Ann: A has u1_0, and B has u2_0."""
+    twin.statement = None
+    assert jobs(bridge.call(request(cpid="a"))) == ["u1_0"]
+    assert jobs(bridge.call(request(cpid="b"))) == ["u2_0"]
+    return bridge
+
+
+def loses_state(bridge, monkeypatch, later=1000):
+    """The bridge loses its state file, and starts with a new one some seconds later."""
+    bridge.file.close()
+    for path in bridge.folder.glob("bridge.db*"):
+        path.unlink()
+    monkeypatch.setattr("bsched_bridge.hosts.number_by_clock", lambda: FIRST + later)
+    bridge.start()
+
+
+def recorded(twin, name):
+    """Returns the host_cpid of the host whose report of a result is recorded, or None."""
+    unit, _, number = name.rpartition("_")
+    instance = twin.service.machine.rows["workunits"][unit].instances[int(number)]
+    if instance.exit_status is None:
+        return None
+    return next(key[1] for key, host in twin.service.machine.hosts.items() if host is instance.host)
+
+
+def test_numbers_rise_and_are_those_of_the_bridge(two, twin):
+    assert [host.hostid for host in two.hosts.heard(9)] == [B, A]
+    assert value(two.call(request(cpid="b1", key="bob-key")), "hostid") == str(FIRST + 2)
+    assert [host.number for host in twin.service.machine.hosts.values()] == [1, 2, 3]
+
+
+def test_numbers_are_above_those_of_an_earlier_file(bridge, monkeypatch):
+    from bsched_bridge import hosts
+
+    for moment, number in ((FIRST_SECOND - 5, 0), (FIRST_SECOND + 7, 7), (2**40, LAST_BY_CLOCK)):
+        monkeypatch.undo()
+        monkeypatch.setattr("bsched_bridge.hosts.time.time", lambda moment=moment: moment)
+        assert hosts.number_by_clock() == number
+
+
+def test_a_further_file_in_which_the_numbers_are_exchanged(two, twin):
+    twin.service = further_file(twin.service, 1)
+    assert jobs(two.call(request(hostid=B, cpid="b", listed=["u2_0"]))) == ["f1u1_0"]
+    assert jobs(two.call(request(hostid=A, cpid="a", listed=["u1_0"]))) == ["f1u2_0"]
+    assert [key[1] for key in twin.service.machine.hosts] == ["b", "a"]
+    # another project changes the host_cpid of B: it is B nevertheless
+    reply = two.call(request(hostid=B, cpid="new", reports=[("f1u1_0", "42")]))
+    assert names(reply, "result_ack") == ["f1u1_0"] and recorded(twin, "f1u1_0") == "b"
+    assert "f1u2_0" not in jobs(reply)
+
+
+def test_a_host_cpid_that_another_computer_had(two, twin):
+    two.call(request(hostid=A, cpid="other", listed=["u1_0"], seconds=0))
+    reply = two.call(request(hostid=B, cpid="a", reports=[("u2_0", "42")]))
+    assert names(reply, "result_ack") == ["u2_0"] and recorded(twin, "u2_0") == "b"
+    assert "u1_0" not in jobs(reply)
+
+
+def test_restored_tables_that_give_a_number_again(two, twin):
+    import copy
+
+    older = copy.deepcopy(twin.service)
+    assert value(two.call(request(cpid="c")), "hostid") == str(FIRST + 2)
+    twin.service = older
+    assert value(two.call(request(cpid="d")), "hostid") == str(FIRST + 3)  # for bsched it is number 3, too
+    reply = two.call(request(hostid=FIRST + 2, cpid="c9", seconds=0))
+    assert value(reply, "hostid") is None
+    assert [key[1] for key in twin.service.machine.hosts] == ["a", "b", "d", "c"]
+
+
+# ---- A state file that is lost, or older
+
+
+def test_a_lost_state_file(two, twin, monkeypatch):
+    loses_state(two, monkeypatch)
+    reply = two.call(request(hostid=B, cpid="b", seqno=5, reports=[("u2_0", "42")], seconds=0))
+    assert names(reply, "result_ack") == ["u2_0"] and recorded(twin, "u2_0") == "b"
+    assert value(reply, "hostid") == str(FIRST + 1001)  # and never one that was told before
+    assert len(twin.service.machine.hosts) == 2
+    # A got the number that B has now by no means
+    reply = two.call(request(hostid=A, cpid="a", seqno=5, listed=["u1_0"], seconds=0))
+    assert value(reply, "hostid") == str(FIRST + 1002)
+
+
+def test_a_lost_state_file_and_a_changed_host_cpid(two, twin, monkeypatch, caplog):
+    two.call(request(hostid=B, cpid="new", listed=["u2_0"], seconds=0))
+    loses_state(two, monkeypatch)
+    for _ in range(2):
+        reply = two.call(request(hostid=B, cpid="new", reports=[("u2_0", "42")], seconds=0))
+        assert names(reply, "result_ack") == [] == names(reply, "result_abort")
+        assert value(reply, "hostid") is None
+        assert "can't tell which computer got u2_0" in value(reply, "message")
+    assert "no known host has u2_0, so its report is not taken (1 results)" in caplog.text
+    assert recorded(twin, "u2_0") is None
+    # once the volunteer has added the project again, it goes on
+    assert value(two.call(request(cpid="new", seconds=0)), "hostid") == str(FIRST + 1001)
+
+
+def test_an_older_state_file_and_a_changed_host_cpid(two, twin, monkeypatch):
+    two.file.close()
+    older = {path: path.read_bytes() for path in two.folder.glob("bridge.db*")}
+    two.start()
+    with two.file.transaction() as connection:  # B is told another number, as after a former loss
+        connection.execute("UPDATE host SET hostid = 200000 WHERE host_cpid = 'b'")
+    two.call(request(hostid=200_000, cpid="new", listed=["u2_0"], seconds=0))
+    two.file.close()
+    for path, content in older.items():
+        path.write_bytes(content)
+    two.start()
+    reply = two.call(request(hostid=200_000, cpid="new", reports=[("u2_0", "42")], seconds=0))
+    assert names(reply, "result_ack") == ["u2_0"] and recorded(twin, "u2_0") == "b"
+    assert value(reply, "hostid") == str(B)
+    assert len(twin.service.machine.hosts) == 2
+
+
+def test_a_client_that_lists_a_job_is_the_host_that_has_it(two, twin, monkeypatch):
+    reply = two.call(request(hostid=77, cpid="new", listed=["u2_0"], seconds=0))
+    assert value(reply, "hostid") == str(B) and names(reply, "result_abort") == []
+    assert len(twin.service.machine.hosts) == 2
+
+
+@pytest.mark.parametrize("told", ["no answer", "refused"])
+def test_without_a_statement_nothing_is_acknowledged(two, twin, monkeypatch, told):
+    loses_state(two, monkeypatch)
+    if told == "refused":
+        monkeypatch.setattr(two.application.scheduler, "statement", lambda *_words: None)
+    else:
+        # the call is answered after another try, and the question for the host is not
+        twin.faults = [None, None, "unheard"]
+    reply = two.call(request(hostid=B, cpid="b", reports=[("u2_0", "42")], seconds=0))
+    assert names(reply, "result_ack") == [] and value(reply, "project_is_down") == "1"
+    monkeypatch.undo()
+    reply = two.call(request(hostid=B, cpid="b", reports=[("u2_0", "42")], seconds=0))
+    assert names(reply, "result_ack") == ["u2_0"] and recorded(twin, "u2_0") == "b"
+
+
+def test_without_the_operators_key_a_host_is_the_one_with_bscheds_number(two, twin, monkeypatch):
+    with two.file.transaction() as connection:  # as after an upgrade of the state file
+        connection.execute("UPDATE host SET hostid = NULL, client_seqno = NULL")
+    two.application.exchange.search.operator_key = None
+    reply = two.call(request(hostid=2, cpid="b", reports=[("u2_0", "42")], seconds=0))
+    assert names(reply, "result_ack") == ["u2_0"] and recorded(twin, "u2_0") == "b"
+    for hostid in (2, 0):  # not the number of this host
+        reply = two.call(request(hostid=hostid, cpid="a", reports=[("u1_0", "42")], seconds=0))
+        assert names(reply, "result_ack") == [] and "can't tell" in value(reply, "message")
+    assert len(twin.service.machine.hosts) == 2
+
+
+def test_searches_are_limited(two, twin):
+    for _ in range(MOST_SEARCHES):
+        two.call(request(hostid=77, cpid="a", listed=["u1_0"], seconds=0))
+    heard = len(twin.heard)
+    reply = two.call(request(hostid=77, cpid="a", listed=["u1_0"], seconds=0))
+    assert value(reply, "message") == "The project is busy at the moment." and len(twin.heard) == heard
+    assert value(two.call(request(hostid=A, cpid="a", listed=["u1_0"], seconds=0)), "message") is None
+
+
+# ---- Copies
+
+
+def test_a_copy_gets_a_host_of_its_own(two, twin):
+    for seqno in (1, 2, 3):
+        assert value(two.call(request(hostid=A, cpid="a", seqno=seqno, listed=["u1_0"], seconds=0)),
+                     "hostid") is None
+    copy = request(hostid=A, cpid="a", seqno=2, listed=["u1_0"], seconds=60)
+    reply = two.call(copy)
+    assert value(reply, "hostid") == str(FIRST + 2)
+    assert names(reply, "result_abort") == ["u1_0"] and jobs(reply) == []
+    # its next request has the new number, counts from 0, and gets jobs of its own
+    reply = two.call(request(hostid=FIRST + 2, cpid="a2", seqno=1))
+    assert value(reply, "hostid") is None and jobs(reply) == ["u3_0"]
+    reply = two.call(request(hostid=A, cpid="a", seqno=4, reports=[("u1_0", "42")], seconds=0))
+    assert names(reply, "result_ack") == ["u1_0"] and recorded(twin, "u1_0") == "a"
+
+
+def test_what_a_copy_finished_is_reported_for_the_original(two, twin):
+    two.call(request(hostid=A, cpid="a", seqno=3, listed=["u1_0"], seconds=0))
+    reply = two.call(request(hostid=A, cpid="a", seqno=2, reports=[("u1_0", "42")], seconds=0))
+    assert names(reply, "result_ack") == ["u1_0"] and recorded(twin, "u1_0") == "a"
+    assert value(reply, "hostid") == str(FIRST + 2)
+    reply = two.call(request(hostid=A, cpid="a", seqno=4, listed=["u1_0"], seconds=0))
+    assert names(reply, "result_abort") == ["u1_0"]
+
+
+def test_a_request_that_is_sent_again_is_no_copy(two):
+    for seqno in (3, 3, 4):
+        reply = two.call(request(hostid=A, cpid="a", seqno=seqno, listed=["u1_0"], seconds=0))
+        assert value(reply, "hostid") is None
+    two.restart()
+    assert value(two.call(request(hostid=A, cpid="a", seqno=3, seconds=0)), "hostid") == str(FIRST + 2)
+
+
+def test_a_copy_whose_call_gets_no_answer_is_one_host(two, twin):
+    two.call(request(hostid=A, cpid="a", seqno=3, listed=["u1_0"], seconds=0))
+    for _ in range(3):
+        twin.faults = ["lost"] * 3
+        assert value(two.call(request(hostid=A, cpid="a", seqno=2)), "project_is_down") == "1"
+        twin.faults = []
+    assert value(two.call(request(hostid=A, cpid="a", seqno=2)), "hostid") == str(FIRST + 2)
+    assert len(twin.service.machine.hosts) == 3
+    # another copy of the same computer
+    assert value(two.call(request(hostid=A, cpid="a", seqno=2)), "hostid") == str(FIRST + 3)
+
+
+def test_a_copy_counts_for_the_limit_of_hosts(project, two, twin):
+    with (project / "bridge.toml").open("a") as file:
+        file.write("most_hosts = 2\n")
+    two.call(request(hostid=A, cpid="a", seqno=3, listed=["u1_0"], seconds=0))
+    reply = two.call(request(hostid=A, cpid="a", seqno=2, reports=[("u1_0", "42")]))
+    assert "Your account has 2 computers" in value(reply, "message")
+    assert names(reply, "result_ack") == []
+
+
+def test_a_number_of_another_account_is_not_known(two, twin):
+    reply = two.call(request(hostid=A, key="bob-key", cpid="x", seconds=0))
+    assert value(reply, "hostid") == str(FIRST + 2)
+
+
+# ---- An upgraded state file
+
+
+def test_clients_with_the_former_numbers(two, twin):
+    """Before the upgrade A was told bsched's number in earlier tables, which is that of B now."""
+    with two.file.transaction() as connection:
+        connection.execute("UPDATE host SET hostid = NULL, client_seqno = NULL")
+    reply = two.call(request(hostid=2, cpid="a", seqno=40, reports=[("u1_0", "42")], seconds=0))
+    assert names(reply, "result_ack") == ["u1_0"] and recorded(twin, "u1_0") == "a"
+    told = value(reply, "hostid")
+    # the reply is lost, and the client sends the same again
+    reply = two.call(request(hostid=2, cpid="a", seqno=40, reports=[("u1_0", "42")], seconds=0))
+    assert value(reply, "hostid") == told and names(reply, "result_ack") == ["u1_0"]
+    assert value(two.call(request(hostid=told, cpid="new", seqno=1, seconds=0)), "hostid") is None
+
+
+def test_a_host_without_a_reply_is_forgotten_after_a_refusal_and_one_with_a_number_is_not(two, twin):
+    twin.faults = ['{"error":"hosts_full","number":12}'] * 2
+    two.call(request(cpid="c"))
+    two.call(request(hostid=A, cpid="a"))
+    hosts = Hosts(two.file)
+    assert hosts.of_number("ann-key", A).key == Key("ann-key", "a")
+    assert two.file.row("SELECT count(*) FROM host") == (2,)
