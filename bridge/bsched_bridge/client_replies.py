@@ -99,6 +99,8 @@ class ReplyWriter:
         for what, names in (("result_ack", reply.result_ack), ("result_abort", reply.result_abort)):
             for name in names:
                 add(SubElement(root, what), "name", name)
+        if request.has_messages:
+            add(root, "message_ack", 1)
         self._add_key(root, request.code_sign_key)
         self._add_jobs(root, request, reply.results)
         if request.work_req_seconds and not reply.results:

@@ -11,6 +11,7 @@ from xml.etree.ElementTree import Element, ParseError
 
 from defusedxml import DefusedXmlException, ElementTree  # type: ignore[import]
 
+from .trickles import without_messages
 from .words import cut_to_bytes, is_word, xml_text
 
 MOST_BYTES = 16 * 1024 * 1024  # of a request; a result has at most 64 KB of standard error
@@ -65,6 +66,7 @@ class ClientRequest:
     results: tuple[Report, ...]
     # the key that the client has, without blanks and line ends; empty if it has none
     code_sign_key: str
+    has_messages: bool  # of programs; a reply acknowledges them, else they come again
 
 
 # ---- Elements
@@ -211,6 +213,7 @@ def element_of(body: bytes) -> Element:
 
 def read_request(body: bytes) -> ClientRequest:
     """Reads the request from a body. Raises RequestFault if it is none."""
+    body, has_messages = without_messages(body)
     root = element_of(body)
     has = root.find("other_results")
     other: tuple[str, ...] | None = None
@@ -233,4 +236,5 @@ def read_request(body: bytes) -> ClientRequest:
         other_results=other,
         results=tuple(filter(None, map(report_of, root.findall("result")))),
         code_sign_key="".join((text_of(root, "code_sign_key") or "").split()),
+        has_messages=has_messages,
     )
