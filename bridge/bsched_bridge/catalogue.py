@@ -35,6 +35,7 @@ class VersionFile:
     file: StoredFile
     signature: str
     is_main_program: bool
+    is_executable: bool  # the client lets it run: the main program, and programs that the main program starts
     open_name: str | None  # the name under which the program opens it, if it is another one
 
 
@@ -211,10 +212,11 @@ def read_version_file(entry: Entry, folder: FileFolder, key: rsa.RSAPublicKey) -
         entry.fault(f"the signature {path} can't be read")
     if not is_signature(file.md5, signature, key):
         entry.fault(f"{path} is not the signature of {name} by the key of this catalogue")
-    is_main = entry.taken("main_program", bool, "true or false", False)
+    is_main = entry.flag("main_program")
+    is_executable = entry.flag("executable") or is_main
     open_name = file_name(entry, "open_name") if "open_name" in entry.members else None
     entry.end()
-    return VersionFile(file, signature, is_main, open_name)
+    return VersionFile(file, signature, is_main, is_executable, open_name)
 
 
 def read_version(entry: Entry, apps: dict[str, App], folder: FileFolder, key: rsa.RSAPublicKey) -> Version:

@@ -34,7 +34,7 @@ class NeededFile:
 
     file: StoredFile
     signature: str | None  # input files have none
-    is_program: bool
+    is_executable: bool
 
 
 Files = dict[str, NeededFile]  # by name
@@ -161,7 +161,7 @@ class ReplyWriter:
         inputs = [self.catalogue.folder.stored(file.name) for file in work.input_files]
         apps[app.name], versions[key] = app, version
         for item in version.files:
-            files[item.file.name] = NeededFile(item.file, item.signature, item.is_main_program)
+            files[item.file.name] = NeededFile(item.file, item.signature, item.is_executable)
         for file in inputs:
             files.setdefault(file.name, NeededFile(file, None, False))
         return app, work
@@ -177,7 +177,7 @@ class ReplyWriter:
         element, file = SubElement(root, "file_info"), needed.file
         add(element, "name", file.name)
         add(element, "url", f"{self.url}download/{file.name}")
-        if needed.is_program:
+        if needed.is_executable:
             add(element, "executable", 1)
         if needed.signature is not None:
             add(element, "file_signature", "\n" + needed.signature)

@@ -69,6 +69,10 @@ class Entry:
             self.fault(f"{member} is not within {least} to {most}", member)
         return cast(int, value)
 
+    def flag(self, member: str) -> bool:
+        """Returns true or false. A flag that is absent is false."""
+        return cast(bool, self.taken(member, bool, "true or false", False))
+
     def words(self, member: str) -> frozenset[str]:
         """Returns a list of words, which may be absent."""
         value = self.taken(member, list, "a list of words", [])

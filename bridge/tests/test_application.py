@@ -6,6 +6,7 @@ import pytest
 from messages import FIRST, jobs, names, request, value
 
 from bsched_bridge import client_requests
+from bsched_bridge.code_signing import file_md5, signature_text
 
 
 def test_the_master_page_has_both_forms(bridge):
@@ -229,3 +230,28 @@ def test_downloads(bridge):
 )
 def test_what_may_not_be_downloaded(bridge, name):
     assert bridge.got(f"/p/download/{name}")[0] == "404 Not Found"
+
+
+def further_file(bridge, key, members):
+    """Adds a further file to the version, and starts the bridge again."""
+    (bridge.folder / "files" / "tool_1").write_text("#!/bin/sh\n")
+    (bridge.folder / "tool_1.signature").write_text(
+        signature_text(file_md5(bridge.folder / "files" / "tool_1"), key)
+    )
+    path = bridge.folder / "catalogue.toml"
+    path.write_text(path.read_text().replace(
+        "main_program = true }]",
+        f'main_program = true }}, {{ name = "tool_1", signature = "tool_1.signature"{members} }}]',
+    ))
+    bridge.restart()
+
+
+@pytest.mark.parametrize("members, executable", [
+    ("", None), (", executable = false", None), (', executable = true, open_name = "tool"', "1"),
+])
+def test_a_further_file_of_a_version_can_be_a_program(bridge, key, members, executable):
+    further_file(bridge, key, members)
+    reply = ElementTree.fromstring(bridge.call(request()))
+    told = {file.findtext("name"): file.findtext("executable") for file in reply.findall("file_info")}
+    assert told["sum_1"] == "1"
+    assert told["tool_1"] == executable
