@@ -81,6 +81,7 @@ class App:
     rsc_memory_bound: int  # bytes
     rsc_disk_bound: int  # bytes; the client ends a job that uses more
     fpops_bound_factor: int  # the client ends a job that takes this many times its estimate
+    is_reported_at_once: bool  # else the client waits for its next request, an hour at most
     work: Work
 
 
@@ -192,6 +193,7 @@ def read_app(entry: Entry, folder: FileFolder) -> App:
         rsc_memory_bound=entry.whole("rsc_memory_bound", 0, 10**18, 10**8),
         rsc_disk_bound=entry.whole("rsc_disk_bound", 1, 10**18, 10**9),
         fpops_bound_factor=entry.whole("fpops_bound_factor", 1, 10**6, 10),
+        is_reported_at_once=entry.flag("report_immediately"),
         work=read_work(entry, folder, True),
     )
     entry.end()

@@ -144,8 +144,8 @@ class ReplyWriter:
             if job.wu_name not in workunits:
                 workunits.add(job.wu_name)
                 self._add_workunit(root, job, app, work, request)
-        for job, _, _ in sent:
-            self._add_result(root, job)
+        for job, app, _ in sent:
+            self._add_result(root, job, app)
 
     def _needs(
         self, job: Job, apps: dict[str, App], versions: dict[tuple[str, str, int], Version], files: Files
@@ -221,7 +221,7 @@ class ReplyWriter:
             add(reference, "open_name", file.open_name)
             add(reference, "copy_file", 1)
 
-    def _add_result(self, root: Element, job: Job) -> None:
+    def _add_result(self, root: Element, job: Job, app: App) -> None:
         """Adds a result, which is a job."""
         element = SubElement(root, "result")
         add(element, "name", job.name)
@@ -229,3 +229,5 @@ class ReplyWriter:
         add(element, "platform", job.platform)
         add(element, "version_num", job.version_num)
         add(element, "report_deadline", job.report_deadline)
+        if app.is_reported_at_once:
+            add(element, "report_immediately", 1)

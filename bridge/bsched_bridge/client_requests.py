@@ -24,6 +24,7 @@ MOST_NAME = 254
 FINISHED = 5  # the client's state of a result that ended well (RESULT_FILES_UPLOADED)
 LEAST_STATUS, MOST_STATUS = -(2**31), 2**31 - 1
 WITHOUT_STATUS = 1  # the exit status that is reported if a result did not end well and has none
+UPLOAD_STATUS = -187  # the same for a result that lacks an output file (BOINC's ERR_RESULT_UPLOAD)
 
 # The client puts what a program wrote to its standard error between these tags, after lines of its own. The
 # text is in a CDATA section, as it was written. Only bytes beyond ASCII are changed: each is written as a
@@ -174,6 +175,17 @@ def output_of(result: Element) -> str:
     return cut_to_bytes(with_bytes(text).strip(), MOST_OUTPUT)
 
 
+def upload_fault(result: Element) -> str | None:
+    """Returns why the client gave up an upload of a result, or None. Such a result ended well by its exit
+    status and its state, although an output file is lost.
+    """
+    for file in result.findall("file_info"):
+        if file.find("error_msg") is not None:
+            name, why = text_of(file, "name") or "", text_of(file, "error_msg") or ""
+            return cut_to_bytes(f"output file {name} was not uploaded: {why}", MOST_OUTPUT)
+    return None
+
+
 def report_of(result: Element) -> Report | None:
     """Returns the report of a finished result, or None if its name can't be a result's name."""
     name = text_of(result, "name")
@@ -183,6 +195,9 @@ def report_of(result: Element) -> Report | None:
     state = whole_of(result, "state", 0, 100, 0)
     if status == 0 and state != FINISHED:
         status = WITHOUT_STATUS
+    fault = upload_fault(result)
+    if status == 0 and fault is not None:
+        return Report(name, UPLOAD_STATUS, fault)
     return Report(name, status, output_of(result))
 
 

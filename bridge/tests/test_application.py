@@ -255,3 +255,15 @@ def test_a_further_file_of_a_version_can_be_a_program(bridge, key, members, exec
     told = {file.findtext("name"): file.findtext("executable") for file in reply.findall("file_info")}
     assert told["sum_1"] == "1"
     assert told["tool_1"] == executable
+
+
+def test_an_application_whose_results_are_reported_at_once(bridge):
+    reply = bridge.call(request())
+    assert (jobs(reply), value(reply, "report_immediately")) == (["u1_0"], None)
+    path = bridge.folder / "catalogue.toml"
+    path.write_text(path.read_text().replace('title = ', 'report_immediately = true\ntitle = '))
+    bridge.restart()
+    reply = ElementTree.fromstring(bridge.call(request(hostid=1, listed=["u1_0"])))
+    assert [(job.findtext("name"), job.findtext("report_immediately")) for job in reply.findall("result")] == [
+        ("u2_0", "1")
+    ]

@@ -190,3 +190,32 @@ def test_a_deep_request():
 
 def test_a_number_of_many_digits():
     assert read_request(request(m_nbytes="1e999999", d_free="1" * 100_000).encode()).m_nbytes == 10**18
+
+
+# as client 7.20.5 reports a file that was uploaded, and one that it gave up
+UPLOADED = """\
+<file_info>
+    <name>u1_0_0</name>
+    <nbytes>3893.000000</nbytes>
+    <max_nbytes>1000000.000000</max_nbytes>
+    <md5_cksum>53d025127ae99ab79e8502aae2d9bea6</md5_cksum>
+    <upload_url>https://project.example/file_upload_handler</upload_url>
+</file_info>
+"""
+GIVEN_UP = UPLOADED.replace("u1_0_0", "u1_0_1").replace(
+    "</file_info>", "    <error_msg>permanent upload error</error_msg>\n</file_info>"
+)
+
+
+@pytest.mark.parametrize("files, status, report", [
+    (UPLOADED, 0, (0, "7")),
+    (UPLOADED + GIVEN_UP, 0, (-187, "output file u1_0_1 was not uploaded: permanent upload error")),
+    (GIVEN_UP, 3, (3, "7")),
+    ("<file_info><error_msg/></file_info>", 0, (-187, "output file  was not uploaded: ")),
+])
+def test_a_result_whose_upload_was_given_up_is_no_success(files, status, report):
+    body = request(reports=[("u1_0", "7")]).replace(
+        "<exit_status>0</exit_status>", f"<exit_status>{status}</exit_status>"
+    ).replace("</stderr_out></result>", f"</stderr_out>{files}</result>")
+    told, = read_request(body.encode()).results
+    assert (told.exit_status, told.output) == report
