@@ -14,6 +14,8 @@ from .code_signing import KeyFault, file_md5, read_private_key, signature_text, 
 from .operator_files import OperatorFault
 from .settings import read_settings
 from .state_file import StateFault
+from .upload_store import check_uploads
+from .uploads import most_body
 
 FAULT, BAD_COMMAND_LINE = 1, 64
 MOST_CONNECTIONS = 1000
@@ -52,6 +54,7 @@ def serve(path: Path, only_check: bool) -> None:
     settings = read_settings(path)
     if only_check:
         catalogue = read_catalogue(settings.catalogue)
+        check_uploads(settings, catalogue)
         counts = len(catalogue.apps), len(catalogue.versions), len(catalogue.works)
         print("good: {} applications, {} versions, {} workunits".format(*counts))
         if settings.accounts is not None:
@@ -66,7 +69,7 @@ def serve(path: Path, only_check: bool) -> None:
         port=settings.listen.port,
         threads=settings.threads,
         connection_limit=MOST_CONNECTIONS,
-        max_request_body_size=client_requests.MOST_BYTES,
+        max_request_body_size=max(client_requests.MOST_BYTES, most_body(application.catalogue)),
         ident="bsched_bridge",
         clear_untrusted_proxy_headers=True,
     )

@@ -7,7 +7,7 @@ from pathlib import Path
 from typing import Any, cast
 from wsgiref.util import FileWrapper
 
-from . import pages
+from . import pages, uploads
 from .account_messages import AccountMessages, project_config
 from .account_pages import AccountPages
 from .accounts import Accounts
@@ -17,6 +17,7 @@ from .catalogue import Catalogue, MissingFile, read_catalogue
 from .client_replies import ReplyWriter
 from .client_requests import ClientRequest, RequestFault, read_request
 from .exchange import HOUR, TOO_BUSY, Exchange, PutOff, Resending
+from .handed_out import HandedOut
 from .host_rules import HostRuleReader
 from .host_search import HostSearch
 from .hosts import Hosts
@@ -36,10 +37,13 @@ from .key_locks import Busy, KeyLocks
 from .limits import Places
 from .members import Members
 from .passwords import Passwords
+from .report_checks import ReportChecks
 from .scheduler import Scheduler
 from .settings import HostRules, Settings, read_settings
 from .state_file import StateFile
 from .statements import Statements
+from .upload_store import UploadStore, check_uploads
+from .upload_tokens import UploadTokens
 
 # from a byte to the end of the file: a client asks so when it resumes a download
 REST_OF_FILE = re.compile(r"bytes=([0-9]{1,18})-")
@@ -58,8 +62,9 @@ class Application:
     def __init__(
         self, settings: Settings, catalogue: Catalogue, file: StateFile, scheduler: Scheduler,
         rules: Callable[[], HostRules] | None = None, passwords: Passwords | None = None,
+        store: UploadStore | None = None,
     ):
-        self.settings, self.catalogue, self.scheduler = settings, catalogue, scheduler
+        self.settings, self.catalogue, self.scheduler, self.store = settings, catalogue, scheduler, store
         hosts, self.members, archives = Hosts(file), Members(file), read_archives(settings.archives)
         self.account_places = Places(max(1, settings.threads // 2))
         self.accounts: Accounts | None = None
@@ -72,13 +77,24 @@ class Application:
             HostSearch(hosts, scheduler, settings.operator_key),
             self.accounts.is_imported_again if self.accounts else lambda _authenticator: False,
             archives,
+            self._report_checks(hosts),
         )
-        self.writer = ReplyWriter(catalogue, settings.name, settings.url)
+        tokens = None if store is None else UploadTokens(store.secret)
+        self.writer = ReplyWriter(catalogue, settings.name, settings.url, tokens)
         self.statements = Statements(
             hosts, self.members, scheduler, settings.operator_key, settings.counts, archives
         )
         self._large = KeyLocks(LARGE_SECONDS)
         self._handlers = self._new_handlers()
+
+    def _report_checks(self, hosts: Hosts) -> ReportChecks | None:
+        """Returns the checks of reported files, or None if no application has output files."""
+        if self.store is None or self.settings.operator_key is None:
+            return None
+        jobs = HandedOut(self.store.tables)
+        return ReportChecks(
+            self.catalogue, self.store, jobs, hosts, self.scheduler, self.settings.operator_key
+        )
 
     def _new_handlers(self) -> dict[str, Handler]:
         """Returns the handler for each path below the master URL."""
@@ -92,6 +108,9 @@ class Application:
             "status": self._status,
             "get_passwd.php": self._no_passwords,
         }
+        if self.store is not None:
+            places = Places(max(1, self.settings.threads // 2))
+            handlers[uploads.PATH] = uploads.Uploads(self.store, places).answer
         if self.accounts is not None:
             people = AccountPages(self.settings, self.accounts, self.statements, self.account_places)
             handlers |= {
@@ -197,6 +216,19 @@ class Application:
         return cast(Iterable[bytes], environ.get("wsgi.file_wrapper", FileWrapper)(file, BLOCK))
 
 
+def opened_store(settings: Settings, catalogue: Catalogue) -> UploadStore | None:
+    """Returns the folder of uploads, or None if there is none. What a stopped bridge was receiving is
+    deleted.
+    """
+    check_uploads(settings, catalogue)
+    if settings.uploads is None:
+        return None
+    store = UploadStore(settings.uploads)
+    store.empty_temp()
+    store.delete_left_over()
+    return store
+
+
 def new_application(path: Path) -> Application:
     """Returns the application of a settings file, with its state file. A thread sends open messages again in
     the background.
@@ -207,7 +239,9 @@ def new_application(path: Path) -> Application:
     catalogue = read_catalogue(settings.catalogue)
     scheduler = Scheduler(settings.scheduler, settings.answer_seconds)
     rules = HostRuleReader(path, settings.host_rules)
-    application = Application(settings, catalogue, StateFile(settings.state), scheduler, rules.rules)
+    file = StateFile(settings.state)  # no other bridge has it from now on, nor the folder of uploads
+    store = opened_store(settings, catalogue)
+    application = Application(settings, catalogue, file, scheduler, rules.rules, store=store)
     resend_accounts = application.accounts.resend_open if application.accounts else None
     Resending(application.exchange, settings.retry_delay, resend_accounts).start()
     return application

@@ -12,6 +12,7 @@ from cryptography.hazmat.primitives.asymmetric import rsa
 
 from .code_signing import KeyFault, file_md5, is_signature, read_public_key
 from .operator_files import Entry, OperatorFile
+from .output_files import UPLOAD_NAME, OutputFile, read_output_files
 from .words import NO_XML
 
 FILE_NAME = re.compile(r"[A-Za-z0-9_][A-Za-z0-9_.+-]{0,127}")
@@ -83,6 +84,7 @@ class App:
     fpops_bound_factor: int  # the client ends a job that takes this many times its estimate
     is_reported_at_once: bool  # else the client waits for its next request, an hour at most
     work: Work
+    output_files: tuple[OutputFile, ...] = ()  # without them its output is what it writes to standard error
 
 
 class MissingFile(Exception):
@@ -92,8 +94,8 @@ class MissingFile(Exception):
 class FileFolder:
     """The folder of the files that clients may download."""
 
-    def __init__(self, path: Path) -> None:
-        self.path = path
+    def __init__(self, path: Path, has_uploads: bool = False) -> None:
+        self.path, self.has_uploads = path, has_uploads
         self._known: dict[tuple[str, int, int], StoredFile] = {}
         self._lock = threading.Lock()
 
@@ -138,6 +140,11 @@ class Catalogue:
         own = self.works.get(workunit)
         return app.work.of(workunit) if own is None else own
 
+    @property
+    def has_output_files(self) -> bool:
+        """Whether an application has output files."""
+        return any(app.output_files for app in self.apps.values())
+
 
 # ---- Reading
 
@@ -150,6 +157,16 @@ def file_name(entry: Entry, member: str, with_workunit: bool = False) -> str:
         entry.fault(
             f"{member} is not a file name: letters, digits, '_', '.', '+' and '-', at most 128", member
         )
+    return name
+
+
+def download_name(entry: Entry, folder: FileFolder, with_workunit: bool = False) -> str:
+    """Returns the name of a file that clients download. Names of output files are no such names: the client
+    has one file for each name.
+    """
+    name = file_name(entry, "name", with_workunit)
+    if folder.has_uploads and UPLOAD_NAME.fullmatch(name):
+        entry.fault("name ends like that of an output file, with _NUMBER_NUMBER: choose another one", "name")
     return name
 
 
@@ -170,7 +187,7 @@ def read_work(entry: Entry, folder: FileFolder, of_app: bool) -> Work:
         )
     files = []
     for item in entry.entries("input_files", []):
-        name = file_name(item, "name", of_app)
+        name = download_name(item, folder, of_app)
         files.append(InputFile(name, file_name(item, "open_name") if "open_name" in item.members else name))
         item.end()
         if WORKUNIT not in name or not of_app:
@@ -195,6 +212,7 @@ def read_app(entry: Entry, folder: FileFolder) -> App:
         fpops_bound_factor=entry.whole("fpops_bound_factor", 1, 10**6, 10),
         is_reported_at_once=entry.flag("report_immediately"),
         work=read_work(entry, folder, True),
+        output_files=read_output_files(entry),
     )
     entry.end()
     return app
@@ -202,7 +220,7 @@ def read_app(entry: Entry, folder: FileFolder) -> App:
 
 def read_version_file(entry: Entry, folder: FileFolder, key: rsa.RSAPublicKey) -> VersionFile:
     """Reads a file of a version. Its signature must be by this key."""
-    name = file_name(entry, "name")
+    name = download_name(entry, folder)
     try:
         file = folder.stored(name)
     except MissingFile:
@@ -250,7 +268,8 @@ def read_catalogue(path: Path) -> Catalogue:
     """Reads the catalogue from a file. Paths in it are relative to its folder."""
     file = OperatorFile(path)
     text, key = read_key(file)
-    folder = FileFolder(file.existing("files"))
+    has_uploads = any("output_files" in entry.members for entry in file.tables("app"))
+    folder = FileFolder(file.existing("files"), has_uploads)
     catalogue = Catalogue(text, folder, {}, {})
     lines: dict[object, int] = {}
 

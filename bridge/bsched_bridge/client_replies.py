@@ -9,7 +9,10 @@ from xml.etree.ElementTree import Element, SubElement, indent, tostring
 from .catalogue import App, Catalogue, MissingFile, StoredFile, Version, Work
 from .client_requests import ClientRequest
 from .exchange import PutOff
+from .output_files import upload_name
 from .scheduler import Job, Reply
+from .upload_tokens import UploadTokens
+from .uploads import PATH as UPLOAD_PATH
 from .words import xml_text
 
 SCHEDULER_VERSION = 720  # the version of BOINC's scheduler that these replies imitate
@@ -61,8 +64,10 @@ def written(root: Element) -> bytes:
 class ReplyWriter:
     """Writes the replies of a project."""
 
-    def __init__(self, catalogue: Catalogue, name: str, url: str) -> None:
-        self.catalogue, self.name, self.url = catalogue, name, url
+    def __init__(
+        self, catalogue: Catalogue, name: str, url: str, tokens: UploadTokens | None = None
+    ) -> None:
+        self.catalogue, self.name, self.url, self.tokens = catalogue, name, url, tokens
 
     def _begun(self, delay: int) -> Element:
         """Returns what each reply begins with."""
@@ -145,6 +150,8 @@ class ReplyWriter:
                 workunits.add(job.wu_name)
                 self._add_workunit(root, job, app, work, request)
         for job, app, _ in sent:
+            self._add_output_files(root, job, app)
+        for job, app, _ in sent:
             self._add_result(root, job, app)
 
     def _needs(
@@ -221,6 +228,18 @@ class ReplyWriter:
             add(reference, "open_name", file.open_name)
             add(reference, "copy_file", 1)
 
+    def _add_output_files(self, root: Element, job: Job, app: App) -> None:
+        """Adds the files that the client uploads for a result, each with its token."""
+        for place, file in enumerate(app.output_files):
+            element, name = SubElement(root, "file_info"), upload_name(job.name, place)
+            add(element, "name", name)
+            add(element, "generated_locally", 1)
+            add(element, "upload_when_present", 1)
+            add(element, "max_nbytes", file.max_nbytes)
+            add(element, "url", f"{self.url}{UPLOAD_PATH}")
+            if self.tokens is not None:
+                add(element, "xml_signature", f"\n{self.tokens.token(name, file.max_nbytes)}\n")
+
     def _add_result(self, root: Element, job: Job, app: App) -> None:
         """Adds a result, which is a job."""
         element = SubElement(root, "result")
@@ -231,3 +250,10 @@ class ReplyWriter:
         add(element, "report_deadline", job.report_deadline)
         if app.is_reported_at_once:
             add(element, "report_immediately", 1)
+        for place, file in enumerate(app.output_files):
+            reference = SubElement(element, "file_ref")
+            add(reference, "file_name", upload_name(job.name, place))
+            add(reference, "open_name", file.open_name)
+            add(reference, "copy_file", 1)
+            if file.is_optional:
+                add(reference, "optional", 1)

@@ -41,12 +41,22 @@ class RequestFault(Exception):
 
 
 @dataclass(frozen=True, slots=True)
+class ReportedFile:
+    """An output file that the client has uploaded, as it says."""
+
+    name: str
+    nbytes: int
+    md5: str
+
+
+@dataclass(frozen=True, slots=True)
 class Report:
     """A result that the client has finished."""
 
     name: str
     exit_status: int
     output: str
+    files: tuple[ReportedFile, ...] = ()
 
 
 @dataclass(frozen=True, slots=True)
@@ -186,6 +196,15 @@ def upload_fault(result: Element) -> str | None:
     return None
 
 
+def reported_files(result: Element) -> tuple[ReportedFile, ...]:
+    """Returns the output files of a result."""
+    files = []
+    for file in result.findall("file_info"):
+        name, md5 = text_of(file, "name") or "", text_of(file, "md5_cksum") or ""
+        files.append(ReportedFile(name, whole_of(file, "nbytes", 0, MOST_NUMBER, 0), md5))
+    return tuple(files)
+
+
 def report_of(result: Element) -> Report | None:
     """Returns the report of a finished result, or None if its name can't be a result's name."""
     name = text_of(result, "name")
@@ -198,7 +217,7 @@ def report_of(result: Element) -> Report | None:
     fault = upload_fault(result)
     if status == 0 and fault is not None:
         return Report(name, UPLOAD_STATUS, fault)
-    return Report(name, status, output_of(result))
+    return Report(name, status, output_of(result), reported_files(result))
 
 
 # ---- The request

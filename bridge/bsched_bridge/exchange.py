@@ -22,6 +22,7 @@ from .client_requests import ClientRequest, Report
 from .host_search import HostSearch, TooManySearches
 from .hosts import FIRST_KEY, Hosts, Key, KnownHost
 from .key_locks import Busy, KeyLocks
+from .report_checks import ReportChecks
 from .scheduler import Job, NoAnswer, Refusal, Reply, Scheduler
 from .settings import HostRules
 from .words import shown_key
@@ -108,10 +109,11 @@ class Exchange:
         self, hosts: Hosts, numbers: CallNumbers, scheduler: Scheduler, retry_delay: int,
         rules: Callable[[], HostRules], search: HostSearch,
         is_imported_again: Callable[[str], bool] = lambda _authenticator: False,
-        archives: Archives | None = None,
+        archives: Archives | None = None, reports: ReportChecks | None = None,
     ):
         self.hosts, self.numbers, self.scheduler, self.search = hosts, numbers, scheduler, search
         self.retry_delay, self.rules = retry_delay, rules
+        self.reports = reports  # None if no application has output files
         self.is_imported_again = is_imported_again  # imports an account again that bsched has lost
         self.archives = archives or Archives()
         self._locks = KeyLocks(wait_seconds=2 * scheduler.answer_seconds)
@@ -268,7 +270,12 @@ class Exchange:
         """Returns the reply to a request under a key. An open call of the key is sent first."""
         with self._locks.held(key):
             self._resend(key)
-            return self._called(key, request, client)
+            if self.reports is None:
+                return self._called(key, request, client)
+            reply = self._called(key, self.reports.checked(key, request), client)
+            if isinstance(reply, Reply):
+                self.reports.hand_out(key, reply.results)
+            return reply
 
     def _called(self, key: Key, request: ClientRequest, client: ClientState) -> Reply | PutOff:
         """Returns the reply to a request. The key is held, and has no open call."""

@@ -20,9 +20,9 @@ class Places:
         self._places = threading.BoundedSemaphore(most)
 
     @contextmanager
-    def taken(self) -> Iterator[None]:
-        """Takes a place for the block, and waits for none."""
-        if not self._places.acquire(blocking=False):
+    def taken(self, wait_seconds: float = 0) -> Iterator[None]:
+        """Takes a place for the block. If none is free, it waits for this many seconds at most."""
+        if not self._places.acquire(timeout=wait_seconds):
             raise NoPlace
         try:
             yield

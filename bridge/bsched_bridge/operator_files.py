@@ -69,9 +69,9 @@ class Entry:
             self.fault(f"{member} is not within {least} to {most}", member)
         return cast(int, value)
 
-    def flag(self, member: str) -> bool:
-        """Returns true or false. A flag that is absent is false."""
-        return cast(bool, self.taken(member, bool, "true or false", False))
+    def flag(self, member: str, default: bool = False) -> bool:
+        """Returns true or false."""
+        return cast(bool, self.taken(member, bool, "true or false", default))
 
     def words(self, member: str) -> frozenset[str]:
         """Returns a list of words, which may be absent."""

@@ -8,6 +8,7 @@ from urllib.parse import urlsplit
 from .operator_files import Entry, OperatorFile
 
 FIELD_NAME = re.compile("[A-Za-z][A-Za-z0-9-]{0,63}")
+LEAST_KEPT_DAYS = 7  # a client whose reply was lost reports a result again within this time
 LISTED_FIELDS = {"x-forwarded-for", "forwarded"}  # clients write here; a proxy only adds
 
 
@@ -29,6 +30,17 @@ class AccountSettings:
     address_field: str | None
     is_name_told: bool  # the client gives the user's name; otherwise the name is made up
     terms: str | None  # the terms of use
+
+
+@dataclass(frozen=True, slots=True)
+class UploadSettings:
+    """The settings of uploads."""
+
+    folder: Path
+    free_bytes: int  # of the disk, which uploads leave free
+    most_result_bytes: int  # of the output files of one result
+    most_bytes: int  # of all files in the folder
+    keep_days: int  # how long the sweep keeps files of a result that is not the canonical one
 
 
 @dataclass(frozen=True, slots=True)
@@ -58,6 +70,7 @@ class Settings:
     host_rules: HostRules
     accounts: AccountSettings | None  # None if only the operator makes accounts
     archives: tuple[Path, ...] = ()  # earlier files of the project, whose credit is added
+    uploads: UploadSettings | None = None  # None if no application has output files
 
     @property
     def path(self) -> str:
@@ -141,6 +154,26 @@ def read_accounts(file: OperatorFile, url: str, has_key: bool) -> AccountSetting
     return accounts
 
 
+def read_uploads(file: OperatorFile, has_key: bool) -> UploadSettings | None:
+    """Reads the table `[uploads]`, if there is one."""
+    entry = file.table("uploads")
+    if entry is None:
+        return None
+    if not has_key:
+        entry.fault("[uploads] needs operator_key, to ask bsched whose a result is")
+    uploads = UploadSettings(
+        folder=file.path.parent / entry.text("folder"),
+        free_bytes=entry.whole("free_bytes", 0, 10**18, 5 * 10**9),
+        most_result_bytes=entry.whole("most_result_bytes", 1, 10**18, 10**9),
+        most_bytes=entry.whole("most_bytes", 1, 10**18),
+        keep_days=entry.whole("keep_days", LEAST_KEPT_DAYS, 36_500, 30),
+    )
+    if not uploads.folder.parent.is_dir():
+        entry.fault(f"folder: {uploads.folder.parent} is not a folder", "folder")
+    entry.end()
+    return uploads
+
+
 def read_host_rules(file: OperatorFile) -> HostRules:
     """Reads the members that are read again while the bridge runs."""
     return HostRules(file.whole("most_hosts", 1, 100_000, 20), file.words("barred"))
@@ -179,6 +212,7 @@ def read_settings(path: Path) -> Settings:
         host_rules=read_host_rules(file),
         accounts=read_accounts(file, url, key is not None),
         archives=archive_paths(file),
+        uploads=read_uploads(file, key is not None),
     )
     if not settings.name.strip() or not settings.name.isprintable():
         file.fault("name is empty, or has a character that can't be printed", "name")

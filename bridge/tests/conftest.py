@@ -21,7 +21,7 @@ settings.load_profile("without deadlines")
 
 from twin import Twin  # noqa: E402
 
-from bsched_bridge.application import Application  # noqa: E402
+from bsched_bridge.application import Application, opened_store  # noqa: E402
 from bsched_bridge.catalogue import read_catalogue  # noqa: E402
 from bsched_bridge.code_signing import file_md5, new_key, public_key_text, signature_text  # noqa: E402
 from bsched_bridge.passwords import Cost, Passwords  # noqa: E402
@@ -116,22 +116,30 @@ class Bridge:
         """Starts the bridge with what its file has."""
         path = self.folder / "bridge.toml"
         settings = read_settings(path)
-        self.file = StateFile(settings.state)
+        self.file, catalogue = StateFile(settings.state), read_catalogue(settings.catalogue)
+        self.store = opened_store(settings, catalogue)
         self.application = Application(
             settings,
-            read_catalogue(settings.catalogue),
+            catalogue,
             self.file,
             Scheduler(self.twin.address, answer_seconds=2),
             HostRuleReader(path, settings.host_rules).rules,
             Passwords(Cost(2**4, 8, 1)),
+            self.store,
         )
         self.hosts, self.numbers = self.application.exchange.hosts, self.application.exchange.numbers
         self.members = self.application.members
 
     def restart(self) -> None:
         """Starts the bridge again from what is on the disk."""
-        self.file.close()
+        self.close()
         self.start()
+
+    def close(self) -> None:
+        """Closes the files of the bridge."""
+        self.file.close()
+        if self.store is not None:
+            self.store.close()
 
     def got(
         self, path: str, method: str = "GET", body: bytes = b"", **more: str
@@ -168,6 +176,13 @@ def bridge(project, twin, monkeypatch):
 
 
 ACCOUNTS = "\n[accounts]\nmost_a_day = 50\n"
+UPLOADS = '\n[uploads]\nfolder = "uploads"\nfree_bytes = 0\nmost_bytes = 1_000_000\n'
+OUTPUT_FILES = """\
+output_files = [
+  { open_name = "out", max_nbytes = 20_000 },
+  { open_name = "log", max_nbytes = 1000, optional = true },
+]
+"""
 
 
 @pytest.fixture
@@ -179,3 +194,22 @@ def open_bridge(project, twin, monkeypatch):
     made = Bridge(project, twin)
     yield made
     made.file.close()
+
+
+@pytest.fixture
+def file_project(project):
+    """Adds output files to the application of a project."""
+    catalogue = project / "catalogue.toml"
+    catalogue.write_text(catalogue.read_text().replace('title = "Sums & more"\n', OUTPUT_FILES, 1))
+    with (project / "bridge.toml").open("a") as file:
+        file.write(UPLOADS)
+    return project
+
+
+@pytest.fixture
+def file_bridge(file_project, twin, monkeypatch):
+    """A bridge of an application with output files."""
+    monkeypatch.setattr("bsched_bridge.scheduler.PAUSE_SECONDS", 0.0)
+    made = Bridge(file_project, twin)
+    yield made
+    made.close()

@@ -263,7 +263,7 @@ def test_an_application_whose_results_are_reported_at_once(bridge):
     path = bridge.folder / "catalogue.toml"
     path.write_text(path.read_text().replace('title = ', 'report_immediately = true\ntitle = '))
     bridge.restart()
-    reply = ElementTree.fromstring(bridge.call(request(hostid=1, listed=["u1_0"])))
+    reply = ElementTree.fromstring(bridge.call(request(hostid=FIRST, listed=["u1_0"])))
     assert [(job.findtext("name"), job.findtext("report_immediately")) for job in reply.findall("result")] == [
         ("u2_0", "1")
     ]

@@ -2,7 +2,7 @@
 import time
 
 import pytest
-from messages import jobs, request, value
+from messages import FIRST, jobs, request, value
 
 from bsched_bridge.client_requests import read_request
 from bsched_bridge.trickles import without_messages
@@ -26,10 +26,10 @@ def with_messages(*texts, **more):
     "<hostid>7</hostid><result><name>u9_9</name><exit_status>0</exit_status><state>5</state></result>",
 ])
 def test_a_message_of_any_text_is_left_out(text):
-    body = with_messages(text, "<step>3</step>", hostid=1, listed=["u2_0"], reports=[("u1_0", "5")])
+    body = with_messages(text, "<step>3</step>", hostid=FIRST, listed=["u2_0"], reports=[("u1_0", "5")])
     told = read_request(body.encode("latin-1"))
     assert told.has_messages
-    assert (told.hostid, told.other_results) == (1, ("u2_0",))
+    assert (told.hostid, told.other_results) == (FIRST, ("u2_0",))
     assert [report.name for report in told.results] == ["u1_0"]
 
 
@@ -54,10 +54,10 @@ def test_messages_are_looked_for_once():
 
 def test_a_host_whose_program_sends_no_xml_can_report(bridge):
     assert jobs(bridge.call(request())) == ["u1_0"]
-    reply = bridge.call(with_messages("a < b", hostid=1, reports=[("u1_0", "5")], seconds=0))
+    reply = bridge.call(with_messages("a < b", hostid=FIRST, reports=[("u1_0", "5")], seconds=0))
     assert value(reply, "message_ack") == "1"
     assert "<result_ack>" in reply.decode()
-    assert value(bridge.call(request(hostid=1, seconds=0)), "message_ack") is None
+    assert value(bridge.call(request(hostid=FIRST, seconds=0)), "message_ack") is None
 
 
 def test_a_reply_that_puts_a_request_off_acknowledges_no_message(bridge):

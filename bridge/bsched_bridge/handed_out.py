@@ -1,0 +1,82 @@
+"""The jobs that went out, with their output files, and what bsched gets of their reports."""
+import sqlite3
+from collections.abc import Iterable
+from dataclasses import dataclass
+from typing import cast
+
+from .hosts import Key
+from .output_files import OutputFile, as_text, of_text
+from .upload_tables import UploadTables
+
+
+@dataclass(frozen=True, slots=True)
+class Outcome:
+    """What bsched gets of a report: its exit status and its output."""
+
+    exit_status: int
+    output: str
+
+
+@dataclass(frozen=True, slots=True)
+class HandedJob:
+    """A job that went out."""
+
+    result: str
+    key: Key  # of the host that has it
+    app: str
+    files: tuple[OutputFile, ...]  # as the catalogue had them when it went out
+    deadline: int
+    is_stored: bool = False  # its files are stored: a report of a success came
+    outcome: Outcome | None = None  # of that report, once it is known
+
+
+def set_outcome(connection: sqlite3.Connection, result: str, outcome: Outcome | None, now: int) -> None:
+    """Notes that the files of a result are stored, and the outcome of its report if it is known."""
+    exit_status, output = (None, None) if outcome is None else (outcome.exit_status, outcome.output)
+    connection.execute(
+        "UPDATE job SET stored_at = ?, exit_status = ?, output = ? WHERE result = ?",
+        (now, exit_status, output, result),
+    )
+
+
+class HandedOut:
+    """The jobs that went out."""
+
+    def __init__(self, tables: UploadTables) -> None:
+        self.tables = tables
+
+    def add(self, jobs: Iterable[HandedJob]) -> None:
+        """Notes jobs before they go out. A job that went out before is computed anew, so an earlier report of
+        it no longer counts. All is on the disk when it returns.
+        """
+        with self.tables.transaction() as connection:
+            for job in jobs:
+                connection.execute(
+                    "INSERT OR REPLACE INTO job (result, authenticator, host_cpid, listing, deadline) "
+                    "VALUES (?, ?, ?, ?, ?)",
+                    (job.result, job.key.authenticator, job.key.host_cpid, listing_of(connection, job),
+                     job.deadline),
+                )
+
+    def job(self, result: str) -> HandedJob | None:
+        """Returns the job with the name of a result."""
+        row = self.tables.row(
+            "SELECT authenticator, host_cpid, app, files, deadline, stored_at, exit_status, output "
+            "FROM job JOIN listing ON listing.id = listing WHERE result = ?", result,
+        )
+        if row is None:
+            return None
+        authenticator, host_cpid, app, files = map(str, row[:4])
+        outcome = None if row[7] is None else Outcome(cast(int, row[6]), str(row[7]))
+        deadline, is_stored = cast(int, row[4]), row[5] is not None
+        return HandedJob(
+            result, Key(authenticator, host_cpid), app, of_text(files), deadline, is_stored, outcome
+        )
+
+
+def listing_of(connection: sqlite3.Connection, job: HandedJob) -> int:
+    """Returns the number of a job's list of output files. Most jobs of an application share one."""
+    told = job.app, as_text(job.files)
+    connection.execute("INSERT OR IGNORE INTO listing (app, files) VALUES (?, ?)", told)
+    row = connection.execute("SELECT id FROM listing WHERE app = ? AND files = ?", told).fetchone()
+    return cast(int, row[0])

@@ -1,0 +1,268 @@
+"""The files that clients upload, in the folder of uploads.
+
+temp/     files that are being received; emptied at the start
+pending/  NAME.SHA256: files that were received, whole, and whose results are not reported yet
+store/    SHA256: files of reported results, each content once
+secret    what the tokens are made with (upload_tokens)
+uploads.db  the tables (upload_tables)
+
+The client deletes a file once it gets a good answer to its upload, and nobody can get the file again. So the
+file, its folder and its row are on the disk before that answer. In the same way a file is in store/, on the
+disk, before bsched gets the call that reports its result. Strangers send these files: they are never run, and
+no address of the web has them.
+"""
+import hashlib
+import logging
+import os
+import threading
+import time
+from collections.abc import Iterable, Iterator
+from contextlib import contextmanager
+from dataclasses import dataclass
+from pathlib import Path
+from uuid import uuid4
+
+from .catalogue import Catalogue
+from .handed_out import Outcome, set_outcome
+from .operator_files import OperatorFault
+from .output_files import OutputFile
+from .settings import Settings, UploadSettings
+from .upload_tables import UploadTables
+from .upload_tokens import read_secret, write_secret
+
+FILE_MODE = 0o440  # nobody writes a file any more, and nobody runs it
+LOG_SECONDS = 60  # between two log lines that say that there is no room
+
+log = logging.getLogger(__name__)
+
+
+class NotNow(Exception):
+    """Raised if a file can't be taken now, for a reason that can pass. The text says why."""
+
+
+@dataclass(frozen=True, slots=True)
+class SentFile:
+    """What the head of an upload says about its file."""
+
+    name: str
+    nbytes: int
+    md5: str
+
+
+@dataclass(frozen=True, slots=True)
+class Upload:
+    """A file that was received, and whose result is not reported yet."""
+
+    name: str
+    nbytes: int
+    md5: str
+    sha256: str
+
+
+def sync_folder(path: Path) -> None:
+    """Syncs a folder: the names in it are then on the disk."""
+    descriptor = os.open(path, os.O_RDONLY | os.O_DIRECTORY)
+    try:
+        os.fsync(descriptor)
+    finally:
+        os.close(descriptor)
+
+
+class UploadStore:
+    """The folder of uploads."""
+
+    def __init__(self, settings: UploadSettings) -> None:
+        """Opens the folder, or makes it. If the secret is gone, the folder is refused: with another secret
+        all jobs that are out would be lost.
+        """
+        self.settings, folder = settings, settings.folder
+        self.temp, self.pending, self.store = folder / "temp", folder / "pending", folder / "store"
+        self._room_lock, self._coming, self._logged_at = threading.Lock(), 0, 0.0
+        try:
+            for path in (folder, self.temp, self.pending, self.store):
+                path.mkdir(mode=0o750, exist_ok=True)
+            self.secret = secret_in(folder)
+            self.tables = UploadTables(folder / "uploads.db")
+            sync_folder(folder)
+            sync_folder(folder.parent)
+        except OSError as error:
+            raise OperatorFault(folder, None, error.strerror or "can't be used") from None
+
+    def delete_left_over(self) -> int:
+        """Deletes the files in pending/ that have no row, and returns how many. A stop leaves such a file; no
+        client got a good answer to it.
+        """
+        with self.tables.turn():
+            rows = self.tables.rows("SELECT name || '.' || sha256 FROM upload")
+            names = {str(row[0]) for row in rows}
+            left_over = [path for path in self.pending.iterdir() if path.name not in names]
+            for path in left_over:
+                path.unlink()
+        return len(left_over)
+
+    def empty_temp(self) -> None:
+        """Deletes what was being received when the bridge stopped. No other process may receive files."""
+        for path in self.temp.iterdir():
+            path.unlink()
+
+    def close(self) -> None:
+        """Closes the tables."""
+        self.tables.close()
+
+    # ---- Receiving
+
+    @contextmanager
+    def room_for(self, nbytes: int) -> Iterator[None]:
+        """Keeps room for a file for the block. Raises NotNow if there is none."""
+        with self._room_lock:
+            coming = self._coming + nbytes
+            disk = os.statvfs(self.settings.folder)
+            if disk.f_bavail * disk.f_frsize < self.settings.free_bytes + coming:
+                self._refuse("the disk has too little room for uploads")
+            if self.tables.used() + coming > self.settings.most_bytes:
+                self._refuse("the folder of uploads has as much as it may have")
+            self._coming = coming
+        try:
+            yield
+        finally:
+            with self._room_lock:
+                self._coming -= nbytes
+
+    def _refuse(self, why: str) -> None:
+        """Raises NotNow for lack of room, and logs it now and then."""
+        now = time.monotonic()
+        if not self._logged_at or now > self._logged_at + LOG_SECONDS:
+            self._logged_at = now
+            log.error("%s: clients are told to try again later", why)
+        raise NotNow(why)
+
+    def receive(self, sent: SentFile, blocks: Iterable[bytes]) -> None:
+        """Receives a file. When it returns, the file is on the disk, and a stop does not lose it. Raises
+        NotNow if the bytes are not those that the head says.
+        """
+        with self.room_for(sent.nbytes):
+            path = self.temp / uuid4().hex
+            try:
+                sha256 = write_file(path, sent, blocks)
+                self._keep(path, Upload(sent.name, sent.nbytes, sent.md5, sha256))
+            finally:
+                path.unlink(missing_ok=True)
+
+    def _keep(self, path: Path, upload: Upload) -> None:
+        """Gives a received file its name. An older file of that name is deleted once the new one has its row.
+        """
+        with self.tables.turn():
+            older, target = self.upload(upload.name), self.path_of(upload)
+            is_another = older is None or self.path_of(older) != target
+            os.rename(path, target)
+            try:
+                sync_folder(self.pending)
+                self._write_row(upload)
+            except BaseException:
+                if is_another:
+                    target.unlink()
+                raise
+            if older is not None and is_another:
+                self.path_of(older).unlink(missing_ok=True)
+
+    def _write_row(self, upload: Upload) -> None:
+        """Writes the row of a file in pending/."""
+        with self.tables.transaction() as connection:
+            connection.execute("DELETE FROM upload WHERE name = ?", (upload.name,))
+            connection.execute(
+                "INSERT INTO upload (name, nbytes, md5, sha256, received_at) VALUES (?, ?, ?, ?, ?)",
+                (upload.name, upload.nbytes, upload.md5, upload.sha256, int(time.time())),
+            )
+
+    def path_of(self, upload: Upload) -> Path:
+        """Returns the path of a file in pending/."""
+        return self.pending / f"{upload.name}.{upload.sha256}"
+
+    def upload(self, name: str) -> Upload | None:
+        """Returns the received file with a name."""
+        row = self.tables.row("SELECT name, nbytes, md5, sha256 FROM upload WHERE name = ?", name)
+        return None if row is None else Upload(str(row[0]), int(str(row[1])), str(row[2]), str(row[3]))
+
+    # ---- Reports
+
+    def store_files(
+        self, result: str, files: list[tuple[OutputFile, Upload]], outcome: Outcome | None
+    ) -> None:
+        """Stores the files of a reported result, and what bsched gets of it if that is known. When it
+        returns, all is on the disk. Raises FileNotFoundError if somebody else removed a file.
+        """
+        with self.tables.turn():
+            for _, upload in files:
+                stored = self.store / upload.sha256
+                if not stored.exists():
+                    os.link(self.path_of(upload), stored)
+            sync_folder(self.store)
+            with self.tables.transaction() as connection:
+                connection.execute("DELETE FROM file WHERE result = ?", (result,))
+                for place, (file, upload) in enumerate(files):
+                    connection.execute(
+                        "INSERT OR IGNORE INTO content (sha256, nbytes) VALUES (?, ?)",
+                        (upload.sha256, upload.nbytes),
+                    )
+                    connection.execute(
+                        "INSERT INTO file (result, place, open_name, nbytes, sha256) VALUES (?, ?, ?, ?, ?)",
+                        (result, place, file.open_name, upload.nbytes, upload.sha256),
+                    )
+                    connection.execute("DELETE FROM upload WHERE name = ?", (upload.name,))
+                set_outcome(connection, result, outcome, int(time.time()))
+            for _, upload in files:
+                self.path_of(upload).unlink(missing_ok=True)
+
+    def stored_files(self, result: str) -> dict[str, tuple[int, str]]:
+        """Returns size and SHA-256 of each stored file of a result, by its open_name."""
+        query = "SELECT open_name, nbytes, sha256 FROM file WHERE result = ? ORDER BY place"
+        rows = self.tables.rows(query, result)
+        return {str(row[0]): (int(str(row[1])), str(row[2])) for row in rows}
+
+
+def check_uploads(settings: Settings, catalogue: Catalogue) -> None:
+    """Checks that the settings of uploads fit the output files in the catalogue."""
+    for app in catalogue.apps.values():
+        nbytes = sum(file.max_nbytes for file in app.output_files)
+        if app.output_files and settings.uploads is None:
+            raise OperatorFault(
+                settings.catalogue, None, f"{app.name} has output files, and the settings have no [uploads]"
+            )
+        if settings.uploads is not None and nbytes > settings.uploads.most_result_bytes:
+            raise OperatorFault(
+                settings.catalogue, None, f"the output files of {app.name} have up to {nbytes} bytes, and "
+                f"most_result_bytes in [uploads] is {settings.uploads.most_result_bytes}",
+            )
+
+
+def secret_in(folder: Path) -> bytes:
+    """Returns the secret in a folder of uploads. A new folder gets one."""
+    path = folder / "secret"
+    if not path.exists():
+        if (folder / "uploads.db").exists():
+            raise OperatorFault(
+                path, None, "is missing: restore it, or the jobs that are out are lost. To give them up, "
+                f"make a new one: head -c 32 /dev/urandom > {path}",
+            )
+        write_secret(path)
+    return read_secret(path)
+
+
+def write_file(path: Path, sent: SentFile, blocks: Iterable[bytes]) -> str:
+    """Writes a file and syncs it. Returns its SHA-256. Raises NotNow if it is not the file of the head."""
+    md5, sha256, nbytes = hashlib.md5(usedforsecurity=False), hashlib.sha256(), 0
+    with open(os.open(path, os.O_WRONLY | os.O_CREAT | os.O_EXCL, FILE_MODE), "wb") as file:
+        for block in blocks:
+            nbytes += len(block)
+            if nbytes > sent.nbytes:
+                break
+            md5.update(block)
+            sha256.update(block)
+            file.write(block)
+        if nbytes != sent.nbytes:
+            raise NotNow("the file is not complete")
+        if md5.hexdigest() != sent.md5:
+            raise NotNow("the file has another MD5 than the client says")
+        file.flush()
+        os.fsync(file.fileno())
+    return sha256.hexdigest()

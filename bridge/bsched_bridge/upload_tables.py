@@ -1,0 +1,150 @@
+"""The tables of uploads, in SQLite: the jobs that went out, the files that came, and those of reported
+results.
+
+They are in a file of their own, since the sweep works on them while the bridge serves. Nobody deletes a file
+of the folder, or gives one its name, without the turn; so no process deletes a file that another has just put
+there.
+"""
+import fcntl
+import os
+import sqlite3
+import threading
+from collections.abc import Iterator
+from contextlib import contextmanager
+from pathlib import Path
+
+from .state_file import StateFault, make_private
+
+APPLICATION_ID, SCHEMA_VERSION = 0x62736375, 1  # "bscu"
+SECONDS = 30.0  # that a thread waits for a transaction of the sweep, which takes turns of a part of a second
+TABLES = """
+CREATE TABLE listing (            -- a list of the output files of an application
+  id INTEGER PRIMARY KEY, app TEXT NOT NULL, files TEXT NOT NULL, UNIQUE (app, files)
+) STRICT;
+CREATE TABLE job (                -- a result that went out
+  result TEXT PRIMARY KEY,
+  authenticator TEXT NOT NULL, host_cpid TEXT NOT NULL,  -- the host that has it
+  listing INTEGER NOT NULL REFERENCES listing,  -- as the catalogue had it when the job went out
+  deadline INTEGER NOT NULL,
+  stored_at INTEGER,              -- when its files were stored, which a report of a success does
+  exit_status INTEGER, output TEXT  -- what bsched gets of that report, once it is known
+) STRICT;
+CREATE TABLE upload (             -- a file in pending/, whose result is not reported yet
+  name TEXT PRIMARY KEY, nbytes INTEGER NOT NULL, md5 TEXT NOT NULL, sha256 TEXT NOT NULL,
+  received_at INTEGER NOT NULL
+) STRICT;
+CREATE TABLE file (               -- a file of a reported result
+  result TEXT NOT NULL, place INTEGER NOT NULL, open_name TEXT NOT NULL, nbytes INTEGER NOT NULL,
+  sha256 TEXT NOT NULL, PRIMARY KEY (result, place)
+) STRICT, WITHOUT ROWID;
+CREATE INDEX file_by_content ON file (sha256);
+CREATE TABLE content (            -- a file in store/
+  sha256 TEXT PRIMARY KEY, nbytes INTEGER NOT NULL
+) STRICT, WITHOUT ROWID;
+CREATE TABLE used (nbytes INTEGER NOT NULL) STRICT;  -- by the files in pending/ and store/
+INSERT INTO used VALUES (0);
+CREATE TRIGGER upload_comes AFTER INSERT ON upload BEGIN UPDATE used SET nbytes = nbytes + NEW.nbytes; END;
+CREATE TRIGGER upload_goes AFTER DELETE ON upload BEGIN UPDATE used SET nbytes = nbytes - OLD.nbytes; END;
+CREATE TRIGGER content_comes AFTER INSERT ON content BEGIN UPDATE used SET nbytes = nbytes + NEW.nbytes; END;
+CREATE TRIGGER content_goes AFTER DELETE ON content BEGIN UPDATE used SET nbytes = nbytes - OLD.nbytes; END;
+"""
+
+
+class UploadTables:
+    """A connection to the tables. Several processes may have one; their transactions take turns, and so do
+    the
+    threads of each.
+    """
+
+    def __init__(self, path: Path) -> None:
+        self._lock = threading.RLock()
+        self._depth = 0  # how often the thread that has the lock has taken the turn
+        try:
+            make_private(path)
+            self._turns = os.open(path.with_name(f"{path.name}.lock"), os.O_RDWR | os.O_CREAT, 0o600)
+        except OSError as error:
+            raise StateFault(f"{path}: {error.strerror}") from None
+        try:
+            self._connection = sqlite3.connect(
+                path, isolation_level=None, check_same_thread=False, timeout=SECONDS
+            )
+            for pragma in ("journal_mode = WAL", "synchronous = FULL"):
+                self._connection.execute(f"PRAGMA {pragma}").fetchall()
+            with self.turn():
+                self._prepare(path)
+        except sqlite3.Error as error:
+            os.close(self._turns)
+            raise StateFault(f"{path}: {error}") from None
+
+    def _prepare(self, path: Path) -> None:
+        """Makes the tables in a new file."""
+        with self._transaction() as connection:
+            names = "application_id", "user_version"
+            identity = tuple(connection.execute(f"PRAGMA {name}").fetchone()[0] for name in names)
+            if identity == (APPLICATION_ID, SCHEMA_VERSION):
+                return
+            if identity != (0, 0) or connection.execute("SELECT count(*) FROM sqlite_schema").fetchone()[0]:
+                raise StateFault(f"{path}: is not a file of uploads that this bridge knows")
+            statement = ""
+            for line in TABLES.strip().splitlines():
+                statement += line.partition("--")[0] + "\n"
+                if sqlite3.complete_statement(statement):
+                    connection.execute(statement)
+                    statement = ""
+            connection.execute(f"PRAGMA application_id = {APPLICATION_ID}")
+            connection.execute(f"PRAGMA user_version = {SCHEMA_VERSION}")
+
+    @contextmanager
+    def turn(self) -> Iterator[None]:
+        """Holds the turn for the block: no other thread or process gives a file its name or deletes one."""
+        with self._lock:
+            if self._depth == 0:
+                fcntl.flock(self._turns, fcntl.LOCK_EX)
+            self._depth += 1
+            try:
+                yield
+            finally:
+                self._depth -= 1
+                if self._depth == 0:
+                    fcntl.flock(self._turns, fcntl.LOCK_UN)
+
+    @contextmanager
+    def _transaction(self) -> Iterator[sqlite3.Connection]:
+        """Runs the block in a transaction, while the turn is held. It is synced when the block ends."""
+        self._connection.execute("BEGIN IMMEDIATE")
+        try:
+            yield self._connection
+            self._connection.execute("COMMIT")
+        except BaseException:
+            if self._connection.in_transaction:
+                self._connection.execute("ROLLBACK")
+            raise
+
+    @contextmanager
+    def transaction(self) -> Iterator[sqlite3.Connection]:
+        """Runs the block in a transaction. If it ends without an exception, all of it is on the disk;
+        otherwise it is undone. It takes the turn if the thread does not hold it yet.
+        """
+        with self.turn(), self._transaction() as connection:
+            yield connection
+
+    def row(self, statement: str, *values: object) -> tuple[object, ...] | None:
+        """Returns the first row of a query."""
+        rows = self.rows(statement, *values)
+        return rows[0] if rows else None
+
+    def rows(self, statement: str, *values: object) -> list[tuple[object, ...]]:
+        """Returns the rows of a query."""
+        with self._lock:
+            return self._connection.execute(statement, values).fetchall()
+
+    def used(self) -> int:
+        """Returns how many bytes the files in pending/ and store/ have."""
+        row = self.row("SELECT nbytes FROM used")
+        return int(str(row[0])) if row else 0
+
+    def close(self) -> None:
+        """Closes the file."""
+        with self._lock:
+            self._connection.close()
+            os.close(self._turns)

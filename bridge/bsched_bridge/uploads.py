@@ -1,0 +1,164 @@
+"""The messages by which a client uploads a file (BOINC's documentation, "File upload protocol").
+
+Above 8,192 bytes the client first asks how much of the file the project has. The answer is always 0: nothing
+incomplete is kept, so an upload that broke off is sent from its beginning. Then the client sends a head,
+which looks like XML and ends with `<data>`, and after it the bytes of the file, with nothing behind them.
+
+The client gives up for good after status -1, and the volunteer's work is lost. So -1 is the answer to a
+forged or faulty message alone. After status 1 the client tries again later, for up to 90 days.
+"""
+import logging
+import re
+import sqlite3
+from collections.abc import Iterator
+from dataclasses import dataclass
+from typing import BinaryIO
+
+from .catalogue import Catalogue
+from .http_messages import LENGTH, TEXT, Answer, Environ, HttpFault, has_method
+from .limits import NoPlace, Places
+from .upload_store import NotNow, SentFile, UploadStore
+from .upload_tokens import UploadTokens
+
+PATH = "file_upload_handler"  # of the URL; the client takes a URL without this word for that of a download
+MOST_HEAD = 8192  # bytes of a message before those of the file
+BLOCK = 256 * 1024
+# how long an upload waits for a place: after three refusals a client pauses for a quarter of an hour
+PLACE_SECONDS = 5.0
+DONE, AGAIN, NEVER = 0, 1, -1
+DATA = b"<data>\n"
+NUMBER = re.compile("[0-9]{1,18}")
+MD5 = re.compile("[0-9a-f]{32}")
+MEMBERS = ("name", "xml_signature", "max_nbytes", "nbytes", "md5_cksum", "offset")
+PATTERNS = {name: re.compile(rf"<{name}>([^<]*)</{name}>") for name in (*MEMBERS, "get_file_size")}
+
+log = logging.getLogger(__name__)
+
+
+class BadMessage(Exception):
+    """Raised for a message that no client of this project sends. The text says what is wrong."""
+
+
+@dataclass(frozen=True, slots=True)
+class Head:
+    """The head of an upload."""
+
+    file: SentFile
+    max_nbytes: int
+    token: str
+    offset: int
+    length: int  # of the head itself, in bytes
+
+
+def member_of(text: str, name: str) -> str:
+    """Returns the text of the one element with a name, without blanks around it."""
+    found = PATTERNS[name].findall(text)
+    if len(found) != 1:
+        raise BadMessage(f"{len(found)} elements {name}")
+    return str(found[0]).strip()
+
+
+def number_of(text: str, name: str) -> int:
+    """Returns the whole number in the one element with a name."""
+    told = member_of(text, name)
+    if not NUMBER.fullmatch(told):
+        raise BadMessage(f"{name} is not a number")
+    return int(told)
+
+
+def read_head(begin: bytes) -> Head:
+    """Reads the head from the first bytes of a message."""
+    length = begin.find(DATA)
+    if not 0 <= length <= MOST_HEAD - len(DATA):
+        raise BadMessage(f"no <data> in the first {MOST_HEAD} bytes")
+    text = begin[:length].decode("ascii", errors="replace")
+    md5 = member_of(text, "md5_cksum")
+    if not MD5.fullmatch(md5):
+        raise BadMessage("md5_cksum is not an MD5")
+    file = SentFile(member_of(text, "name"), number_of(text, "nbytes"), md5)
+    max_nbytes, offset = number_of(text, "max_nbytes"), number_of(text, "offset")
+    return Head(file, max_nbytes, member_of(text, "xml_signature"), offset, length + len(DATA))
+
+
+def answer_of(status: int, said: str, file_size: int | None = None) -> Answer:
+    """Returns the answer with a status. The client writes what is said to its log, for the volunteer."""
+    size = "" if file_size is None else f"<file_size>{file_size}</file_size>\n"
+    message = f"<message>{said}</message>\n" if said else ""
+    body = f"<data_server_reply>\n<status>{status}</status>\n{size}{message}</data_server_reply>\n"
+    return Answer(TEXT, body.encode())
+
+
+def length_of(environ: Environ) -> int:
+    """Returns how many bytes the body of a message has."""
+    length = environ.get("CONTENT_LENGTH") or ""
+    if not LENGTH.fullmatch(length):
+        raise HttpFault(411)
+    return int(length)
+
+
+def blocks_of(begin: bytes, stream: BinaryIO, nbytes: int) -> Iterator[bytes]:
+    """Yields the bytes of a file: those that were read with the head, and then the rest, in blocks. If the
+    client breaks off, they are fewer.
+    """
+    yield begin
+    left = nbytes - len(begin)
+    while left > 0:
+        block = stream.read(min(left, BLOCK))
+        if not block:
+            return
+        left -= len(block)
+        yield block
+
+
+def most_body(catalogue: Catalogue) -> int:
+    """Returns how many bytes the largest upload has."""
+    files = [file.max_nbytes for app in catalogue.apps.values() for file in app.output_files]
+    return MOST_HEAD + max(files, default=0)
+
+
+class Uploads:
+    """Answers the messages of uploads."""
+
+    def __init__(self, store: UploadStore, places: Places) -> None:
+        self.store, self.places, self.tokens = store, places, UploadTokens(store.secret)
+
+    def answer(self, environ: Environ) -> Answer:
+        """Answers a message. It never has a status of HTTP from 400 on for what a client sends: the client
+        would try again, for 90 days.
+        """
+        has_method(environ, "POST")
+        length = length_of(environ)
+        begin = environ["wsgi.input"].read(min(length, MOST_HEAD))
+        try:
+            if PATTERNS["get_file_size"].search(begin.decode("ascii", errors="replace")):
+                return answer_of(DONE, "", file_size=0)
+            if len(begin) < min(length, MOST_HEAD):
+                raise NotNow("the message is not complete")
+            return self._received(begin, environ["wsgi.input"], length)
+        except BadMessage as fault:
+            log.warning("an upload is refused for good: %s", fault)
+            return answer_of(NEVER, "The project refuses this file.")
+        except NotNow as fault:
+            log.info("an upload is put off: %s", fault)
+        except NoPlace:
+            log.warning("an upload is put off: %s", "as many as possible are being received")
+        except (OSError, sqlite3.Error) as fault:
+            log.error("an upload is put off: %s", fault)
+        return answer_of(AGAIN, "The project can't take this file at the moment.")
+
+    def _received(self, begin: bytes, stream: BinaryIO, length: int) -> Answer:
+        """Receives a file, and returns the answer. Before it reads the file it checks all that the head
+        says.
+        """
+        head = read_head(begin)
+        if not self.tokens.is_token(head.token, head.file.name, head.max_nbytes):
+            raise BadMessage("the token is not that of this file")
+        if head.file.nbytes > head.max_nbytes:
+            raise BadMessage(f"{head.file.name} has more bytes than it may have")
+        if head.offset != 0:
+            raise NotNow("it does not begin at the first byte")
+        if length != head.length + head.file.nbytes:
+            raise NotNow("its length is not that of its head and its file")
+        with self.places.taken(PLACE_SECONDS):
+            self.store.receive(head.file, blocks_of(begin[head.length:], stream, head.file.nbytes))
+        return answer_of(DONE, "")

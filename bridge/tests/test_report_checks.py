@@ -1,0 +1,193 @@
+"""What bsched gets of reports whose results have output files, and which files are stored."""
+import hashlib
+import json
+
+import pytest
+from messages import FIRST, jobs, names, request, value
+from twin import IMPORTS
+from uploading import file_info, on_disk, report, sent, sha256_of, tokens_of, upload
+
+from bsched_bridge.hosts import Key
+from bsched_bridge.output_files import OutputFile, StoredOutput, compared_text
+
+PLAIN = """\
+[[app]]
+name = "plain"
+
+[[version]]
+app = "plain"
+platform = "x86_64-pc-linux-gnu"
+version_num = 1
+files = [{ name = "sum_1", signature = "sum_1.signature", main_program = true }]
+"""
+OUT, LOG = b"the answer\n", b"some lines\n"
+TEXT = f"out sha256:{sha256_of(OUT)} 11\nlog sha256:{sha256_of(LOG)} 11"
+
+
+def worked(bridge, out=OUT, log=None, **more):
+    """Has a client get a job and upload its files. Returns the elements of its report."""
+    reply = bridge.call(request(**more))
+    tokens, (result,) = tokens_of(reply), jobs(reply)
+    infos = []
+    for place, data, most in ((0, out, 20_000), (1, log, 1000)):
+        if data is not None:
+            name = f"{result}_{place}"
+            assert sent(bridge, upload(name, data, tokens[name], max_nbytes=most)) == 0
+            infos.append(file_info(name, data))
+    return infos
+
+
+def reported(bridge, body):
+    """Sends a report. Returns what bsched got: the exit status and the output of the result."""
+    reply = bridge.call(body)
+    assert names(reply, "result_ack")
+    (told,) = bridge.twin.calls()[-1]["results"]
+    return told["exit_status"], told["output"]
+
+
+def test_the_files_of_a_good_report_are_stored(file_bridge):
+    infos = worked(file_bridge, log=LOG)
+    assert reported(file_bridge, report("u1_0", infos)) == (0, TEXT)
+    assert on_disk(file_bridge.folder) == {f"store/{sha256_of(OUT)}": OUT, f"store/{sha256_of(LOG)}": LOG}
+    assert file_bridge.store.stored_files("u1_0") == {
+        "out": (11, sha256_of(OUT)), "log": (11, sha256_of(LOG))
+    }
+    assert file_bridge.store.tables.used() == 22
+
+
+def test_equal_files_are_stored_once_and_agree(file_bridge):
+    for client in ("ann", "bob"):
+        infos = worked(file_bridge, key=f"{client}-key", cpid=client)
+        hostid = FIRST + (client == "bob")
+        body = report(f"u1_{hostid - FIRST}", infos, hostid=hostid, key=f"{client}-key", cpid=client)
+        assert reported(file_bridge, body) == (0, f"out sha256:{sha256_of(OUT)} 11\nlog absent")
+    assert on_disk(file_bridge.folder) == {f"store/{sha256_of(OUT)}": OUT}
+    for client in ("ann", "bob"):
+        reply = file_bridge.call(request(key=f"{client}-key", cpid=client, hostid=FIRST + (client == "bob"), seconds=0))
+        assert value(reply, "user_total_credit") == "5.000"
+
+
+@pytest.mark.parametrize("change, why", [
+    (lambda infos: [], "output file out is not in the report"),
+    (lambda infos: infos[1:], "output file out is not in the report"),
+    (lambda infos: [infos[0].replace("u1_0_0", "u1_0_2")], "output file out is not in the report"),
+    (lambda infos: [infos[0].replace("<nbytes>11", "<nbytes>12")], "output file out is not the one"),
+    (lambda infos: [infos[0].replace("<md5_cksum>", "<md5_cksum>0")], "output file out is not the one"),
+    (lambda infos: [file_info("u1_0_0", b"other")], "output file out is not the one"),
+    (lambda infos: [infos[0], file_info("u1_0_1", LOG)], "output file log was not uploaded"),
+    (lambda infos: [infos[0].replace("</file_info>", "<error_msg>timeout</error_msg></file_info>")],
+     "output file u1_0_0 was not uploaded: timeout"),
+])
+def test_a_report_without_its_files_is_an_error(file_bridge, change, why):
+    infos = worked(file_bridge)
+    status, output = reported(file_bridge, report("u1_0", change(infos)))
+    assert status == -187
+    assert why in output
+    assert not any(name.startswith("store/") for name in on_disk(file_bridge.folder))
+
+
+@pytest.mark.parametrize("status, state, told", [(3, 3, 3), (0, 3, 1), (-9, 6, -9)])
+def test_the_error_of_a_program_is_passed_on(file_bridge, status, state, told):
+    infos = worked(file_bridge)
+    body = report("u1_0", infos, output="no memory", status=status, state=state)
+    assert reported(file_bridge, body) == (told, "no memory")
+
+
+def test_a_report_that_comes_again_says_the_same(file_bridge):
+    body = report("u1_0", worked(file_bridge))
+    first = reported(file_bridge, body)
+    file_bridge.restart()
+    assert reported(file_bridge, body) == first
+    # a false client can't change it either
+    assert reported(file_bridge, report("u1_0", [])) == first
+    assert on_disk(file_bridge.folder) == {f"store/{sha256_of(OUT)}": OUT}
+
+
+def test_a_stranger_can_not_report_for_a_host(file_bridge):
+    infos = worked(file_bridge)
+    file_bridge.call(request(key="bob-key", cpid="bob", seconds=0))
+    file_bridge.call(report("u1_0", [], hostid=FIRST + 1, key="bob-key", cpid="bob"))
+    file_bridge.call(report("u1_0", infos, hostid=FIRST + 1, key="bob-key", cpid="bob"))
+    assert on_disk(file_bridge.folder) == {f"pending/u1_0_0.{sha256_of(OUT)}": OUT}
+    assert reported(file_bridge, report("u1_0", infos))[0] == 0
+
+
+def test_a_job_that_is_computed_anew_is_checked_anew(file_bridge):
+    infos = worked(file_bridge)
+    file_bridge.twin.faults = ["unheard"] * 3
+    file_bridge.call(report("u1_0", infos))  # its files are stored, and bsched does not hear of it
+    file_bridge.numbers.refused(Key("ann-key", "c1"))  # as after a loss of the state file
+    # the client lost the job, gets it again, and computes other bytes
+    reply = file_bridge.call(request(hostid=FIRST, seconds=0))
+    assert jobs(reply) == ["u1_0"]
+    assert reported(file_bridge, report("u1_0", infos))[0] == -187
+    token = tokens_of(reply)["u1_0_0"]
+    assert sent(file_bridge, upload("u1_0_0", b"other", token)) == 0
+
+
+def test_a_job_keeps_the_files_that_it_went_out_with(file_bridge):
+    infos = worked(file_bridge)
+    path = file_bridge.folder / "catalogue.toml"
+    path.write_text(path.read_text().replace("output_files = [", 'output_files = [{ open_name = "new", max_nbytes = 5 },'))
+    file_bridge.restart()
+    assert reported(file_bridge, report("u1_0", infos)) == (0, f"out sha256:{sha256_of(OUT)} 11\nlog absent")
+
+
+def test_if_the_folder_was_restored_bsched_says_which_application_it_is(file_bridge):
+    infos = worked(file_bridge)
+    with file_bridge.store.tables.transaction() as connection:
+        connection.execute("DELETE FROM job")
+    assert reported(file_bridge, report("u1_0", []))[0] == -187
+    with file_bridge.store.tables.transaction() as connection:
+        connection.execute("DELETE FROM job")
+    assert reported(file_bridge, report("u1_0", infos)) == (0, f"out sha256:{sha256_of(OUT)} 11\nlog absent")
+
+
+def test_a_report_that_can_not_be_stored_is_put_off(file_bridge, monkeypatch):
+    infos = worked(file_bridge)
+    with monkeypatch.context() as patch:
+        patch.setattr("bsched_bridge.upload_store.os.link", lambda *_paths: (_ for _ in ()).throw(OSError("full")))
+        reply = file_bridge.call(report("u1_0", infos))
+    assert names(reply, "result_ack") == []
+    call = file_bridge.twin.calls()[-1]
+    assert (call["results"], call["other_results"]) == ([], ["u1_0"])
+    assert reported(file_bridge, report("u1_0", infos))[0] == 0
+
+
+def test_applications_with_and_without_output_files(file_bridge):
+    path = file_bridge.folder / "catalogue.toml"
+    path.write_text(path.read_text().replace("[[version]]", f"{PLAIN}\n[[version]]", 1))
+    file_bridge.restart()
+    rows, units = file_bridge.twin.service.imported, IMPORTS["workunits"].splitlines()
+    rows("apps", "plain", "name,agreement\nplain,exact\n")
+    rows("versions", "plain", "app,platform,version_num\nplain,x86_64-pc-linux-gnu,1\n")
+    rows("workunits", "plain", f"{units[0]}\n{units[1].replace('u1,sum', 'p1,plain')}\n")
+    for number in range(1, 6):  # no user gets two instances of a workunit, so the last host gets another one
+        held = jobs(file_bridge.call(request(cpid=f"c{number}", seconds=1000)))
+    assert held == ["p1_0"]
+    assert reported(file_bridge, report("p1_0", [], hostid=FIRST + 4, cpid="c5", output="7")) == (0, "7")
+
+
+@pytest.mark.parametrize("count, text", [
+    (1, "f0 sha256:" + "a" * 64 + " 7"),
+    (2, "f0 sha256:" + "a" * 64 + " 7\nf1 sha256:" + "a" * 64 + " 7"),
+])
+def test_the_text_of_some_files(count, text):
+    files = tuple(OutputFile(f"f{number}", 10, False, True) for number in range(count))
+    assert compared_text(files, {file.open_name: StoredOutput(7, "a" * 64) for file in files}) == text
+
+
+def test_the_text_of_many_files_is_its_digest():
+    files = tuple(OutputFile(f"f{number:02}", 10, False, True) for number in range(20))
+    stored = {file.open_name: StoredOutput(7, "a" * 64) for file in files}
+    lines = "\n".join(f"f{number:02} sha256:{'a' * 64} 7" for number in range(20))
+    assert compared_text(files, stored) == f"20 files sha256:{hashlib.sha256(lines.encode()).hexdigest()}"
+    assert len(compared_text(files[:13], stored).encode()) == 13 * 77 + 12  # 1,013 bytes
+    assert compared_text(files[:14], stored).startswith("14 files sha256:")  # instead of 1,091 bytes
+
+
+def test_a_file_that_is_not_compared_is_stored_and_left_out():
+    files = OutputFile("out", 10, False, True), OutputFile("log", 10, True, False)
+    stored = {"out": StoredOutput(7, "a" * 64), "log": StoredOutput(9, "b" * 64)}
+    assert compared_text(files, stored) == "out sha256:" + "a" * 64 + " 7"
+    assert json.dumps(compared_text(files, {"out": stored["out"]}))

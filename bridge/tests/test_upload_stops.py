@@ -1,0 +1,112 @@
+"""A bridge that is stopped while it receives files and reports: no file of an acknowledged report is lost."""
+import pytest
+from conftest import Bridge
+from messages import FIRST, jobs, names, request
+from stopping import Steps, Stopped
+from twin import Twin
+from uploading import file_info, on_disk, report, sent, sha256_of, tokens_of, upload
+
+ONE, TWO, LOG = b"one", b"two" * 5000, b"log"
+TEXT = f"out sha256:{sha256_of(TWO)} {len(TWO)}\nlog sha256:{sha256_of(LOG)} 3"
+
+
+class Volunteer:
+    """A client that gets a job, loses it and gets it again, uploads its files and reports it, each until it is
+    done.
+    """
+
+    def __init__(self, bridge):
+        self.bridge, self.tokens, self.done = bridge, {}, []
+
+    def steps(self):
+        """Yields what the client does, in order."""
+        yield "job", self.job
+        yield "one", lambda: self.upload("u1_0_0", ONE)
+        yield "two", lambda: self.upload("u1_0_0", TWO)
+        yield "log", lambda: self.upload("u1_0_1", LOG, 1000)
+        yield "report", self.report
+        yield "again", self.report
+
+    def job(self):
+        """Gets a job, or gets it again."""
+        reply = self.bridge.call(request(hostid=self.hostid(), seconds=60))
+        self.tokens = tokens_of(reply) or self.tokens
+        return "u1_0" in jobs(reply)
+
+    def hostid(self):
+        """Returns the number that the client was given."""
+        return FIRST if self.done else 0
+
+    def upload(self, name, data, max_nbytes=20_000):
+        """Uploads a file."""
+        return sent(self.bridge, upload(name, data, self.tokens[name], max_nbytes=max_nbytes)) == 0
+
+    def report(self):
+        """Reports the job."""
+        infos = [file_info("u1_0_0", TWO), file_info("u1_0_1", LOG)]
+        return names(self.bridge.call(report("u1_0", infos)), "result_ack") == ["u1_0"]
+
+    def live(self):
+        """Does what is left to do."""
+        for name, act in self.steps():
+            for _ in range(5):
+                if name not in self.done and act():
+                    self.done.append(name)
+            assert name in self.done
+
+
+def check(bridge, done):
+    """Checks what must be so at each moment: each row has its file, and each good answer has its row."""
+    disk, tables = on_disk(bridge.folder), bridge.store.tables
+    for name, sha256 in tables.rows("SELECT name, sha256 FROM upload"):
+        assert sha256_of(disk[f"pending/{name}.{sha256}"]) == sha256
+    for (sha256,) in tables.rows("SELECT sha256 FROM file UNION SELECT sha256 FROM content"):
+        assert sha256_of(disk[f"store/{sha256}"]) == sha256
+    is_stored = bool(bridge.store.stored_files("u1_0"))
+    for step, name, data in (("one", "u1_0_0", ONE), ("two", "u1_0_0", TWO), ("log", "u1_0_1", LOG)):
+        if step in done and not (step == "one" and "two" in done) and not is_stored:
+            sha256 = bridge.store.upload(name).sha256
+            assert sha256 in (sha256_of(data), sha256_of(TWO))
+    heard = [result for call in bridge.twin.calls() for result in call["results"]]
+    for result in heard:
+        assert (result["exit_status"], result["output"]) == (0, TEXT)
+    if heard:
+        assert disk[f"store/{sha256_of(TWO)}"] == TWO and disk[f"store/{sha256_of(LOG)}"] == LOG
+
+
+@pytest.mark.parametrize("is_power", [False, True], ids=["killed", "power"])
+@pytest.mark.parametrize("is_after", [False, True], ids=["before", "after"])
+def test_a_stop_between_each_two_steps(file_project, monkeypatch, is_after, is_power):
+    monkeypatch.setattr("bsched_bridge.scheduler.PAUSE_SECONDS", 0.0)
+    at, kinds = 0, set()
+    while True:
+        at += 1
+        for path in [*file_project.glob("bridge.db*"), *file_project.glob("uploads/uploads.db*")]:
+            path.unlink()
+        for path in file_project.glob("uploads/*/*"):
+            path.unlink()
+        twin = Twin()
+        bridge = Bridge(file_project, twin)
+        steps, volunteer = Steps(at, is_after), Volunteer(bridge)
+        with monkeypatch.context() as patch:
+            steps.watch(patch, bridge)
+            try:
+                volunteer.live()
+            except Stopped:
+                pass
+        bridge.close()
+        if is_power and steps.is_stopped:
+            steps.fail_power(file_project / "uploads")
+        bridge.start()
+        check(bridge, volunteer.done)
+        volunteer.live()
+        check(bridge, volunteer.done)
+        assert on_disk(file_project) == {f"store/{sha256_of(data)}": data for data in (TWO, LOG)}
+        assert bridge.store.tables.used() == len(TWO) + len(LOG)
+        bridge.close()
+        twin.close()
+        kinds |= steps.kinds
+        if not steps.is_stopped:
+            break
+    assert at > 60
+    assert kinds >= {"fsync", "rename", "link", "unlink", "BEGIN", "INSERT", "DELETE", "UPDATE", "COMMIT", "send"}

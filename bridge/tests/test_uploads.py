@@ -1,0 +1,333 @@
+"""What the upload handler answers, and what it stores."""
+import io
+import os
+import subprocess
+import threading
+import xml.etree.ElementTree as ElementTree
+from dataclasses import replace
+
+import pytest
+from messages import FIRST, jobs, request
+from uploading import ASKS_SIZE, on_disk, sent, sha256_of, tokens_of, upload
+
+from bsched_bridge import uploads
+from bsched_bridge.operator_files import OperatorFault
+from bsched_bridge.settings import read_settings
+from bsched_bridge.upload_store import UploadStore
+
+DATA = bytes(range(256)) * 40  # more than the 8,192 bytes that are read with the head
+DONE, AGAIN, NEVER = 0, 1, -1
+
+
+def given(bridge, **more):
+    """Gives a client a job, and returns the tokens of its files."""
+    reply = bridge.call(request(**more))
+    assert jobs(reply)
+    return tokens_of(reply)
+
+
+# ---- The reply
+
+
+def test_a_reply_names_the_output_files(file_bridge):
+    reply = ElementTree.fromstring(file_bridge.call(request()))
+    assert [child.tag for child in reply][-5:] == ["app_version", "workunit", "file_info", "file_info", "result"]
+    first, second = [one for one in reply.findall("file_info") if one.find("upload_when_present") is not None]
+    assert [(one.tag, one.text.strip()) for one in first][:-1] == [
+        ("name", "u1_0_0"), ("generated_locally", "1"), ("upload_when_present", "1"), ("max_nbytes", "20000"),
+        ("url", "http://127.0.0.1:8081/p/file_upload_handler"),
+    ]
+    token = first.findtext("xml_signature").strip()
+    assert len(token) == 64 and token != second.findtext("xml_signature").strip()
+    references = [[(one.tag, one.text) for one in place] for place in reply.findall("result/file_ref")]
+    assert references == [
+        [("file_name", "u1_0_0"), ("open_name", "out"), ("copy_file", "1")],
+        [("file_name", "u1_0_1"), ("open_name", "log"), ("copy_file", "1"), ("optional", "1")],
+    ]
+
+
+def test_a_job_that_is_sent_again_has_the_same_tokens(file_bridge):
+    tokens = given(file_bridge)
+    file_bridge.restart()
+    assert given(file_bridge, hostid=FIRST, seconds=0) == tokens
+    assert (file_bridge.folder / "uploads" / "secret").stat().st_mode & 0o777 == 0o600
+
+
+def test_a_name_that_the_client_would_refuse(file_bridge):
+    rows = file_bridge.twin.service.imported
+    line = "a..b...c,sum,1,1,3,5,4,86400,60000000000,1000,1000,5000"
+    rows("workunits", "dots", "name,app,min_quorum,target_nresults,max_error_results,max_total_results,"
+         f"max_success_results,delay_bound,rsc_fpops_est,rsc_memory_bound,rsc_disk_bound,credit\n{line}\n")
+    told = {}
+    for number in range(12):
+        told |= given(file_bridge, cpid=f"c{number}", key=("ann-key", "bob-key")[number % 2], seconds=1000)
+        if any(name.startswith("a.") for name in told):
+            break
+    assert "a.+.b.+.+.c_0_0" in told and not any(".." in name for name in told)
+
+
+# ---- Good messages
+
+
+@pytest.mark.parametrize("data", [b"", b"x", DATA, b"<data>\n</data_server_request>", DATA * 2, bytes(20_000)[:20_000]])
+def test_a_file_is_received(file_bridge, data):
+    data = data[:20_000]
+    tokens = given(file_bridge)
+    assert sent(file_bridge, upload("u1_0_0", data, tokens["u1_0_0"])) == DONE
+    name = f"pending/u1_0_0.{sha256_of(data)}"
+    assert on_disk(file_bridge.folder) == {name: data}
+    file_bridge.restart()
+    assert on_disk(file_bridge.folder) == {name: data}
+    row = file_bridge.store.upload("u1_0_0")
+    assert (row.nbytes, row.sha256) == (len(data), sha256_of(data))
+
+
+def test_a_client_that_asks_for_the_size_sends_all(file_bridge):
+    tokens = given(file_bridge)
+    for _ in range(2):
+        body = file_bridge.got("/p/file_upload_handler", "POST", ASKS_SIZE.format(name="u1_0_0").encode())[2]
+        told = ElementTree.fromstring(body)
+        assert (told.tag, told.findtext("status"), told.findtext("file_size")) == ("data_server_reply", "0", "0")
+        assert sent(file_bridge, upload("u1_0_0", DATA, tokens["u1_0_0"])) == DONE
+
+
+def test_other_bytes_of_a_job_that_was_lost_replace_the_older(file_bridge):
+    tokens = given(file_bridge)
+    for data in (b"one", b"two", b"two", b"one"):
+        assert sent(file_bridge, upload("u1_0_0", data, tokens["u1_0_0"])) == DONE
+        assert on_disk(file_bridge.folder) == {f"pending/u1_0_0.{sha256_of(data)}": data}
+    assert file_bridge.store.tables.used() == 3
+
+
+def test_a_body_that_comes_in_small_pieces(file_bridge):
+    class Pieces(io.BytesIO):
+        """A stream that gives a few bytes at a time after the head, as a slow connection does."""
+
+        def read(self, size=-1):
+            return super().read(min(size, 1000) if self.tell() else size)
+
+    tokens = given(file_bridge)
+    message = upload("u1_0_0", DATA, tokens["u1_0_0"])
+    assert sent(file_bridge, message, **{"wsgi.input": Pieces(message)}) == DONE
+
+
+# ---- Odd and forged messages
+
+
+def odd_messages(tokens):
+    """Yields messages that store nothing, each with the statuses that are good answers."""
+    good, other = tokens["u1_0_0"], tokens["u1_0_1"]
+    message = upload("u1_0_0", DATA, good)
+    yield "another token", upload("u1_0_0", DATA, other), NEVER
+    yield "no token", upload("u1_0_0", DATA, ""), NEVER
+    yield "a token of zeros", upload("u1_0_0", DATA, "0" * 64), NEVER
+    yield "a token beyond ASCII", upload("u1_0_0", DATA, "\u00e9" * 32), NEVER
+    yield "a token in capitals", upload("u1_0_0", DATA, good.upper()), NEVER
+    yield "another result", upload("u2_0_0", DATA, good), NEVER
+    yield "another file", upload("u1_0_1", DATA, good), NEVER
+    yield "a file that does not exist", upload("u1_0_2", DATA, good), NEVER
+    yield "a path", upload("../u1_0_0", DATA, good), NEVER
+    yield "an absolute path", upload("/etc/passwd", DATA, good), NEVER
+    yield "an empty name", upload("", DATA, good), NEVER
+    yield "a NUL in the name", upload("u1_0_0\x00", DATA, good), NEVER
+    yield "a higher limit", upload("u1_0_0", DATA, good, max_nbytes=20_001), NEVER
+    yield "more than the limit", upload("u1_0_0", bytes(20_001), good), NEVER
+    yield "a negative limit", upload("u1_0_0", DATA, good, max_nbytes=-1), NEVER
+    yield "a limit with an exponent", upload("u1_0_0", DATA, good, max_nbytes="2e4"), NEVER
+    yield "a size that is no number", upload("u1_0_0", DATA, good, nbytes="x"), NEVER
+    yield "a negative size", upload("u1_0_0", DATA, good, nbytes=-1), NEVER
+    yield "a size in Arabic digits", upload("u1_0_0", DATA, good, nbytes="\u0661"), NEVER
+    yield "a size of many digits", upload("u1_0_0", DATA, good, nbytes="1" * 19), NEVER
+    yield "an MD5 in capitals", upload("u1_0_0", DATA, good, md5="A" * 32), NEVER
+    yield "no MD5", upload("u1_0_0", DATA, good, md5=""), NEVER
+    yield "no offset", upload("u1_0_0", DATA, good).replace(b"<offset>0</offset>\n", b""), NEVER
+    yield "two names", message.replace(b"</name>\n", b"</name>\n<name>u1_0_0</name>\n"), NEVER
+    yield "two sizes", message.replace(b"<offset>", b"<nbytes>1</nbytes><offset>"), NEVER
+    yield "no data", message.replace(b"<data>\n", b""), NEVER
+    yield "a long head", message.replace(b"<data>\n", b" " * 9000 + b"<data>\n"), NEVER
+    yield "nothing", b"", NEVER
+    yield "a call", request().encode(), NEVER
+    yield "HTML", b"<html></html>", NEVER
+    yield "zeros", bytes(10_000), NEVER
+    # what a good client sends when something breaks
+    yield "another MD5", upload("u1_0_0", DATA, good, md5="0" * 32), AGAIN
+    yield "an offset", upload("u1_0_0", DATA, good, offset=5), AGAIN
+    yield "more bytes than the size", message + b"x", AGAIN
+    yield "fewer bytes than the size", upload("u1_0_0", DATA, good, nbytes=len(DATA) + 1), AGAIN
+    yield "a smaller size", upload("u1_0_0", DATA, good, nbytes=len(DATA) - 1), AGAIN
+
+
+def test_odd_and_forged_messages_store_nothing(file_bridge):
+    tokens = given(file_bridge)
+    seen = 0
+    for what, message, status in odd_messages(tokens):
+        assert sent(file_bridge, message) == status, what
+        assert on_disk(file_bridge.folder) == {}, what
+        assert file_bridge.store.upload("u1_0_0") is None and file_bridge.store.tables.used() == 0
+        seen += 1
+    assert seen >= 26
+    assert sent(file_bridge, upload("u1_0_0", DATA, tokens["u1_0_0"])) == DONE  # the good one still comes
+
+
+@pytest.mark.parametrize("end", [0, 10, 600, 640, 700, 8191, 8192, 8193, 9000, -1])
+def test_a_message_that_breaks_off_is_sent_again(file_bridge, end):
+    tokens = given(file_bridge)
+    message = upload("u1_0_0", DATA, tokens["u1_0_0"])
+    assert sent(file_bridge, message[:end], CONTENT_LENGTH=str(len(message))) == AGAIN
+    assert on_disk(file_bridge.folder) == {}
+
+
+def test_a_connection_that_fails_is_no_final_answer(file_bridge):
+    class Failing(io.BytesIO):
+        """A stream that fails after the head."""
+
+        def read(self, size=-1):
+            if self.tell():
+                raise ConnectionResetError
+            return super().read(size)
+
+    tokens = given(file_bridge)
+    message = upload("u1_0_0", DATA, tokens["u1_0_0"])
+    assert sent(file_bridge, message, **{"wsgi.input": Failing(message)}) == AGAIN
+    assert on_disk(file_bridge.folder) == {}
+
+
+def test_what_is_no_upload(file_bridge):
+    assert file_bridge.got("/p/file_upload_handler")[0] == "405 Method Not Allowed"
+    assert file_bridge.got("/p/file_upload_handler", "POST", CONTENT_LENGTH="")[0] == "411 Length Required"
+
+
+def test_without_output_files_nothing_is_uploaded(bridge):
+    assert bridge.got("/p/file_upload_handler", "POST", upload("u1_0_0", DATA, "0" * 64))[0] == "404 Not Found"
+
+
+# ---- Several at once, and too little room
+
+
+def test_thirty_uploads_under_one_name_leave_one_file(file_bridge):
+    tokens, answers = given(file_bridge), []
+    file_bridge.application._handlers[uploads.PATH].__self__.places = uploads.Places(30)
+
+    def send(number):
+        data = b"content %d" % (number % 3)
+        answers.append(sent(file_bridge, upload("u1_0_0", data, tokens["u1_0_0"])))
+
+    threads = [threading.Thread(target=send, args=(number,)) for number in range(30)]
+    for thread in threads:
+        thread.start()
+    for thread in threads:
+        thread.join()
+    assert answers == [DONE] * 30
+    row = file_bridge.store.upload("u1_0_0")
+    (name, data), = on_disk(file_bridge.folder).items()
+    assert name == f"pending/u1_0_0.{row.sha256}" and sha256_of(data) == row.sha256
+
+
+def test_an_upload_waits_for_a_place(file_bridge, monkeypatch):
+    monkeypatch.setattr(uploads, "PLACE_SECONDS", 0.01)
+    tokens = given(file_bridge)
+    places = file_bridge.application._handlers[uploads.PATH].__self__.places
+    message = upload("u1_0_0", DATA, tokens["u1_0_0"])
+    with places.taken(), places.taken(), places.taken(), places.taken():
+        assert sent(file_bridge, message) == AGAIN
+        monkeypatch.setattr(uploads, "PLACE_SECONDS", 30.0)
+        answers = []
+        waiting = threading.Thread(target=lambda: answers.append(sent(file_bridge, message)))
+        waiting.start()
+    waiting.join()
+    assert answers == [DONE]
+
+
+def test_the_folder_has_a_limit(file_bridge, caplog):
+    path = file_bridge.folder / "bridge.toml"
+    path.write_text(path.read_text().replace("most_bytes = 1_000_000", "most_bytes = 12_000"))
+    file_bridge.restart()
+    tokens = given(file_bridge)
+    assert sent(file_bridge, upload("u1_0_0", DATA, tokens["u1_0_0"])) == DONE
+    for _ in range(3):
+        assert sent(file_bridge, upload("u1_0_0", DATA, tokens["u1_0_0"])) == AGAIN
+    assert caplog.text.count("the folder of uploads has as much as it may have") == 1
+    assert sent(file_bridge, upload("u1_0_1", b"short", tokens["u1_0_1"], max_nbytes=1000)) == DONE
+    assert file_bridge.store.tables.used() == len(DATA) + 5
+
+
+def test_a_disk_with_too_little_room(file_bridge, monkeypatch):
+    tokens = given(file_bridge)
+    free = os.statvfs(file_bridge.folder).f_bavail * os.statvfs(file_bridge.folder).f_frsize
+    settings = replace(file_bridge.store.settings, free_bytes=free + 10**6)
+    monkeypatch.setattr(file_bridge.store, "settings", settings)
+    message = upload("u1_0_0", DATA, tokens["u1_0_0"])
+    assert sent(file_bridge, message) == AGAIN
+    monkeypatch.setattr(file_bridge.store, "settings", replace(settings, free_bytes=0))
+    assert sent(file_bridge, message) == DONE
+
+
+@pytest.mark.skipif(os.geteuid() != 0, reason="only root can mount a small disk")
+def test_a_full_disk_refuses_for_a_while_and_loses_nothing(file_project, twin, monkeypatch):
+    from conftest import Bridge
+
+    disk = file_project / "uploads"
+    disk.mkdir()
+    mounted = subprocess.run(["mount", "-t", "tmpfs", "-o", "size=512k", "none", disk], capture_output=True)
+    if mounted.returncode:
+        pytest.skip(f"no disk can be mounted here: {mounted.stderr.decode()}")
+    bridge = Bridge(file_project, twin)
+    try:
+        tokens = given(bridge)
+        assert sent(bridge, upload("u1_0_0", DATA, tokens["u1_0_0"])) == DONE
+        for size in (16_384, 4096, 1):  # fills the disk
+            number = 0
+            while True:
+                try:
+                    (disk / f"filler{size}_{number}").write_bytes(bytes(size))
+                except OSError:
+                    break
+                number += 1
+        before = on_disk(file_project)
+        assert sent(bridge, upload("u1_0_0", DATA[::-1], tokens["u1_0_0"])) == AGAIN
+        assert on_disk(file_project) == before
+        for path in disk.glob("filler*"):
+            path.unlink()
+        assert sent(bridge, upload("u1_0_0", DATA[::-1], tokens["u1_0_0"])) == DONE
+        assert on_disk(file_project) == {f"pending/u1_0_0.{sha256_of(DATA[::-1])}": DATA[::-1]}
+    finally:
+        bridge.close()
+        subprocess.run(["umount", disk], check=True)
+
+
+# ---- Settings
+
+
+def test_what_was_half_received_is_deleted_at_the_start(file_bridge):
+    (file_bridge.folder / "uploads" / "temp" / "left").write_bytes(DATA)
+    file_bridge.restart()
+    assert on_disk(file_bridge.folder) == {}
+
+
+@pytest.mark.parametrize("old, new, fault", [
+    ('folder = "uploads"', 'folder = "none/uploads"', "is not a folder"),
+    ("free_bytes = 0", "free_bytes = -1", "line 11: free_bytes is not within"),
+    ("most_bytes = 1_000_000\n", "", r"line 9: most_bytes is missing"),
+    ("most_bytes = ", "other = 1\nmost_bytes = ", "line 12: other is not known here"),
+    ('operator_key = "change-this-key"\n', "", r"\[uploads\] needs operator_key"),
+    ("most_bytes = ", "keep_days = 6\nmost_bytes = ", "keep_days is not within"),
+])
+def test_faulty_settings(file_project, old, new, fault):
+    path = file_project / "bridge.toml"
+    path.write_text(path.read_text().replace(old, new, 1))
+    with pytest.raises(OperatorFault, match=fault):
+        read_settings(path)
+
+
+def test_a_secret_that_is_lost_is_not_replaced(file_bridge):
+    settings = file_bridge.application.settings.uploads
+    secret = settings.folder / "secret"
+    kept = secret.read_bytes()
+    secret.unlink()
+    with pytest.raises(OperatorFault, match="secret: is missing: restore it"):
+        UploadStore(settings)
+    secret.write_bytes(kept[1:])
+    with pytest.raises(OperatorFault, match="has 31 bytes"):
+        UploadStore(settings)
+    secret.write_bytes(kept)
+    UploadStore(settings).close()

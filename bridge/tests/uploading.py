@@ -1,0 +1,94 @@
+"""What tests of uploads share: messages as BOINC's client 7.20.5 sends them, and what is on the disk."""
+import hashlib
+import re
+
+from messages import FIRST, request
+
+HEAD = """\
+<data_server_request>
+    <core_client_major_version>7</core_client_major_version>
+    <core_client_minor_version>20</core_client_minor_version>
+    <core_client_release>5</core_client_release>
+<file_upload>
+<file_info>
+<name>{name}</name>
+<xml_signature>
+{token}</xml_signature>
+<max_nbytes>{max_nbytes}</max_nbytes>
+</file_info>
+<nbytes>{nbytes}</nbytes>
+<md5_cksum>{md5}</md5_cksum>
+<offset>{offset}</offset>
+<data>
+"""
+ASKS_SIZE = """\
+<data_server_request>
+    <core_client_major_version>7</core_client_major_version>
+    <core_client_minor_version>20</core_client_minor_version>
+    <core_client_release>5</core_client_release>
+    <get_file_size>{name}</get_file_size>
+</data_server_request>
+"""
+FILE_INFO = """\
+<file_info>
+    <name>{name}</name>
+    <nbytes>{nbytes}.000000</nbytes>
+    <max_nbytes>20000.000000</max_nbytes>
+    <md5_cksum>{md5}</md5_cksum>
+    <upload_url>http://127.0.0.1:8081/p/file_upload_handler</upload_url>
+{more}</file_info>
+"""
+
+
+def md5_of(data):
+    """Returns the MD5 of bytes, as the client writes it."""
+    return hashlib.md5(data).hexdigest()
+
+
+def tokens_of(reply):
+    """Returns the token of each file in a reply, as the client reads it."""
+    files = (part for part in reply.decode().split("<file_info>")[1:] if "<xml_signature>" in part)
+    return {
+        re.search("<name>(.*?)</name>", part)[1]: re.search("<xml_signature>\n(.*?)\n</xml_signature>", part)[1]
+        for part in files
+    }
+
+
+def upload(name, data, token, max_nbytes=20_000, **more):
+    """Returns the message that uploads a file."""
+    told = {"nbytes": len(data), "md5": md5_of(data), "offset": 0, **more}
+    return HEAD.format(name=name, token=token, max_nbytes=max_nbytes, **told).encode() + data
+
+
+def sent(bridge, message, **more):
+    """Returns the status in the answer to a message of an upload."""
+    status, fields, body = bridge.got("/p/file_upload_handler", "POST", message, **more)
+    assert (status, fields["Content-Length"]) == ("200 OK", str(len(body)))
+    return int(re.fullmatch(
+        r"<data_server_reply>\n<status>(-?\d+)</status>\n.*</data_server_reply>\n", body.decode(), re.DOTALL
+    )[1])
+
+
+def file_info(name, data, more=""):
+    """Returns the element by which a report names an uploaded file."""
+    return FILE_INFO.format(name=name, nbytes=len(data), md5=md5_of(data), more=more)
+
+
+def report(result, files, hostid=FIRST, output="", status=0, state=5, **more):
+    """Returns a request that reports a result with the elements of its files."""
+    body = request(hostid=hostid, reports=[(result, output)], seconds=0, **more)
+    body = body.replace("<exit_status>0</exit_status><state>5", f"<exit_status>{status}</exit_status><state>{state}")
+    return body.replace("</stderr_out></result>", "</stderr_out>" + "".join(files) + "</result>")
+
+
+def on_disk(folder):
+    """Returns the contents of the files in temp/, pending/ and store/, by their names."""
+    return {
+        f"{part}/{path.name}": path.read_bytes()
+        for part in ("temp", "pending", "store") for path in (folder / "uploads" / part).iterdir()
+    }
+
+
+def sha256_of(data):
+    """Returns the SHA-256 of bytes."""
+    return hashlib.sha256(data).hexdigest()
