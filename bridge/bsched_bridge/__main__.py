@@ -7,7 +7,7 @@ from typing import NoReturn
 
 import waitress  # type: ignore[import]
 
-from . import client_requests
+from . import client_requests, sweep_command
 from .application import new_application
 from .catalogue import read_catalogue
 from .code_signing import KeyFault, file_md5, read_private_key, signature_text, write_new_keys
@@ -43,6 +43,12 @@ def words() -> argparse.ArgumentParser:
     keygen.add_argument("--public", type=Path, default=Path("code_sign_public"), metavar="FILE")
     sign = orders.add_parser("sign", help="prints the signature of a file")
     sign.add_argument("file", type=Path, metavar="FILE")
+    sweep = orders.add_parser("sweep", help="deletes uploads that nobody needs; the bridge may serve")
+    sweep.add_argument("--config", type=Path, required=True, metavar="FILE", dest="swept")
+    sweep.add_argument(
+        "--tables", type=Path, nargs="+", default=[], metavar="COPY",
+        help="copies of the tables, or folders of copies; without them reported results keep their files",
+    )
     sign.add_argument("--key", type=Path, required=True, metavar="KEY", help="the private key")
     return parser
 
@@ -85,8 +91,10 @@ def main() -> int:
             write_new_keys(told.private, told.public)
         elif told.order == "sign":
             print(signature_text(file_md5(told.file), read_private_key(told.key.read_text())), end="")
+        elif told.order == "sweep":
+            print(sweep_command.run(told.swept, told.tables))
         elif told.config is None:
-            parser.error("--config FILE, keygen or sign")
+            parser.error("--config FILE, keygen, sign or sweep")
         else:
             serve(told.config, told.check)
     except (OperatorFault, StateFault) as fault:

@@ -1,0 +1,52 @@
+"""The command `bsched-bridge sweep`."""
+import time
+from collections.abc import Iterable
+from pathlib import Path
+
+from .operator_files import OperatorFault
+from .settings import read_settings
+from .upload_store import UploadStore
+from .upload_sweep import Decisions, sweep
+
+
+def decisions_in(paths: Iterable[Path]) -> Decisions:
+    """Returns the decisions in copies of the tables. Raises OperatorFault if one can't be read."""
+    try:
+        from bsched_tools.faults import Fault  # type: ignore[import]
+        from bsched_tools.tables import opened  # type: ignore[import]
+        from bsched_tools.workunits import decided  # type: ignore[import]
+    except ModuleNotFoundError:
+        what = "--tables needs the package bsched_tools: add the folder tools to PYTHONPATH"
+        raise OperatorFault(Path("sweep"), None, what) from None
+    decisions = Decisions()
+    try:
+        for path in paths:
+            with opened(path) as tables:
+                for unit in decided(tables):
+                    decisions.add(unit.name, unit.canonical, unit.output)
+    except Fault as fault:
+        raise OperatorFault(path, None, str(fault)) from None
+    return decisions
+
+
+def run(config: Path, tables: list[Path]) -> str:
+    """Sweeps the folder of uploads of a bridge, which may serve meanwhile. Returns a line that says what was
+    deleted.
+    """
+    settings = read_settings(config)
+    if settings.uploads is None:
+        raise OperatorFault(config, None, "has no [uploads], so there is nothing to sweep")
+    if not (settings.uploads.folder / "uploads.db").exists():
+        raise OperatorFault(settings.uploads.folder, None, "has no uploads.db, which the bridge makes")
+    decisions = decisions_in(tables) if tables else None
+    store = UploadStore(settings.uploads)
+    try:
+        swept = sweep(store, int(time.time()), decisions)
+        used = store.tables.used()
+    finally:
+        store.close()
+    return (
+        f"swept {settings.uploads.folder}: {swept.uploads} uploads that were not reported, {swept.jobs} jobs "
+        f"that did not come back, {swept.results} results that are not canonical with {swept.contents} files; "
+        f"{swept.nbytes} bytes are deleted, and {used} are left"
+    )

@@ -1,0 +1,147 @@
+"""The sweep of the folder of uploads, which a timer starts each day while the bridge serves.
+
+It deletes what nobody will ask for: uploads that were never reported, jobs that never came back, and the
+files of results that are not canonical. It works in turns with the bridge, a part at a time.
+
+A file in store/ is deleted only if copies of the tables say of each result with this content that its
+workunit is done or has failed, and that it is not the canonical result. It also stays if a canonical output
+names it. A workunit that is done never gets another canonical result, so the copies may be of any age.
+"""
+import re
+from collections.abc import Iterable
+from dataclasses import dataclass, field
+from typing import TypeVar, cast
+
+from .settings import LEAST_KEPT_DAYS
+from .upload_store import Upload, UploadStore
+
+DAY = 86_400
+LEFT_DAYS = 120  # after which no result comes any more: a client gives up an upload after 90 days
+PART = 200  # rows of a turn; an upload may have to wait for it
+PAGE = 10_000  # rows that are read at once
+DIGEST = re.compile(r"sha256:([0-9a-f]{64})\b")
+Item = TypeVar("Item")
+
+
+@dataclass(slots=True)
+class Decisions:
+    """The workunits that are done or have failed, by copies of the tables."""
+
+    canonical: dict[str, str | None] = field(default_factory=dict)  # the name of each one's canonical result
+    contents: set[str] = field(default_factory=set)  # the SHA-256 that canonical outputs name
+
+    def add(self, workunit: str, canonical: str | None, output: str | None) -> None:
+        """Adds a workunit with the name and the output of its canonical result."""
+        self.canonical[workunit] = canonical
+        self.contents.update(DIGEST.findall(output or ""))
+
+    def may_go(self, result: str) -> bool:
+        """Returns whether a result can never become canonical."""
+        workunit = result.rpartition("_")[0]
+        return workunit in self.canonical and self.canonical[workunit] != result
+
+
+@dataclass(slots=True)
+class Swept:
+    """What a sweep deleted."""
+
+    uploads: int = 0  # files that were not reported
+    jobs: int = 0  # that never came back
+    results: int = 0  # that are not canonical
+    contents: int = 0  # their files
+    nbytes: int = 0  # in all these files
+
+
+def parts_of(items: list[Item], size: int) -> Iterable[list[Item]]:
+    """Yields a list in parts."""
+    for start in range(0, len(items), size):
+        yield items[start:][:size]
+
+
+def sweep(store: UploadStore, now: int, decisions: Decisions | None) -> Swept:
+    """Deletes what is old. Without decisions all reported results keep their files."""
+    swept = Swept(uploads=store.delete_left_over())
+    sweep_uploads(store, now, swept)
+    sweep_jobs(store, now, swept)
+    if decisions is not None:
+        sweep_results(store, now - store.settings.keep_days * DAY, decisions, swept)
+    return swept
+
+
+def sweep_uploads(store: UploadStore, now: int, swept: Swept) -> None:
+    """Deletes uploads that came after the report of their result, or whose result was never reported."""
+    recent, late = now - LEAST_KEPT_DAYS * DAY, now - LEFT_DAYS * DAY
+    query = (
+        "SELECT name, nbytes, md5, sha256, received_at < ? OR EXISTS (SELECT 1 FROM job WHERE "
+        "result = replace(substr(name, 1, length(rtrim(name, '0123456789')) - 1), '+', '') "
+        "AND stored_at < ?) FROM upload WHERE received_at < ?"
+    )
+    rows = store.tables.rows(query, late, recent, recent)
+    old = [Upload(*cast("tuple[str, int, str, str]", row[:4])) for row in rows if row[4]]
+    for part in parts_of(old, PART):
+        with store.tables.transaction() as connection:
+            for upload in part:
+                told = upload.name, upload.sha256, recent
+                gone = connection.execute(
+                    "DELETE FROM upload WHERE name = ? AND sha256 = ? AND received_at < ?", told
+                ).rowcount
+                if gone:  # it has not come again meanwhile
+                    store.path_of(upload).unlink(missing_ok=True)
+                    swept.uploads += 1
+                    swept.nbytes += upload.nbytes
+
+
+def sweep_jobs(store: UploadStore, now: int, swept: Swept) -> None:
+    """Deletes jobs that went out and never came back."""
+    gone = PART
+    while gone == PART:
+        with store.tables.transaction() as connection:
+            gone = connection.execute(
+                "DELETE FROM job WHERE rowid IN "
+                "(SELECT rowid FROM job WHERE stored_at IS NULL AND deadline < ? LIMIT ?)",
+                (now - LEFT_DAYS * DAY, PART),
+            ).rowcount
+        swept.jobs += gone
+
+
+def sweep_results(store: UploadStore, before: int, decisions: Decisions, swept: Swept) -> None:
+    """Deletes the files of results that were stored before a moment and can't become canonical."""
+    last = ""
+    while True:
+        rows = store.tables.rows(
+            "SELECT result FROM job WHERE stored_at < ? AND result > ? ORDER BY result LIMIT ?",
+            before, last, PAGE,
+        )
+        if not rows:
+            return
+        last = str(rows[-1][0])
+        old = [str(row[0]) for row in rows if decisions.may_go(str(row[0]))]
+        for part in parts_of(old, PART):
+            forget_results(store, part, before, decisions, swept)
+
+
+def forget_results(
+    store: UploadStore, results: list[str], before: int, decisions: Decisions, swept: Swept
+) -> None:
+    """Deletes the rows of results, and the contents that no other result has. The files go first: a stop
+    leaves rows of files that nobody needs, and the next sweep deletes them.
+    """
+    with store.tables.transaction() as connection:
+        contents: dict[str, int] = {}
+        for result in results:
+            if not connection.execute(
+                "DELETE FROM job WHERE result = ? AND stored_at < ?", (result, before)
+            ).rowcount:
+                continue  # it went out once more meanwhile
+            query = "SELECT sha256, nbytes FROM file WHERE result = ?"
+            contents |= dict(connection.execute(query, (result,)).fetchall())
+            connection.execute("DELETE FROM file WHERE result = ?", (result,))
+            swept.results += 1
+        for sha256, nbytes in contents.items():
+            is_used = connection.execute("SELECT 1 FROM file WHERE sha256 = ? LIMIT 1", (sha256,)).fetchone()
+            if sha256 in decisions.contents or is_used:
+                continue
+            (store.store / sha256).unlink(missing_ok=True)
+            connection.execute("DELETE FROM content WHERE sha256 = ?", (sha256,))
+            swept.contents += 1
+            swept.nbytes += nbytes

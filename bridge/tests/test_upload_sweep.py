@@ -1,0 +1,132 @@
+"""What the sweep deletes, and what it keeps."""
+import sys
+from pathlib import Path
+
+import pytest
+from messages import FIRST, jobs, names, request
+from uploading import file_info, on_disk, report, sent, sha256_of, tokens_of, upload
+
+sys.path.append(str(Path(__file__).resolve().parent.parent.parent / "tools"))
+
+from bsched_bridge import sweep_command  # noqa: E402
+from bsched_bridge.operator_files import OperatorFault  # noqa: E402
+from bsched_bridge.upload_sweep import DAY, Decisions, Swept, sweep  # noqa: E402
+
+RIGHT, WRONG = b"right\n", b"wrong\n"
+
+
+def ran(bridge, user, data, is_reported=True):
+    """Has a user's host get a job, upload a file and report it. Returns the name of the result."""
+    hostid = FIRST + ("ann", "bob").index(user)
+    is_new = bridge.hosts.count() < hostid - FIRST + 1
+    reply = bridge.call(request(key=f"{user}-key", cpid=user, hostid=0 if is_new else hostid, seconds=60))
+    result = jobs(reply)[-1]
+    name = f"{result}_0"
+    assert sent(bridge, upload(name, data, tokens_of(reply)[name])) == 0
+    if is_reported:
+        body = report(result, [file_info(name, data)], hostid=hostid, key=f"{user}-key", cpid=user)
+        assert names(bridge.call(body), "result_ack") == [result]
+    return result
+
+
+def later(bridge, days):
+    """Returns a moment some days from now."""
+    from time import time
+
+    return int(time()) + days * DAY
+
+
+def stored(bridge):
+    """Returns the contents in store/."""
+    return {data for name, data in on_disk(bridge.folder).items() if name.startswith("store/")}
+
+
+def test_files_of_results_that_are_not_canonical_go(file_bridge):
+    right, wrong = ran(file_bridge, "ann", RIGHT), ran(file_bridge, "bob", WRONG)
+    decisions = Decisions()
+    # as long as the workunit is open, each may become canonical
+    assert sweep(file_bridge.store, later(file_bridge, 99), decisions) == Swept()
+    assert sweep(file_bridge.store, later(file_bridge, 99), None) == Swept()
+    decisions.add("u1", right, f"out sha256:{sha256_of(RIGHT)} 6")
+    assert sweep(file_bridge.store, later(file_bridge, 29), decisions) == Swept()
+    swept = sweep(file_bridge.store, later(file_bridge, 31), decisions)
+    assert swept == Swept(results=1, contents=1, nbytes=6)
+    assert stored(file_bridge) == {RIGHT}
+    assert file_bridge.store.stored_files(right) and not file_bridge.store.stored_files(wrong)
+    assert file_bridge.store.tables.used() == 6
+    assert sweep(file_bridge.store, later(file_bridge, 9999), decisions) == Swept()
+
+
+def test_a_content_that_the_canonical_result_has_stays(file_bridge):
+    first, second = ran(file_bridge, "ann", RIGHT), ran(file_bridge, "bob", RIGHT)
+    decisions = Decisions()
+    decisions.add("u1", second, None)  # as with a digest program, whose output names no content
+    assert sweep(file_bridge.store, later(file_bridge, 31), decisions) == Swept(results=1)
+    assert stored(file_bridge) == {RIGHT}
+    assert file_bridge.store.stored_files(second) and not file_bridge.store.stored_files(first)
+
+
+def test_a_content_that_a_canonical_output_names_stays(file_bridge):
+    ran(file_bridge, "ann", RIGHT)
+    decisions = Decisions()
+    # the rows are of another time: a workunit of an earlier file has this content
+    decisions.add("old", "old_0", f"out sha256:{sha256_of(RIGHT)} 6\nlog absent")
+    decisions.add("u1", None, None)
+    assert sweep(file_bridge.store, later(file_bridge, 31), decisions) == Swept(results=1)
+    assert stored(file_bridge) == {RIGHT}
+
+
+def test_files_of_workunits_that_failed_go(file_bridge):
+    ran(file_bridge, "ann", RIGHT)
+    ran(file_bridge, "bob", WRONG)
+    decisions = Decisions()
+    decisions.add("u1", None, None)
+    assert sweep(file_bridge.store, later(file_bridge, 31), decisions) == Swept(0, 0, 2, 2, 12)
+    assert on_disk(file_bridge.folder) == {}
+
+
+def test_uploads_and_jobs_that_nobody_reports_go(file_bridge):
+    result = ran(file_bridge, "ann", RIGHT, is_reported=False)
+    assert sweep(file_bridge.store, later(file_bridge, 119), None) == Swept()
+    assert list(on_disk(file_bridge.folder)) == [f"pending/{result}_0.{sha256_of(RIGHT)}"]
+    # the deadline of the job is a day from now
+    assert sweep(file_bridge.store, later(file_bridge, 122), None) == Swept(uploads=1, jobs=1, nbytes=6)
+    assert on_disk(file_bridge.folder) == {}
+    assert file_bridge.store.tables.used() == 0
+
+
+def test_an_upload_after_the_report_goes_after_a_week(file_bridge):
+    result = ran(file_bridge, "ann", RIGHT)
+    name = f"{result}_0"
+    token = file_bridge.application.writer.tokens.token(name, 20_000)
+    assert sent(file_bridge, upload(name, WRONG, token)) == 0
+    assert sweep(file_bridge.store, later(file_bridge, 6), None) == Swept()
+    assert sweep(file_bridge.store, later(file_bridge, 8), None) == Swept(uploads=1, nbytes=6)
+    assert stored(file_bridge) == {RIGHT}
+
+
+def test_a_file_without_a_row_goes(file_bridge):
+    (file_bridge.folder / "uploads" / "pending" / "left").write_bytes(RIGHT)
+    assert sweep(file_bridge.store, later(file_bridge, 0), None) == Swept(uploads=1)
+
+
+def test_what_the_sweep_stopped_in_the_middle_of_is_done_the_next_time(file_bridge, monkeypatch):
+    right, wrong = ran(file_bridge, "ann", RIGHT), ran(file_bridge, "bob", WRONG)
+    decisions = Decisions()
+    decisions.add("u1", right, None)
+    (file_bridge.folder / "uploads" / "store" / sha256_of(WRONG)).unlink()  # and then it was killed
+    assert sweep(file_bridge.store, later(file_bridge, 31), decisions).results == 1
+    assert stored(file_bridge) == {RIGHT} and not file_bridge.store.stored_files(wrong)
+
+
+def test_the_command(file_bridge):
+    ran(file_bridge, "ann", RIGHT)
+    said = sweep_command.run(file_bridge.folder / "bridge.toml", [])  # while the bridge serves
+    assert said.endswith("0 results that are not canonical with 0 files; 0 bytes are deleted, and 6 are left")
+    with pytest.raises(OperatorFault, match="there is no copy in this folder"):
+        sweep_command.run(file_bridge.folder / "bridge.toml", [file_bridge.folder])
+
+
+def test_the_command_without_uploads(bridge):
+    with pytest.raises(OperatorFault, match="nothing to sweep"):
+        sweep_command.run(bridge.folder / "bridge.toml", [])
