@@ -80,7 +80,8 @@ class Application:
             self._report_checks(hosts),
         )
         tokens = None if store is None else UploadTokens(store.secret)
-        self.writer = ReplyWriter(catalogue, settings.name, settings.url, tokens)
+        has_accounts = self.accounts is not None
+        self.writer = ReplyWriter(catalogue, settings.name, settings.url, tokens, has_accounts)
         self.statements = Statements(
             hosts, self.members, scheduler, settings.operator_key, settings.counts, archives
         )

@@ -28,6 +28,10 @@ NO_JOBS = {
     "no_eligible_work": "No tasks are available for this computer",
 }
 
+# buttons of the Manager: a name, what it says on them, and a page
+ACCOUNT = "Your account", "Your computers, credit and settings", "account"
+STATUS = "Project status", "Work, users and computers of the project", "status"
+
 log = logging.getLogger(__name__)
 
 
@@ -65,9 +69,11 @@ class ReplyWriter:
     """Writes the replies of a project."""
 
     def __init__(
-        self, catalogue: Catalogue, name: str, url: str, tokens: UploadTokens | None = None
+        self, catalogue: Catalogue, name: str, url: str, tokens: UploadTokens | None = None,
+        has_accounts: bool = False,
     ) -> None:
         self.catalogue, self.name, self.url, self.tokens = catalogue, name, url, tokens
+        self.buttons = (ACCOUNT, STATUS) if has_accounts else (STATUS,)
 
     def _begun(self, delay: int) -> Element:
         """Returns what each reply begins with."""
@@ -107,6 +113,7 @@ class ReplyWriter:
         if request.has_messages:
             add(root, "message_ack", 1)
         self._add_key(root, request.code_sign_key)
+        self._add_buttons(root)
         self._add_jobs(root, request, reply.results)
         if request.work_req_seconds and not reply.results:
             add_message(root, NO_JOBS.get(reply.end_word, NO_JOBS["no_eligible_work"]), "low")
@@ -120,6 +127,15 @@ class ReplyWriter:
             add(root, "code_sign_key", "\n" + self.catalogue.code_sign_key)
         elif has != "".join(self.catalogue.code_sign_key.split()):
             add_message(root, KEY_CHANGED, "notice")
+
+    def _add_buttons(self, root: Element) -> None:
+        """Adds the pages for which the Manager shows buttons."""
+        element = SubElement(root, "gui_urls")
+        for name, description, path in self.buttons:
+            button = SubElement(element, "gui_url")
+            add(button, "name", name)
+            add(button, "description", description)
+            add(button, "url", f"{self.url}{path}")
 
     # ---- Jobs
 

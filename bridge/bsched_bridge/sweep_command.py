@@ -47,6 +47,6 @@ def run(config: Path, tables: list[Path]) -> str:
         store.close()
     return (
         f"swept {settings.uploads.folder}: {swept.uploads} uploads that were not reported, {swept.jobs} jobs "
-        f"that did not come back, {swept.results} results that are not canonical with {swept.contents} files; "
-        f"{swept.nbytes} bytes are deleted, and {used} are left"
+        f"that did not come back, {swept.results} results that are not canonical with {swept.contents} "
+        f"files; {swept.nbytes} bytes are deleted, and {used} are left"
     )

@@ -267,3 +267,18 @@ def test_an_application_whose_results_are_reported_at_once(bridge):
     assert [(job.findtext("name"), job.findtext("report_immediately")) for job in reply.findall("result")] == [
         ("u2_0", "1")
     ]
+
+
+def test_the_manager_gets_buttons(bridge):
+    buttons = ElementTree.fromstring(bridge.call(request())).findall("gui_urls/gui_url")
+    assert [button.findtext("url") for button in buttons] == ["http://127.0.0.1:8081/p/status"]
+    assert bridge.got("/p/status")[0] == "200 OK"
+
+
+def test_the_manager_gets_a_button_for_the_account(open_bridge):
+    buttons = ElementTree.fromstring(open_bridge.call(request())).findall("gui_urls/gui_url")
+    assert [(button.findtext("name"), button.findtext("url")) for button in buttons] == [
+        ("Your account", "http://127.0.0.1:8081/p/account"), ("Project status", "http://127.0.0.1:8081/p/status"),
+    ]
+    assert all(button.findtext("description") for button in buttons)
+    assert open_bridge.got("/p/account")[0] == "200 OK"
