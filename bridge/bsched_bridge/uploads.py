@@ -80,6 +80,13 @@ def read_head(begin: bytes) -> Head:
     return Head(file, max_nbytes, member_of(text, "xml_signature"), offset, length + len(DATA))
 
 
+def is_question(begin: bytes) -> bool:
+    """Returns whether a message asks how much of a file the project has. The bytes of an uploaded file may
+    look like the question, so a message that has `<data>` is none.
+    """
+    return DATA not in begin and bool(PATTERNS["get_file_size"].search(begin.decode("ascii", errors="replace")))
+
+
 def answer_of(status: int, said: str, file_size: int | None = None) -> Answer:
     """Returns the answer with a status. The client writes what is said to its log, for the volunteer."""
     size = "" if file_size is None else f"<file_size>{file_size}</file_size>\n"
@@ -130,7 +137,7 @@ class Uploads:
         length = length_of(environ)
         begin = environ["wsgi.input"].read(min(length, MOST_HEAD))
         try:
-            if PATTERNS["get_file_size"].search(begin.decode("ascii", errors="replace")):
+            if is_question(begin):
                 return answer_of(DONE, "", file_size=0)
             if len(begin) < min(length, MOST_HEAD):
                 raise NotNow("the message is not complete")

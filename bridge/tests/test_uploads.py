@@ -69,7 +69,9 @@ def test_a_name_that_the_client_would_refuse(file_bridge):
 # ---- Good messages
 
 
-@pytest.mark.parametrize("data", [b"", b"x", DATA, b"<data>\n</data_server_request>", DATA * 2, bytes(20_000)[:20_000]])
+@pytest.mark.parametrize("data", [
+    b"", b"x", DATA, b"<data>\n</data_server_request>", ASKS_SIZE.encode(), DATA * 2, bytes(20_000)[:20_000]
+])
 def test_a_file_is_received(file_bridge, data):
     data = data[:20_000]
     tokens = given(file_bridge)
