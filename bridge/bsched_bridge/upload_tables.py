@@ -51,9 +51,8 @@ CREATE TRIGGER content_goes AFTER DELETE ON content BEGIN UPDATE used SET nbytes
 
 
 class UploadTables:
-    """A connection to the tables. Several processes may have one; their transactions take turns, and so do
-    the
-    threads of each.
+    """A connection to the tables. Several processes may have one. Their transactions take turns, and so do
+    the threads of each.
     """
 
     def __init__(self, path: Path) -> None:
