@@ -6,8 +6,8 @@ element. `bridge/README.md` says how to run the bridge and how to write an appli
 A request goes through these modules, in this order:
 
 application      the WSGI application: it chooses the handler for each URL
+request_parts    the parts of a request as it arrives: XML, and what programs wrote
 client_requests  what a client's XML says
-trickles         the messages of programs, which are cut out of the request before its XML is read
 exchange         one request and its answer: resends, whose host a client is, what it reads after a refusal
 hosts            the hosts that the bridge knows, and the numbers that their clients were told
 host_search      which host has a result, by bsched's statements

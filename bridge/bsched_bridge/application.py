@@ -15,13 +15,14 @@ from .archives import read_archives
 from .call_numbers import CallNumbers
 from .catalogue import Catalogue, MissingFile, read_catalogue
 from .client_replies import ReplyWriter
-from .client_requests import ClientRequest, RequestFault, read_request
+from .client_requests import MOST_BYTES, ClientRequest, read_request
 from .exchange import HOUR, TOO_BUSY, Exchange, PutOff, Resending
 from .handed_out import HandedOut
 from .host_rules import HostRuleReader
 from .host_search import HostSearch
 from .hosts import Hosts
 from .http_messages import (
+    BLOCK,
     BYTES,
     PHRASES,
     TEXT,
@@ -29,8 +30,9 @@ from .http_messages import (
     Answer,
     Environ,
     HttpFault,
-    body_of,
+    blocks_of,
     has_method,
+    length_of,
     log_fault,
 )
 from .key_locks import Busy, KeyLocks
@@ -38,6 +40,7 @@ from .limits import Places
 from .members import Members
 from .passwords import Passwords
 from .report_checks import ReportChecks
+from .request_parts import RequestFault
 from .scheduler import Scheduler
 from .settings import HostRules, Settings, read_settings
 from .state_file import StateFile
@@ -47,9 +50,8 @@ from .upload_tokens import UploadTokens
 
 # from a byte to the end of the file: a client asks so when it resumes a download
 REST_OF_FILE = re.compile(r"bytes=([0-9]{1,18})-")
-BLOCK = 65536
-# Reading the XML of a request takes many times its bytes. A large one waits for its turn.
-LARGE_BYTES, LARGE_SECONDS = 1024 * 1024, 5.0
+# Reading the XML of a request takes many times its bytes. A large one waits for its turn before it is read.
+LARGE_BYTES, LARGE_SECONDS = 256 * 1024, 5.0
 
 log = logging.getLogger(__name__)
 StartResponse = Callable[[str, list[tuple[str, str]]], Any]
@@ -171,7 +173,7 @@ class Application:
         """Answers a scheduler_request. The client always gets a scheduler_reply."""
         has_method(environ, "POST")
         try:
-            request = self._request(body_of(environ))
+            request = self._request(environ)
         except RequestFault as fault:
             return Answer(XML, self.writer.put_off(PutOff(f"Error in request message: {fault}", HOUR)))
         except Busy:
@@ -183,14 +185,21 @@ class Application:
         reply = answered.reply if member is None else replace(answered.reply, user_name=member.name)
         return Answer(XML, self.writer.reply(request, reply, answered.hostid, answered.notice))
 
-    def _request(self, body: bytes) -> ClientRequest:
+    def _request(self, environ: Environ) -> ClientRequest:
         """Reads a request. Large ones are read one after the other, since anybody can send them, and several
-        at once could use up the memory.
+        at once could use up the memory. Of one that is refused the rest is read, too: a proxy may not read
+        the answer before.
         """
-        if len(body) <= LARGE_BYTES:
-            return read_request(body)
-        with self._large.held("large"):
-            return read_request(body)
+        length = length_of(environ, MOST_BYTES)
+        blocks = blocks_of(environ, length)
+        try:
+            if length <= LARGE_BYTES:
+                return read_request(blocks)
+            with self._large.held("large"):
+                return read_request(blocks)
+        finally:
+            for _ in blocks:
+                pass
 
     def _download(self, environ: Environ, start_response: StartResponse, name: str) -> Iterable[bytes]:
         """Sends a file, or the rest of it from a byte on."""

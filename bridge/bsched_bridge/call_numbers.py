@@ -161,6 +161,14 @@ class CallNumbers:
             )
         return cast(int, hostid)
 
+    def has_in_hand(self, key: Key, jobs: list[Job]) -> None:
+        """Has these jobs in hand, which the client of a host may lack."""
+        with self.file.transaction(is_synced=False) as connection:
+            connection.execute(
+                "UPDATE host SET jobs_in_hand = ? WHERE authenticator = ? AND host_cpid = ?",
+                (json.dumps([asdict(job) for job in jobs]), key.authenticator, key.host_cpid),
+            )
+
     def jobs_in_hand(self, key: Key) -> list[Job]:
         """Returns the jobs that the client may lack."""
         row = self._of_key("jobs_in_hand", key)

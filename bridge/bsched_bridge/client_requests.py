@@ -2,42 +2,32 @@
 
 The elements become what the profile accepts, by the table in 'Writing a bridge' of docs/PROFILE.md. Decimals
 become whole numbers, and what is longer than the profile allows is cut. defusedxml reads the XML, and refuses
-entities and document types.
+entities and document types. What programs wrote does not reach it (request_parts).
 """
-import re
+from collections.abc import Iterable
 from dataclasses import dataclass
 from decimal import Decimal, InvalidOperation
-from xml.etree.ElementTree import Element, ParseError
+from xml.etree.ElementTree import Element, ParseError, TreeBuilder
 
-from defusedxml import DefusedXmlException, ElementTree  # type: ignore[import]
+from defusedxml import DefusedXmlException  # type: ignore[import]
+from defusedxml.ElementTree import DefusedXMLParser  # type: ignore[import]
 
-from .trickles import without_messages
-from .words import cut_to_bytes, is_word, xml_text
+from .request_parts import MOST_OUTPUT, Parts, RequestFault
+from .words import cut_to_bytes, is_word
 
 MOST_BYTES = 16 * 1024 * 1024  # of a request; a result has at most 64 KB of standard error
-MOST_TAGS = 800_000  # start tags and end tags; this many elements take some 40 MB
+# A client with 1,000 jobs of all its projects sends some 10,000 elements.
+MOST_ELEMENTS = 100_000
+MOST_DEPTH = 20
+MOST_TAG = 65_536  # bytes of a start tag with its attributes, or of a comment
 MOST_NUMBER = 10**18
 MOST_SECONDS = 10**9
 MOST_PLATFORMS = 7
-MOST_OUTPUT = 1024
 MOST_NAME = 254
 FINISHED = 5  # the client's state of a result that ended well (RESULT_FILES_UPLOADED)
 LEAST_STATUS, MOST_STATUS = -(2**31), 2**31 - 1
 WITHOUT_STATUS = 1  # the exit status that is reported if a result did not end well and has none
 UPLOAD_STATUS = -187  # the same for a result that lacks an output file (BOINC's ERR_RESULT_UPLOAD)
-
-# The client puts what a program wrote to its standard error between these tags, after lines of its own. The
-# text is in a CDATA section, as it was written. Only bytes beyond ASCII are changed: each is written as a
-# character reference.
-TEXT_BEGINS, TEXT_ENDS = "<stderr_txt>", "</stderr_txt>"
-BYTE = re.compile(rb"&#(12[89]|1[3-9][0-9]|2[0-4][0-9]|25[0-5]);")
-SECTION_BEGINS, SECTION_ENDS, ERROR_ENDS = "<![CDATA[", "]]>", "</stderr_out>"
-# A program may mark its answer, in case something else writes to its standard error too.
-ANSWER_BEGINS, ANSWER_ENDS = "<answer>", "</answer>"
-
-
-class RequestFault(Exception):
-    """Raised if a request can't be read. The text tells a volunteer why."""
 
 
 @dataclass(frozen=True, slots=True)
@@ -136,53 +126,10 @@ def is_result_name(name: str | None) -> bool:
 # ---- Results
 
 
-def with_whole_sections(text: str) -> str:
-    """Returns the text of a request with each `]]>` inside a standard error split over two sections. The
-    client does not check for it.
-    """
-    parts = text.split(ERROR_ENDS)
-    for index, part in enumerate(parts):
-        begins = part.find(SECTION_BEGINS) + len(SECTION_BEGINS)
-        ends = part.rfind(SECTION_ENDS)
-        if len(SECTION_BEGINS) <= begins <= ends and SECTION_ENDS in part[begins:ends]:
-            inner = part[begins:ends].replace(SECTION_ENDS, f"]]{SECTION_ENDS}{SECTION_BEGINS}>")
-            parts[index] = part[:begins] + inner + part[ends:]
-    return ERROR_ENDS.join(parts)
-
-
-def between(text: str, begins: str, ends: str, to_the_last: bool = False) -> str | None:
-    """Returns what is between the first begin and the first end after it, or the last end. Returns None if
-    there is no such pair.
-
-    Each place of the text is looked at once. A pattern such as `<a>(.*?)</a>` goes to the end of the text for
-    each begin, and keeps all threads waiting meanwhile.
-    """
-    place = text.find(begins)
-    if place < 0:
-        return None
-    first = place + len(begins)
-    last = text.rfind(ends, first) if to_the_last else text.find(ends, first)
-    return None if last < 0 else text[first:last]
-
-
-def with_bytes(text: str) -> str:
-    """Returns a standard error with its bytes beyond ASCII. Bytes that are not UTF-8 are replaced."""
-    return BYTE.sub(lambda told: bytes([int(told[1])]), text.encode()).decode(errors="replace")
-
-
 def output_of(result: Element) -> str:
-    """Returns what a program wrote to its standard error, without blanks around it. If the program marked an
-    answer in it, only that is returned.
-    """
+    """Returns what a program wrote to its standard error, as request_parts leaves it."""
     told = result.find("stderr_out")
-    if told is None:
-        return ""
-    text = "".join([told.text or "", *(part.tail or "" for part in told)])
-    inner = between(text, TEXT_BEGINS, TEXT_ENDS, to_the_last=True)
-    text = text if inner is None else inner
-    marked = between(text, ANSWER_BEGINS, ANSWER_ENDS)
-    text = text if marked is None else marked
-    return cut_to_bytes(with_bytes(text).strip(), MOST_OUTPUT)
+    return "" if told is None else told.text or ""
 
 
 def upload_fault(result: Element) -> str | None:
@@ -223,19 +170,39 @@ def report_of(result: Element) -> Report | None:
 # ---- The request
 
 
-def element_of(body: bytes) -> Element:
-    """Returns the element of a request.
+class Tree:
+    """Builds the elements of a request, without attributes, up to a limit."""
 
-    What a program wrote to its standard error may have `]]>`, or characters that XML does not allow. The
-    client sends it as it is, so both are replaced before the XML is read.
-    """
-    if len(body) > MOST_BYTES:
-        raise RequestFault("the request is too long")
-    if body.count(b"<") > MOST_TAGS:
-        raise RequestFault("the request has too many elements")
+    def __init__(self) -> None:
+        self._builder = TreeBuilder()
+        self.data, self.close = self._builder.data, self._builder.close
+        self._count = self._depth = 0
+
+    def start(self, tag: str, _attributes: dict[str, str]) -> None:
+        """Begins an element. Raises RequestFault if there are too many."""
+        self._count += 1
+        self._depth += 1
+        if self._count > MOST_ELEMENTS or self._depth > MOST_DEPTH:
+            raise RequestFault("the request has too many elements")
+        self._builder.start(tag, {})
+
+    def end(self, tag: str) -> None:
+        """Ends an element."""
+        self._depth -= 1
+        self._builder.end(tag)
+
+
+def element_of(parts: Parts) -> Element:
+    """Returns the element of a request. Raises RequestFault if it is none."""
+    parser = DefusedXMLParser(target=Tree(), encoding="utf-8", forbid_dtd=True)
+    length = 0
     try:
-        text = with_whole_sections(xml_text(body.decode(errors="replace")))
-        root: Element = ElementTree.fromstring(text.encode(), forbid_dtd=True)
+        for piece in parts.xml():
+            parser.feed(piece)
+            length += len(piece)
+            if length - parser.parser.CurrentByteIndex > MOST_TAG:
+                raise RequestFault("the request has too long a tag")
+        root: Element = parser.close()
     except ParseError as error:
         raise RequestFault(f"incomplete or faulty XML: {error}") from None
     except DefusedXmlException:
@@ -245,10 +212,10 @@ def element_of(body: bytes) -> Element:
     return root
 
 
-def read_request(body: bytes) -> ClientRequest:
-    """Reads the request from a body. Raises RequestFault if it is none."""
-    body, has_messages = without_messages(body)
-    root = element_of(body)
+def read_request(blocks: Iterable[bytes]) -> ClientRequest:
+    """Reads the request from the blocks of a body. Raises RequestFault if it is none."""
+    parts = Parts(blocks)
+    root = element_of(parts)
     has = root.find("other_results")
     other: tuple[str, ...] | None = None
     if has is not None:
@@ -270,5 +237,5 @@ def read_request(body: bytes) -> ClientRequest:
         other_results=other,
         results=tuple(filter(None, map(report_of, root.findall("result")))),
         code_sign_key="".join((text_of(root, "code_sign_key") or "").split()),
-        has_messages=has_messages,
+        has_messages=parts.has_messages,
     )

@@ -153,8 +153,8 @@ class Exchange:
 
         A client without results is the host that its host_cpid names. One with results is the host that has
         them. A copy is a new host, as in BOINC. Results that another host of the account has are reported for
-        that host. Results that no host is known to have are not reported, and as long as there are any, the
-        client is told no number: with a number its reports would be acknowledged.
+        that host. Results that no host is known to have are not reported. As long as there are any, the
+        client is told no number, since with a number its reports would be acknowledged, and it gets no job.
         """
         client = ClientState()
         if original is None:
@@ -167,22 +167,44 @@ class Exchange:
         if isinstance(found, PutOff):
             return found
         key, holders = found
-        acknowledged: list[str] = []
-        for other in dict.fromkeys(holders.values()):
-            if other != key:
-                acknowledged += self._reported_for(other, request, holders)
         unheld = [name for name in names_of(request.results) if name not in holders]
-        reply = self._call(key, of_host(request, key, holders, unheld), client)
+        aside = self._reported_aside(request, holders, None if unheld else key)
+        if isinstance(aside, PutOff):
+            return aside
+        if unheld:
+            log.warning(
+                "account %s: no known host has %s, so its report is not taken (%d results)",
+                shown_key(request.authenticator), unheld[0], len(unheld),
+            )
+            notice = not_taken(unheld)
+            return PutOff(notice, HOUR, "notice") if aside is None else replace(aside, notice=notice)
+        acknowledged = aside.reply.result_ack if aside else []
+        results = tuple(result for result in request.results if holders[result.name] == key)
+        if len(results) + len(set(acknowledged)) < len(set(names_of(request.results))) and aside:
+            return aside  # not all fitted into a call
+        reply = self._call(key, replace(request, results=results), client)
         if isinstance(reply, PutOff):
             return reply
         reply = replace(reply, result_ack=reply.result_ack + acknowledged)
-        if not unheld:
-            return Answered(reply, self.numbers.told_hostid(key))
-        log.warning(
-            "account %s: no known host has %s, so its report is not taken (%d results)",
-            shown_key(request.authenticator), unheld[0], len(unheld),
-        )
-        return Answered(replace(reply, result_abort=[]), notice=not_taken(unheld))
+        return Answered(reply, self.numbers.told_hostid(key))
+
+    def _reported_aside(
+        self, request: ClientRequest, holders: dict[str, Key], but: Key | None
+    ) -> Answered | PutOff | None:
+        """Reports results for the hosts that have them, but for one host. Returns a reply without jobs that
+        acknowledges them, or None if there are none.
+        """
+        hosts = dict.fromkeys(holders[name] for name in names_of(request.results) if name in holders)
+        last: Reply | None = None
+        for key in hosts:
+            if key == but:
+                continue
+            results = tuple(result for result in request.results if holders.get(result.name) == key)
+            reply = self._called_aside(key, request, results)
+            if isinstance(reply, PutOff):
+                return reply
+            last = replace(reply, result_ack=(last.result_ack if last else []) + reply.result_ack)
+        return None if last is None else Answered(last)
 
     def _host_of_copy(self, request: ClientRequest, original: KnownHost) -> "Found | PutOff":
         """Returns the key of a copy, and which host has each of its reported results.
@@ -193,7 +215,7 @@ class Exchange:
         """
         reported = names_of(request.results)
         if reported and self.search.operator_key is not None and not self._has_host(original.key):
-            asked = self._call(original.key, without_results(request))
+            asked = self._called_aside(original.key, request, ())
             if isinstance(asked, PutOff):
                 return asked
         key = self.hosts.key_for_copy(request.authenticator, request.hostid)
@@ -217,7 +239,7 @@ class Exchange:
         holders = self.search.holders(key, reported | set(request.other_results or ()))
         if reported - holders.keys() and not self._has_host(key):
             # bsched may have the host, and the bridge does not know by which number: a call tells it
-            asked = self._call(key, without_results(request))
+            asked = self._called_aside(key, request, ())
             if isinstance(asked, PutOff):
                 return asked
             holders |= dict.fromkeys(self.search.held(key, reported - holders.keys()), key)
@@ -232,13 +254,20 @@ class Exchange:
         number = self.hosts.scheduler_hostid(key)
         return number is not None and self.scheduler.has_host(key.authenticator, key.host_cpid, number)
 
-    def _reported_for(self, key: Key, request: ClientRequest, holders: dict[str, Key]) -> list[str]:
-        """Reports the results that another host has, and returns the names that are acknowledged."""
-        results = tuple(result for result in request.results if holders.get(result.name) == key)
-        if not results:
-            return []
-        reply = self._call(key, replace(without_results(request), results=results))
-        return [] if isinstance(reply, PutOff) else reply.result_ack
+    def _called_aside(self, key: Key, request: ClientRequest, results: tuple[Report, ...]) -> Reply | PutOff:
+        """Calls for a host that may not be the client. It reports some results and nothing else, and the jobs
+        that are in hand for the host's own client stay so.
+        """
+        aside = replace(request, results=results, other_results=None, work_req_seconds=0)
+        with self._locks.held(key):
+            self._resend(key)
+            in_hand = self.numbers.jobs_in_hand(key)
+            checked = aside if self.reports is None else self.reports.checked(key, aside)
+            reply = self._called(key, checked, ClientState())
+            if isinstance(reply, Reply):
+                self.numbers.has_in_hand(key, jobs_with(reply, in_hand))
+                return replace(reply, results=[], result_abort=[])
+            return reply
 
     # ---- Calls
 
@@ -331,24 +360,6 @@ class Exchange:
 def names_of(results: Iterable[Report]) -> list[str]:
     """Returns the names of reported results."""
     return [result.name for result in results]
-
-
-def without_results(request: ClientRequest) -> ClientRequest:
-    """Returns a request that reports nothing, lists nothing and asks for no job."""
-    return replace(request, results=(), other_results=None, work_req_seconds=0)
-
-
-def of_host(
-    request: ClientRequest, key: Key, holders: dict[str, Key], unheld: list[str]
-) -> ClientRequest:
-    """Returns the request with the results that a host has. Those that nobody is known to have are listed, so
-    that they don't count as lost if the host has them after all.
-    """
-    other = request.other_results
-    return replace(
-        request, results=tuple(result for result in request.results if holders.get(result.name) == key),
-        other_results=None if other is None else (*other, *unheld),
-    )
 
 
 def jobs_with(reply: Reply, in_hand: list[Job]) -> list[Job]:

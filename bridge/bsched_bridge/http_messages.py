@@ -2,11 +2,10 @@
 import logging
 import re
 import traceback
+from collections.abc import Iterator
 from dataclasses import dataclass, field
 from typing import Any
 from urllib.parse import parse_qs
-
-from . import client_requests
 
 XML, HTML, TEXT = "text/xml; charset=utf-8", "text/html; charset=utf-8", "text/plain; charset=utf-8"
 BYTES = "application/octet-stream"
@@ -24,6 +23,7 @@ PHRASES = {
     500: "Internal Server Error",
 }
 LENGTH = re.compile("[0-9]{1,18}")
+BLOCK = 65536  # bytes that are read or sent at once
 FORM = "application/x-www-form-urlencoded"
 MOST_FORM, MOST_FIELDS = 16_384, 32  # bytes of a form, fields of a form or a query
 NO_STORE = {"Cache-Control": "no-store"}
@@ -72,17 +72,29 @@ def is_of_no_browser(environ: Environ) -> None:
         raise HttpFault(403)
 
 
-def body_of(environ: Environ, most: int = client_requests.MOST_BYTES) -> bytes:
-    """Returns the body of a POST."""
+def length_of(environ: Environ, most: int) -> int:
+    """Returns the length of the body of a POST."""
     length = environ.get("CONTENT_LENGTH") or ""
     if not LENGTH.fullmatch(length):
         raise HttpFault(411)
     if int(length) > most:
         raise HttpFault(413)
-    body: bytes = environ["wsgi.input"].read(int(length))
-    if len(body) != int(length):
-        raise HttpFault(400)
-    return body
+    return int(length)
+
+
+def body_of(environ: Environ, most: int) -> bytes:
+    """Returns the body of a POST."""
+    return b"".join(blocks_of(environ, length_of(environ, most)))
+
+
+def blocks_of(environ: Environ, length: int) -> Iterator[bytes]:
+    """Yields the body of a POST in blocks, so that a long one is never in memory as a whole."""
+    while length > 0:
+        block: bytes = environ["wsgi.input"].read(min(BLOCK, length))
+        if not block:
+            raise HttpFault(400)
+        length -= len(block)
+        yield block
 
 
 def fields_of(text: str) -> dict[str, str]:

@@ -13,10 +13,10 @@ from collections.abc import Iterable
 from dataclasses import dataclass, replace
 
 from .catalogue import Catalogue
-from .client_requests import MOST_OUTPUT, UPLOAD_STATUS, ClientRequest, Report, ReportedFile
+from .client_requests import UPLOAD_STATUS, ClientRequest, Report, ReportedFile
 from .handed_out import HandedJob, HandedOut, Outcome
 from .hosts import Hosts, Key
-from .output_files import OutputFile, StoredOutput, compared_text, upload_name
+from .output_files import MOST_OUTPUT, OutputFile, StoredOutput, compared_text, upload_name
 from .scheduler import Job, Scheduler
 from .upload_store import Upload, UploadStore
 from .words import cut_to_bytes

@@ -9,7 +9,7 @@ from plain_formats import record_of
 from bsched_bridge import calls
 from bsched_bridge.client_requests import Report, read_request
 
-REQUEST = read_request(request(hostid=7).encode())
+REQUEST = read_request([request(hostid=7).encode()])
 
 
 def told(asked, in_hand=(), seconds=0):

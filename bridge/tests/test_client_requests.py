@@ -1,21 +1,30 @@
 """What the bridge reads from XML, and what it refuses."""
 import re
+import subprocess
+import sys
 import time
 from pathlib import Path
 
 import pytest
 from hypothesis import example, given
 from hypothesis import strategies as st
+from hostile import SHAPES
 from messages import request
 
-from bsched_bridge import client_requests
-from bsched_bridge.client_requests import Report, RequestFault, between, read_request
+from bsched_bridge import client_requests, request_parts
+from bsched_bridge.client_requests import Report
+from bsched_bridge.request_parts import MOST_XML, RequestFault, between
 
 RECORDED = Path(__file__).parent / "requests"
 
 
 def recorded(name):
     return (RECORDED / f"{name}.xml").read_bytes()
+
+
+def read_request(body, size=65_536):
+    """Returns the request in a body that comes in blocks of a size."""
+    return client_requests.read_request(body[start:start + size] for start in range(0, len(body), size))
 
 
 def test_a_first_request():
@@ -94,28 +103,52 @@ def test_each_result_has_its_own_standard_error():
 def test_sections_are_looked_at_once():
     part = b"<stderr_out><![CDATA["
     began = time.process_time()
-    for body in (part * 350_000, (part + b"]]>") * 350_000, (part + b"</stderr_out>") * 200_000):
+    for body in (part * 350_000, (part + b"]]>") * 350_000, (part + b"]]></stderr_out>") * 200_000):
         with pytest.raises(RequestFault):
             read_request(body)
     assert time.process_time() - began < 60  # each section is looked at once; otherwise it would take hours
 
 
-PARTS = ["<t>", "</t>", "<", ">", "t", "/", "\n", "\r", "\u2028", "é"]
+PARTS = [b"<t>", b"</t>", b"<", b">", b"t", b"/", b"\n", b"\r", b"\xe2", b"\xa8"]
 
 
-@given(st.lists(st.sampled_from(PARTS), max_size=12).map("".join))
-@example("</t><t>a<t>b</t>c</t>d")
-@example("<t></t>")
-@example("<t>a")
+@given(st.lists(st.sampled_from(PARTS), max_size=12).map(b"".join))
+@example(b"</t><t>a<t>b</t>c</t>d")
+@example(b"<t></t>")
+@example(b"<t>a")
 def test_what_is_between_two_tags(text):
-    for pattern, to_the_last in (("<t>(.*?)</t>", False), ("<t>(.*)</t>", True)):
+    for pattern, to_the_last in ((b"<t>(.*?)</t>", False), (b"<t>(.*)</t>", True)):
         found = re.search(pattern, text, re.DOTALL)
-        assert between(text, "<t>", "</t>", to_the_last) == (found and found[1])
+        assert between(text, b"<t>", b"</t>", to_the_last) == (found and found[1])
+
+
+@pytest.mark.parametrize("name", ["first", "reports", "unlisted"])
+@given(size=st.integers(1, 300))
+def test_the_size_of_blocks_makes_no_difference(name, size):
+    assert read_request(recorded(name), size) == read_request(recorded(name))
+
+
+@given(st.lists(st.sampled_from(["]]>", "</stderr_out>", "<stderr_out>", "<![CDATA[", "é", "\n", "<answer>", "x"])),
+       st.integers(1, 60))
+def test_any_standard_error_in_blocks_of_any_size(parts, size):
+    output = "".join(parts)
+    body = request(reports=[("u1_0", "HERE"), ("u2_0", "two")]).replace("HERE", f"<answer>{output}</answer>")
+    expected = output.partition("</answer>")[0].strip()
+    if re.search(r"]]>\s*</stderr_out>", output) is None:
+        assert [one.output for one in read_request(body.encode(), size).results] == [expected, "two"]
+
+
+def test_messages_of_programs_are_left_out():
+    message = "<msg_from_host>\n<result_name>u1_0</result_name>\n<text>a < b & c]]>\x01</text>\n</msg_from_host>\n"
+    body = request(extra=message * 2, reports=[("u1_0", "<msg_from_host>")]).encode()
+    assert read_request(body).results == (Report("u1_0", 0, "<msg_from_host>"),)
+    with pytest.raises(RequestFault):
+        read_request(request(extra="<msg_from_host>").encode())
 
 
 @pytest.mark.parametrize("tag", ["<answer>", "<stderr_txt>", "<stderr_txt><answer>"])
 def test_tags_that_are_never_closed(tag):
-    output = tag * (600_000 // tag.count("<"))
+    output = tag * (request_parts.MOST_ERROR // 25)
     assert read_request(request(reports=[("u1_0", "")]).replace(
         "<stderr_txt>\n\n</stderr_txt>", output
     ).encode()).results[0].output == output[:1024]
@@ -172,15 +205,47 @@ def test_faulty_requests(fault):
         read_request(FAULTS[fault].encode())
 
 
-def test_a_huge_request(monkeypatch):
-    monkeypatch.setattr(client_requests, "MOST_BYTES", 1000)
-    with pytest.raises(RequestFault, match="too long"):
-        read_request(b"<" + b"a" * 1000)
+def test_a_huge_request():
+    with pytest.raises(RequestFault, match="request is too long"):
+        read_request(b"<scheduler_request>" + b" " * MOST_XML)
+    with pytest.raises(RequestFault, match="standard error of a result is too long"):
+        read_request(request(reports=[("u1_0", "x" * request_parts.MOST_ERROR)]).encode())
+    longest = "&#195;" * 65_536  # 64 KB beyond ASCII, as a client writes them
+    assert read_request(request(reports=[("u1_0", longest)]).encode()).results[0].output == "\ufffd" * 341
 
 
-def test_a_request_of_too_many_elements():
+@pytest.mark.parametrize("text", ["<a/>" * client_requests.MOST_ELEMENTS, "<a>" * 21])
+def test_a_request_of_too_many_elements(text):
     with pytest.raises(RequestFault, match="too many elements"):
-        read_request(b"<scheduler_request>" + b"<a/>" * client_requests.MOST_TAGS)
+        read_request(b"<scheduler_request>" + text.encode())
+
+
+def test_a_request_of_too_many_results():
+    error = b"<stderr_out></stderr_out>"
+    with pytest.raises(RequestFault, match="too many results"):
+        read_request(b"<scheduler_request>" + error * (request_parts.MOST_ERRORS + 1))
+
+
+@pytest.mark.parametrize("text", ["<a " + "".join(f"a{n}=''" for n in range(20_000)), "<!--" + "x" * 140_000])
+def test_a_tag_of_too_many_attributes(text):
+    with pytest.raises(RequestFault):
+        read_request(b"<scheduler_request>" + text.encode())
+
+
+def test_bytes_that_are_no_xml_outside_of_a_standard_error():
+    told = read_request(request(extra="<name>A\x01HERE\ufffe</name>").encode().replace(b"HERE", b"\xff"))
+    assert told.host_cpid == "c1"
+
+
+def test_hostile_requests_take_little_memory_and_time():
+    """Eight at once take as much memory as 64, since the others wait; bridge/tests/hostile.py reads more."""
+    told = subprocess.run(
+        [sys.executable, Path(__file__).parent / "hostile.py", "8", "2"], check=True, capture_output=True, text=True
+    ).stdout
+    lines = re.findall(r"^(\d+) MB, ([0-9.]+) seconds: ", told, re.MULTILINE)
+    assert len(lines) == len(SHAPES)
+    assert max(int(peak) for peak, _ in lines) < 300
+    assert max(float(seconds) for _, seconds in lines) < 2
 
 
 def test_a_deep_request():

@@ -105,6 +105,12 @@ def test_a_lost_state_file_and_a_changed_host_cpid(two, twin, monkeypatch, caplo
         assert "can't tell which computer got u2_0" in value(reply, "message")
     assert "no known host has u2_0, so its report is not taken (1 results)" in caplog.text
     assert recorded(twin, "u2_0") is None
+    # what is known to be its own is taken, and it gets no job
+    two.call(request(cpid="new", seconds=60))
+    assert value(reply, "request_delay") == "3600.000000"
+    reply = two.call(request(hostid=B, cpid="new", reports=[("u2_0", "42"), ("u3_0", "42")], seconds=99))
+    assert names(reply, "result_ack") == ["u3_0"] and recorded(twin, "u3_0") == "new" and jobs(reply) == []
+    assert value(reply, "hostid") is None and "can't tell which computer got u2_0" in value(reply, "message")
     # once the volunteer has added the project again, it goes on
     assert value(two.call(request(cpid="new", seconds=0)), "hostid") == str(FIRST + 1001)
 

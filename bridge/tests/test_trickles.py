@@ -4,14 +4,19 @@ import time
 import pytest
 from messages import FIRST, jobs, request, value
 
-from bsched_bridge.client_requests import read_request
-from bsched_bridge.trickles import without_messages
+from bsched_bridge import client_requests
+from bsched_bridge.request_parts import RequestFault
 
 # as client 7.20.5 sends it, after the last result and before <app_versions>
 MESSAGE = (
     "<msg_from_host>\n      <result_name>u1_0</result_name>\n      <time>1795931199</time>\n"
     "<variety>steps</variety>\nTEXT\n\n  </msg_from_host>\n"
 )
+
+
+def read_request(body):
+    """Returns the request in a body."""
+    return client_requests.read_request([body])
 
 
 def with_messages(*texts, **more):
@@ -36,7 +41,6 @@ def test_a_message_of_any_text_is_left_out(text):
 @pytest.mark.parametrize("output", [MESSAGE, "<msg_from_host>", "</msg_from_host>", "a <stderr_out>"])
 def test_what_a_program_wrote_to_its_standard_error_is_no_message(output):
     plain = request(reports=[("u1_0", output), ("u2_0", "5")]).encode()
-    assert without_messages(plain) == (plain, False)
     told = read_request(plain)
     assert not told.has_messages
     assert [report.output for report in told.results] == [output.strip(), "5"]
@@ -48,7 +52,8 @@ def test_what_a_program_wrote_to_its_standard_error_is_no_message(output):
 def test_messages_are_looked_for_once():
     began = time.process_time()
     for part in (b"<stderr_out></stderr_out>", b"<stderr_out>", b"<msg_from_host>", b"<stderr_out></stderr_out>x"):
-        without_messages(part * 600_000 + b"<msg_from_host>")
+        with pytest.raises(RequestFault):
+            read_request(b"<scheduler_request>" + part * 600_000 + b"<msg_from_host>")
     assert time.process_time() - began < 30  # otherwise it would take hours
 
 
