@@ -255,7 +255,7 @@ class Life:
         """
         for _ in range(LAST_ROUNDS):
             for client in self.clients:
-                for _ in range(2):  # of two copies one then has the lower count
+                for _ in range(self.chance.randint(1, 4)):  # of two copies one then has the lower count
                     self.clock.seconds += STEP_SECONDS
                     self.call(client, seconds=0)
         numbers = [client.hostid for client in self.clients if not client.finished]
