@@ -16,6 +16,11 @@ from .scheduler import Job, Reply
 from .state_file import StateFile
 
 
+# Open calls of accounts that the bridge does not know. Somebody may have made these accounts up, and each
+# call takes up to 262,144 bytes of the disk until bsched answers.
+MOST_OF_STRANGERS = 32
+
+
 class CountEnded(Exception):
     """Raised if a key has used its last number."""
 
@@ -65,6 +70,25 @@ class CallNumbers:
             after.host_cpid,
         )
         return None if row is None else Key(cast(str, row[0]), cast(str, row[1]))
+
+    def is_of_stranger(self, key: Key) -> bool:
+        """Returns whether the bridge knows neither the host nor the account of a key."""
+        row = self.file.row(
+            "SELECT EXISTS (SELECT 1 FROM member WHERE authenticator = ?1) OR EXISTS (SELECT 1 FROM host "
+            "WHERE authenticator = ?1 AND host_cpid = ?2 AND (scheduler_hostid IS NOT NULL OR hostid IS NOT "
+            "NULL))",
+            key.authenticator, key.host_cpid,
+        )
+        return row == (0,)
+
+    def has_many_of_strangers(self) -> bool:
+        """Returns whether there are as many open calls of unknown accounts as there may be."""
+        row = self.file.row(
+            "SELECT count(*) FROM (SELECT 1 FROM host WHERE open_call IS NOT NULL AND scheduler_hostid IS "
+            "NULL AND hostid IS NULL AND NOT EXISTS (SELECT 1 FROM member WHERE member.authenticator = "
+            "host.authenticator) LIMIT ?)", MOST_OF_STRANGERS,
+        )
+        return row == (MOST_OF_STRANGERS,)
 
     def opened(
         self, key: Key, text: Callable[[int], bytes], above: int = 0, most_hosts: int | None = None,

@@ -306,8 +306,23 @@ class Exchange:
                 self.reports.hand_out(key, reply.results)
             return reply
 
+    def _is_made_up(self, key: Key) -> bool:
+        """Returns whether bsched does not have the account of a key, if it is doubtful.
+
+        While bsched gives no answer, each call stays on the disk, and anybody can make accounts up. So of an
+        account that the bridge does not know nothing is stored then before bsched says that it has it. Its
+        hosts can have no job. Raises NoAnswer.
+        """
+        if not self.numbers.is_of_stranger(key):
+            return False
+        if self.scheduler.silent_since is None and not self.numbers.has_many_of_strangers():
+            return False
+        return not self.scheduler.has_account(key.authenticator)
+
     def _called(self, key: Key, request: ClientRequest, client: ClientState) -> Reply | PutOff:
         """Returns the reply to a request. The key is held, and has no open call."""
+        if self._is_made_up(key):
+            return put_off_by(Refusal("bad_account"))
         listed = {*(request.other_results or ()), *names_of(request.results)}
         in_hand = [job for job in self.numbers.jobs_in_hand(key) if job.name not in listed]
         names, seconds = [job.name for job in in_hand], sum(job.estimate for job in in_hand)

@@ -32,6 +32,8 @@ CREATE UNIQUE INDEX host_by_number ON host (hostid);
 CREATE UNIQUE INDEX host_by_scheduler_number ON host (authenticator, scheduler_hostid);
 CREATE INDEX host_of_copy ON host (authenticator, copy_of) WHERE copy_of IS NOT NULL;
 CREATE INDEX host_with_open_call ON host (authenticator, host_cpid) WHERE open_call IS NOT NULL;
+CREATE INDEX host_of_stranger ON host (authenticator)
+  WHERE open_call IS NOT NULL AND scheduler_hostid IS NULL AND hostid IS NULL;
 CREATE INDEX host_heard ON host (heard_at) WHERE scheduler_hostid IS NOT NULL;
 """
 # The numbers that clients were told. Up to version 2 they were told bsched's, which are at most 100,000.

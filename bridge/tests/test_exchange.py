@@ -8,6 +8,7 @@ from messages import FIRST, jobs, names, request, value
 from twin import Twin
 
 from bsched_bridge.hosts import FIRST_KEY, Key
+from bsched_bridge.call_numbers import MOST_OF_STRANGERS
 from bsched_bridge.exchange import Resending
 
 
@@ -332,6 +333,45 @@ def test_a_count_behind_that_of_bsched(bridge, twin, error):
 def test_an_account_that_does_not_stand_leaves_nothing(bridge):
     assert "Invalid or missing account key" in value(bridge.call(request(key="nobody")), "message")
     assert bridge.file.row("SELECT count(*) FROM host") == (0,)
+
+
+def made_up(number):
+    """Returns a long request of an account that somebody made up."""
+    return request(key=f"made-up-{number}", reports=[(f"u{n}_0", "x" * 1000) for n in range(250)])
+
+
+def test_calls_of_accounts_that_somebody_made_up_take_no_disk(project, bridge, twin):
+    def disk():
+        return sum(path.stat().st_size for path in project.glob("bridge.db*"))
+
+    twin.faults = ["unheard"] * 10_000
+    before = disk()
+    for number in range(100):
+        assert value(bridge.call(made_up(number)), "project_is_down") == "1"
+    assert disk() - before < 2_000_000  # the first call, in the file and its log
+    # a host of an account that bsched has gets its jobs as soon as there are answers
+    assert value(bridge.call(request()), "project_is_down") == "1"
+    twin.faults = []
+    assert jobs(bridge.call(request())) == ["u1_0"]
+    assert "Invalid or missing account key" in value(bridge.call(made_up(0)), "message")
+
+
+def test_calls_of_unknown_accounts_are_limited(bridge, twin, monkeypatch):
+    twin.faults = ["unheard"] * 10_000
+    for number in range(MOST_OF_STRANGERS + 5):
+        bridge.application.scheduler.silent_since = None  # as if another message had an answer meanwhile
+        bridge.call(request(key=f"made-up-{number}"))
+    assert bridge.file.row("SELECT count(*) FROM host") == (MOST_OF_STRANGERS,)
+    twin.faults = []
+    assert jobs(bridge.call(request())) == ["u1_0"]
+
+
+def test_calls_of_known_hosts_and_accounts_are_stored(bridge, twin):
+    bridge.call(request())
+    twin.faults = ["unheard"] * 9
+    for cpid, hostid in (("c1", FIRST), ("c2", 0), ("c3", 0)):
+        bridge.call(request(cpid=cpid, hostid=hostid))
+    assert bridge.file.row("SELECT count(*) FROM host WHERE open_call IS NOT NULL") == (3,)
 
 
 def test_a_resent_call_that_is_refused_is_let_go(bridge, twin):

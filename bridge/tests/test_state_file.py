@@ -187,4 +187,4 @@ def test_a_new_file_and_an_upgraded_one_have_the_same_tables(tmp_path):
         kept = file.rows("SELECT type, name FROM sqlite_schema WHERE name NOT LIKE 'sqlite_%' ORDER BY name")
         shapes.append([(kind, table, file.rows(f"PRAGMA table_xinfo({table})")) for kind, table in kept])
         file.close()
-    assert shapes[0] == shapes[1] == shapes[2] and len(shapes[0]) == 10
+    assert shapes[0] == shapes[1] == shapes[2] and len(shapes[0]) == 11
