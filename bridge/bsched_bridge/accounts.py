@@ -11,6 +11,7 @@ import secrets
 import time
 from collections.abc import Iterator
 from contextlib import contextmanager
+from dataclasses import dataclass
 from enum import Enum
 
 from .key_locks import Busy, KeyLocks
@@ -112,6 +113,13 @@ def at_work(places: Places) -> Iterator[None]:
         raise AccountFault(Fault.TOO_BUSY) from None
 
 
+@dataclass(slots=True)
+class Attempt:
+    """An attempt with a password or a key."""
+
+    is_wrong: bool = False
+
+
 class Accounts:
     """Makes accounts and finds them. Each message about them has a place, which it takes by at_work."""
 
@@ -196,34 +204,38 @@ class Accounts:
         """Counts one more wrong key for a client if the block ends with that fault. After too many of them it
         refuses the client.
         """
-        if not self._wrong.take(("client", client)):
-            raise AccountFault(Fault.TOO_MANY)
-        is_wrong = False
-        try:
-            yield
-        except AccountFault as fault:
-            is_wrong = fault.fault is Fault.WRONG_KEY
-            raise
-        finally:
-            if not is_wrong:
-                self._wrong.give_back(("client", client))
+        with self._attempted(("client", client)) as attempt:
+            try:
+                yield
+            except AccountFault as fault:
+                attempt.is_wrong = fault.fault is Fault.WRONG_KEY
+                raise
 
     def _is_right(self, email: str, told: str, member: Member | None, client: str) -> bool:
         """Returns whether a password is that of an account. Wrong ones are counted for the client and for the
         address.
         """
-        keys = ("client", client), ("email", email)
-        taken = [key for key in keys if self._wrong.take(key)]
-        is_wrong = False
+        with self._attempted(("client", client), ("email", email)) as attempt:
+            attempt.is_wrong = not self.passwords.is_right(told, None if member is None else member.secret)
+        return not attempt.is_wrong
+
+    @contextmanager
+    def _attempted(self, *keys: tuple[str, str]) -> Iterator[Attempt]:
+        """Counts one more wrong password for each key, if the block says that it was wrong. If a key has too
+        many of them, it refuses before the block, and counts nothing.
+        """
+        taken: list[tuple[str, str]] = []
+        attempt = Attempt()
         try:
-            if len(taken) < len(keys):
-                raise AccountFault(Fault.TOO_MANY)
-            is_wrong = not self.passwords.is_right(told, None if member is None else member.secret)
+            for key in keys:
+                if not self._wrong.take(key):
+                    raise AccountFault(Fault.TOO_MANY)
+                taken.append(key)
+            yield attempt
         finally:
-            if not is_wrong:
+            if not attempt.is_wrong:
                 for key in taken:
                     self._wrong.give_back(key)
-        return not is_wrong
 
     # ---- A new account
 

@@ -33,8 +33,8 @@ class Places:
 class RecentCounts:
     """Counts what each key did within the last seconds, and allows it no more than the limit.
 
-    The counts are in memory. If there are too many keys, the one that did nothing for the longest time is
-    forgotten.
+    The counts are in memory, for at most MOST_KEYS keys. A count that is still needed is never forgotten:
+    while there are as many keys, a new one is allowed nothing.
     """
 
     def __init__(self, most: int, seconds: float, clock: Callable[[], float] = time.monotonic) -> None:
@@ -46,16 +46,24 @@ class RecentCounts:
         """Counts one more for a key. If the key has reached its limit, counts nothing and returns False."""
         with self._lock:
             now = self.clock()
-            times = self._times.setdefault(key, [])
+            self._forget(now - self.seconds)
+            times = self._times.get(key, [])
             while times and times[0] <= now - self.seconds:
                 times.pop(0)
-            if len(times) >= self.most:
+            if len(times) >= self.most or (key not in self._times and len(self._times) >= MOST_KEYS):
                 return False
             times.append(now)
+            self._times[key] = times
             self._times.move_to_end(key)
-            if len(self._times) > MOST_KEYS:
-                self._times.popitem(last=False)
             return True
+
+    def _forget(self, until: float) -> None:
+        """Forgets the keys that did nothing since a moment. The one that did nothing for longest is first."""
+        while self._times:
+            key, times = next(iter(self._times.items()))
+            if times[-1] > until:
+                return
+            del self._times[key]
 
     def give_back(self, key: Hashable) -> None:
         """Takes back the last count of a key."""
@@ -63,6 +71,8 @@ class RecentCounts:
             times = self._times.get(key)
             if times:
                 times.pop()
+                if not times:
+                    del self._times[key]
 
 
 def network_of(address: str) -> str:

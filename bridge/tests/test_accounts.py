@@ -309,10 +309,31 @@ def test_old_counts_and_surplus_keys_are_forgotten(monkeypatch):
     now[0] = 60.0
     assert [counts.take("a") for _ in range(2)] == [True, False]
     monkeypatch.setattr("bsched_bridge.limits.MOST_KEYS", 3)
-    for key in "bcd":
-        assert counts.take(key)
-    assert list(counts._times) == ["b", "c", "d"]
+    assert [counts.take(key) for key in "bcd"] == [True, True, False]  # live counts stay
+    assert list(counts._times) == ["a", "b", "c"]
+    counts.give_back("c")
+    assert counts.take("d")
+    now[0] = 121.0
+    assert counts.take("e") and list(counts._times) == ["e"]
     counts.give_back("nobody")
+
+
+def test_counts_of_wrong_passwords_are_not_pushed_out(open_bridge, monkeypatch):
+    monkeypatch.setattr("bsched_bridge.limits.MOST_KEYS", 30)
+    key = create(open_bridge)
+    for number in range(100):
+        assert look_up(open_bridge, password=f"wrong-{number}") == (-155 if number < 10 else -183)
+    for number in range(100):  # of addresses that somebody made up, of a client that is refused
+        assert look_up(open_bridge, f"nobody{number}@sums.example") == -183
+    assert look_up(open_bridge) == look_up(open_bridge, client="192.0.2.9") == -183
+    # others are refused while the table is full, and have their turn when there is room
+    for number in range(40):
+        look_up(open_bridge, f"nobody{number}@sums.example", client=f"192.0.2.{number}")
+    assert look_up(open_bridge, "new@sums.example", client="192.0.2.99") == -183
+    counts = open_bridge.application.accounts._wrong
+    assert len(counts._times) <= 30
+    counts.clock = lambda: time.monotonic() + 3601
+    assert look_up(open_bridge) == key
 
 
 def test_whose_address_it_is(project, open_bridge):
