@@ -186,7 +186,7 @@ class Accounts:
         member = self.of_owner(authenticator, client)
         with self._held(email):
             try:
-                self.members.has_password(member, email, self.passwords.new_secret(told))
+                self.members.has_password(member, email, self.passwords.new_secret(told, client))
             except EmailTaken:
                 raise AccountFault(Fault.TAKEN) from None
         return member
@@ -216,7 +216,9 @@ class Accounts:
         address.
         """
         with self._attempted(("client", client), ("email", email)) as attempt:
-            attempt.is_wrong = not self.passwords.is_right(told, None if member is None else member.secret)
+            attempt.is_wrong = not self.passwords.is_right(
+                told, None if member is None else member.secret, client
+            )
         return not attempt.is_wrong
 
     @contextmanager
@@ -247,7 +249,7 @@ class Accounts:
             raise AccountFault(Fault.NETWORK_FULL)
         is_row = False
         try:
-            row = self._new_row(email, told, name, has_consent)
+            row = self._new_row(email, told, name, has_consent, client)
             is_row = True
             return self._finished(row)
         except AccountFault as fault:
@@ -257,14 +259,15 @@ class Accounts:
             if not is_row:
                 self._new.give_back(client)
 
-    def _new_row(self, email: str, told: str, name: str, has_consent: bool) -> Member:
+    def _new_row(self, email: str, told: str, name: str, has_consent: bool, client: str) -> Member:
         """Inserts the row of a new account, within the limit for a day."""
         chosen = (clean_name(name) if self.settings.is_name_told else "") or made_name()
         now, most = int(time.time()), self.settings.most_a_day
         try:
             if self.members.is_day_full(now, most):  # checked before the costly hash; insert counts again
                 raise DayIsFull
-            return self.members.insert(email, self.passwords.new_secret(told), chosen, has_consent, now, most)
+            secret = self.passwords.new_secret(told, client)
+            return self.members.insert(email, secret, chosen, has_consent, now, most)
         except DayIsFull:
             log.warning("%d accounts were made in 24 hours, so no more are made now", most)
             raise AccountFault(Fault.DAY_FULL) from None

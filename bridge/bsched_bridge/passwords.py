@@ -13,11 +13,17 @@ from collections.abc import Iterator
 from contextlib import contextmanager
 from dataclasses import dataclass
 
+from .key_locks import Busy, KeyLocks
+from .limits import RecentCounts
+
 HASH = re.compile("[0-9a-f]{32}")
 SALT_BYTES = 16
 MOST_MEMORY = 2**26  # bytes; a hash takes 32 MB
 AT_ONCE, WAITING = 2, 2
 WAIT_SECONDS = 5.0
+# For one client address, right or wrong: 5 seconds of a processor in a minute. So the owner of an account
+# can't keep others from their log-ins.
+MOST_HASHES, MINUTE = 40, 60.0
 
 
 class TooBusy(Exception):
@@ -73,7 +79,8 @@ def scrypt(told: str, salt: bytes, cost: Cost) -> bytes:
 class Passwords:
     """Makes and checks secrets. It does at most two at once, since each takes memory and time.
 
-    Only a few may wait for their turn, so that other messages find a free thread.
+    Only a few may wait for their turn, so that other messages find a free thread. One client has one turn at
+    a time, and only so many in a minute.
     """
 
     def __init__(self, cost: Cost = COST) -> None:
@@ -81,10 +88,23 @@ class Passwords:
         self._unknown = Secret(secrets.token_bytes(SALT_BYTES), b"", cost.text())
         self._turns = threading.BoundedSemaphore(AT_ONCE)
         self._places = threading.BoundedSemaphore(AT_ONCE + WAITING)
+        self._clients = KeyLocks(0)
+        self._recent = RecentCounts(MOST_HASHES, MINUTE)
 
     @contextmanager
-    def _turn(self) -> Iterator[None]:
+    def _turn(self, client: str) -> Iterator[None]:
         """Takes one of the few turns in which a hash is computed."""
+        try:
+            with self._clients.held(client), self._place():
+                if not self._recent.take(client):
+                    raise TooBusy
+                yield
+        except Busy:
+            raise TooBusy from None
+
+    @contextmanager
+    def _place(self) -> Iterator[None]:
+        """Takes a place, and waits there for the turn."""
         if not self._places.acquire(blocking=False):
             raise TooBusy
         try:
@@ -97,16 +117,16 @@ class Passwords:
         finally:
             self._places.release()
 
-    def new_secret(self, told: str) -> Secret:
-        """Returns what is kept of a new password."""
+    def new_secret(self, told: str, client: str) -> Secret:
+        """Returns what is kept of a new password that a client sent."""
         salt = secrets.token_bytes(SALT_BYTES)
-        with self._turn():
+        with self._turn(client):
             return Secret(salt, scrypt(told, salt, self.cost), self.cost.text())
 
-    def is_right(self, told: str, secret: Secret | None) -> bool:
-        """Returns whether a password is the one that is kept. If none is kept, the answer is no, and takes
-        the same time.
+    def is_right(self, told: str, secret: Secret | None, client: str) -> bool:
+        """Returns whether a password that a client sent is the one that is kept. If none is kept, the answer
+        is no, and takes the same time.
         """
         kept = secret or self._unknown
-        with self._turn():
+        with self._turn(client):
             return hmac.compare_digest(scrypt(told, kept.salt, read_cost(kept.cost)), kept.digest)

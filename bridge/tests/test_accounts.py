@@ -15,6 +15,7 @@ from joining import (
 )
 from messages import FIRST, request, value
 
+from bsched_bridge import passwords
 from bsched_bridge.accounts import account_import, clean_name, is_email
 from bsched_bridge.limits import RecentCounts, is_loopback, network_of
 from bsched_bridge.members import DayIsFull, Member
@@ -392,10 +393,10 @@ def test_what_is_kept_of_a_password(open_bridge):
 
 
 def test_a_password_keeps_its_cost():
-    secret = Passwords(Cost(2**4, 8, 1)).new_secret("0" * 32)
+    secret = Passwords(Cost(2**4, 8, 1)).new_secret("0" * 32, CLIENT)
     other = Passwords(Cost(2**5, 8, 1))
-    assert other.is_right("0" * 32, secret) and not other.is_right("1" * 32, secret)
-    assert not other.is_right("0" * 32, None)
+    assert other.is_right("0" * 32, secret, CLIENT) and not other.is_right("1" * 32, secret, CLIENT)
+    assert not other.is_right("0" * 32, None, CLIENT)
     assert own_client_hash("secret1", EMAIL) == client_hash("secret1", EMAIL)
 
 
@@ -410,7 +411,7 @@ def test_an_unknown_address_takes_a_hash_too(open_bridge, monkeypatch):
 
 def test_two_hashes_at_once_and_few_that_wait(monkeypatch):
     monkeypatch.setattr("bsched_bridge.passwords.WAIT_SECONDS", 5.0)
-    passwords, running, most, ended = Passwords(Cost(2**4, 8, 1)), [], [], threading.Event()
+    hashes, running, most, ended = Passwords(Cost(2**4, 8, 1)), [], [], threading.Event()
 
     def slow(_told, _salt, _cost):
         running.append(1)
@@ -420,17 +421,62 @@ def test_two_hashes_at_once_and_few_that_wait(monkeypatch):
         return b""
 
     monkeypatch.setattr("bsched_bridge.passwords.scrypt", slow)
-    threads = [threading.Thread(target=passwords.new_secret, args=("0" * 32,)) for _ in range(4)]
+    threads = [threading.Thread(target=hashes.new_secret, args=("0" * 32, str(n))) for n in range(4)]
     for thread in threads:
         thread.start()
-    wait_until(lambda: not passwords._places._value)
+    wait_until(lambda: not hashes._places._value)
     with pytest.raises(TooBusy):
-        passwords.new_secret("0" * 32)
+        hashes.new_secret("0" * 32, "another")
     ended.set()
     for thread in threads:
         thread.join()
     assert max(most) == 2
-    passwords.new_secret("0" * 32)
+    hashes.new_secret("0" * 32, "another")
+
+
+def test_one_client_has_one_hash_at_once(open_bridge, monkeypatch):
+    key = create(open_bridge)
+    began, ended = threading.Event(), threading.Event()
+    scrypt = passwords.scrypt
+
+    def slow(*words):
+        began.set()
+        ended.wait(5)
+        return scrypt(*words)
+
+    monkeypatch.setattr("bsched_bridge.passwords.scrypt", slow)
+    thread = threading.Thread(target=look_up, args=(open_bridge,))
+    thread.start()
+    assert began.wait(5)
+    monkeypatch.setattr("bsched_bridge.passwords.scrypt", scrypt)
+    with open_bridge.application.accounts._locks.held("other"):
+        create(open_bridge, "bob@sums.example", client="192.0.2.1")
+    assert look_up(open_bridge, "bob@sums.example") == -183  # of the client that has a hash
+    assert look_up(open_bridge, "bob@sums.example", client="192.0.2.1") not in (-183, -155)
+    ended.set()
+    thread.join()
+    assert look_up(open_bridge) == key
+
+
+def test_one_client_has_so_many_hashes_in_a_minute(open_bridge):
+    key = create(open_bridge)
+    answers = [look_up(open_bridge) for _ in range(50)]
+    assert answers == [key] * 39 + [-183] * 11
+    assert look_up(open_bridge, client="192.0.2.1") == key
+    recent = open_bridge.application.accounts.passwords._recent
+    recent.clock = lambda: time.monotonic() + 61
+    assert look_up(open_bridge) == key
+
+
+def test_a_hash_that_waited_too_long(monkeypatch):
+    monkeypatch.setattr("bsched_bridge.passwords.WAIT_SECONDS", 0.01)
+    made = Passwords(Cost(2**4, 8, 1))
+    for _ in range(passwords.AT_ONCE):
+        made._turns.acquire()
+    with pytest.raises(TooBusy):
+        made.new_secret("0" * 32, CLIENT)
+    made._turns.release()
+    made.new_secret("0" * 32, CLIENT)
 
 
 def test_what_is_refused_takes_no_hash(project, open_bridge, monkeypatch):
@@ -596,7 +642,7 @@ def test_creations_at_once_are_one(open_bridge, twin, monkeypatch):
 
 def test_the_day_is_counted_where_the_row_is_made(open_bridge):
     """Creations that come at once check the day before any of them has its row."""
-    members, secret = open_bridge.members, Passwords(Cost(2**4, 8, 1)).new_secret("0" * 32)
+    members, secret = open_bridge.members, Passwords(Cost(2**4, 8, 1)).new_secret("0" * 32, CLIENT)
     for number in range(2):
         members.insert(f"u{number}@sums.example", secret, "N", False, 1000, 2)
     with pytest.raises(DayIsFull):
