@@ -72,6 +72,11 @@ class Fault(Enum):
         return self.value[1]
 
 
+# A creation fails so only if its address has no account. It is counted like a wrong password, so nobody can
+# ask about many addresses.
+SAY_FREE = {Fault.NO_CONSENT, Fault.NETWORK_FULL, Fault.DAY_FULL, Fault.PROJECT_FULL}
+
+
 class AccountFault(Exception):
     """Raised if a message about an account fails."""
 
@@ -152,7 +157,12 @@ class Accounts:
         with self._held(email):
             member = self.members.of_email(email)
             if member is None:
-                return self._made(email, told, name, has_consent, client)
+                with self._attempted(("client", client)) as attempt:
+                    try:
+                        return self._made(email, told, name, has_consent, client)
+                    except AccountFault as fault:
+                        attempt.is_wrong = fault.fault in SAY_FREE
+                        raise
             if not self._is_right(email, told, member, client):
                 raise AccountFault(Fault.TAKEN)
             return self._finished(member)
@@ -184,10 +194,14 @@ class Accounts:
     def has_password(self, authenticator: str, email: str, told: str, client: str) -> Member:
         """Sets the address and the password of an account, and returns it. The owner sends the key."""
         member = self.of_owner(authenticator, client)
-        with self._held(email):
+        with self._held(email), self._attempted(("client", client), ("key", authenticator)) as attempt:
             try:
+                other = self.members.of_email(email)
+                if other is not None and other.id != member.id:
+                    raise EmailTaken
                 self.members.has_password(member, email, self.passwords.new_secret(told, client))
             except EmailTaken:
+                attempt.is_wrong = True  # it says that the address has an account
                 raise AccountFault(Fault.TAKEN) from None
         return member
 

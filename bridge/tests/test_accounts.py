@@ -6,6 +6,7 @@ import re
 import threading
 import time
 import xml.etree.ElementTree as ElementTree
+from urllib.parse import urlencode
 
 import pytest
 from hypothesis import given
@@ -196,10 +197,37 @@ def test_a_name_that_is_told(project, open_bridge, twin, sent, kept):
 def test_a_thousand_creations_from_one_address(open_bridge, twin):
     answers = [create(open_bridge, f"u{number}@sums.example") for number in range(1000)]
     assert [type(answer) for answer in answers[:3]] == [str] * 3
-    assert answers[3:] == [-208] * 997
+    assert answers[3:] == [-208] * 10 + [-183] * 987
     assert len(rows(open_bridge)) == len(made_accounts(twin)) == 3
-    assert look_up(open_bridge, "u0@sums.example") == answers[0]  # a user with an account is not affected
+    assert look_up(open_bridge, "u0@sums.example", client="198.51.100.8") == answers[0]
     assert isinstance(create(open_bridge, "v@sums.example", client="198.51.100.8"), str)
+
+
+def test_nobody_can_ask_whether_many_addresses_have_accounts(project, open_bridge, monkeypatch):
+    for number in range(20):
+        create(open_bridge, f"u{number}@sums.example", client=f"192.0.2.{number}")
+    key = create(open_bridge, client="192.0.2.99")
+    monkeypatch.setattr("bsched_bridge.passwords.scrypt", lambda *_words: 1 // 0)  # it takes no hash
+
+    def asked(email, client):
+        form = urlencode({"key": key, "email": email, "password": "secret1"}).encode()
+        kind = "application/x-www-form-urlencoded"
+        page = open_bridge.got("/p/get_passwd.php", "POST", form, CONTENT_TYPE=kind, REMOTE_ADDR=client)[2]
+        return "taken" if b"Another account has" in page else "many" if b"Too many wrong" in page else page
+
+    # neither from one address, nor with one key from many
+    assert [asked(f"u{number}@sums.example", CLIENT) for number in range(12)] == ["taken"] * 10 + ["many"] * 2
+    assert asked("u0@sums.example", "192.0.2.50") == "many" == asked("new@sums.example", "192.0.2.51")
+
+
+def test_creations_that_say_that_an_address_is_free_are_counted(project, open_bridge):
+    (project / "terms.txt").write_text("Be kind.")
+    with (project / "bridge.toml").open("a") as file:
+        file.write('terms = "terms.txt"\n')
+    open_bridge.restart()
+    answers = [create(open_bridge, f"u{number}@sums.example") for number in range(12)]
+    assert answers == [-242] * 10 + [-183] * 2
+    assert isinstance(create(open_bridge, client="192.0.2.1", consent_flag="1"), str)
 
 
 def test_addresses_of_one_network_are_one(open_bridge):
