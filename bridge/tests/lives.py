@@ -193,7 +193,7 @@ class Life:
         call = json.loads(self.twin.heard[-1])
         client.heard_as = call["authenticator"], call["host_info"]["host_cpid"]
         for name in names(reply, "result_ack"):
-            self.is_acknowledged(client, name)
+            self.is_acknowledged(client, name, name in jobs(reply))
         for name in names(reply, "result_abort"):
             if name in client.working:
                 client.finished[name] = client.working.pop(name)
@@ -212,16 +212,16 @@ class Life:
         keys = [key for key, host in machine.hosts.items() if host is instance.host]
         return keys[0], instance.exit_status is not None
 
-    def is_acknowledged(self, client, name) -> None:
-        """Checks that the report is recorded. If the tables have changed since the client got the job, they may
-        not know that it got the job.
+    def is_acknowledged(self, client, name, is_given_anew) -> None:
+        """Checks that the report is recorded. If the tables have changed since the client got the job, they
+        may not know that it got the job, and may give it out anew.
         """
         grant = client.finished.pop(name)
         if name in client.aborted:
             client.aborted.discard(name)
             return
         owner, is_reported = self.owner(name)
-        if owner == grant.holder:
+        if owner == grant.holder and not (is_given_anew and grant.tables != self.tables):
             assert is_reported, f"{name} of {owner} is acknowledged and not recorded"
         else:
             assert grant.tables != self.tables, f"{name} is not that of {grant.holder}"
