@@ -162,6 +162,7 @@ def test_the_printed_commands_end_at_a_refused_import(
 ) -> None:
     printed = machine.make("--example", "sums").stdout.partition("\nThe bridge: ")[0]
     commands = "\n".join(line for line in printed.splitlines() if line.startswith("  "))
+    commands = commands.partition("bsched-copy@")[0].rpartition("\n")[0]
     stubs = f"bsched() {{ echo $5; [ $5 != {refused} ]; }}\nsystemctl() {{ echo systemctl; }}\n"
     words = ["bash", "-c", f"{STUBS}{stubs}{commands}"]
     told = subprocess.run(words, capture_output=True, text=True, timeout=30)
@@ -235,10 +236,13 @@ def test_a_real_project_has_no_accounts(machine: Machine) -> None:
     bridge = tomllib.loads((machine.projects / "sums" / "bridge" / "bridge.toml").read_text())
     ports = (machine.projects / "sums" / "environment").read_text().split()
     port, bridge_port = (line.partition("=")[2] for line in ports)
+    units = tomllib.loads((machine.projects / "sums" / "units.toml").read_text())
+    assert units["copy"]["folder"] == "/var/backups/bsched/sums"
     assert bridge == {
         "name": "sums", "url": "https://sums.example/", "listen": f"127.0.0.1:{bridge_port}",
         "scheduler": f"127.0.0.1:{port}", "operator_key": machine.key("sums"), "catalogue": "catalogue.toml",
-        "state": "bridge.db", "accounts": {"most_a_day": 100, "address_field": "X-Real-IP"},
+        "state": "bridge.db", "counts": "../units/counts.json",
+        "accounts": {"most_a_day": 100, "address_field": "X-Real-IP"},
     }
 
 

@@ -3,6 +3,7 @@ import os
 import re
 import subprocess
 import sys
+import tomllib
 from collections.abc import Callable
 from pathlib import Path
 
@@ -59,7 +60,7 @@ def offered_by(*words: str) -> set[str]:
     path = {"PYTHONPATH": f"{TOP}/bridge:{TOP}/tools", "PYTHONDONTWRITEBYTECODE": "1"}
     command = [*words, "--help"]
     told = subprocess.run(command, env=path, capture_output=True, text=True, timeout=60, check=True)
-    return set(re.findall(r"--[a-z-]+", told.stdout)) - {"--help"}
+    return set(re.findall(r"(?<![a-z])--[a-z-]+", told.stdout)) - {"--help"}
 
 
 @pytest.mark.parametrize("module", ["bsched_tools", "bsched_bridge"])
@@ -74,7 +75,8 @@ def test_each_synopsis_has_the_options_of_the_help(module: str) -> None:
 def test_the_synopsis_of_bsched_project_has_the_options_of_its_help() -> None:
     page = synopsis("bsched-project.8")
     assert set().union(*page.values()) == offered_by(f"{TOP}/packaging/bsched-project")
-    usage = subprocess.run([f"{TOP}/packaging/bsched-project", "--help"], capture_output=True, text=True).stdout
+    words = [f"{TOP}/packaging/bsched-project", "--help"]
+    usage = subprocess.run(words, capture_output=True, text=True, timeout=60).stdout
     for command in page:
         assert f" bsched-project {command}" in usage
 
@@ -236,3 +238,21 @@ def test_no_program_if_the_proof_fails(clone: Clone) -> None:
     (clone.tools / "rt").write_text("#!/bin/sh\nexit 1\n")
     assert clone.run("packaging/program").returncode == 1
     assert "nothing says from which sources" in clone.build()
+
+
+def test_the_manual_has_the_defaults_of_the_units() -> None:
+    sys.path.insert(0, str(TOP / "tools"))
+    from bsched_tools import projects
+    page = (TOP / "packaging" / "man" / "bsched-tools.1").read_text().replace("\\-", "-")
+    text = page[page.index("\n[copy]\n"):page.index("\ncopy_hours")] + "\ncopy_hours = 3\n"
+    folder = projects.Project(Path("/nowhere/NAME"))
+    stated = tomllib.loads(text)
+    default = folder.units()
+    assert {name: set(keys) for name, keys in stated.items()} == {
+        "copy": {"folder", "keep", "check"}, "results": {"command"}, "page": {"folder"},
+        "statistics": {"folder", "everybody"}, "health": {"mail", "copy_hours"}}
+    assert default == projects.UnitSettings(
+        Path(stated["copy"]["folder"]), stated["copy"]["keep"], stated["copy"]["check"],
+        tuple(stated["results"]["command"]), Path(stated["page"]["folder"]),
+        Path(stated["statistics"]["folder"]), stated["statistics"]["everybody"], stated["health"]["mail"],
+        stated["health"]["copy_hours"])

@@ -1,6 +1,7 @@
 """Tools for the operator of a project: copies while it serves, results, counts, and why a file is refused.
 
-All commands but `copy` and `doctor` read a copy of the tables. Nothing here writes the tables. The modules:
+All commands but `copy`, `doctor` and `import` read a copy of the tables. Nothing here writes the tables:
+`import` asks the scheduler, or runs bsched. The modules:
 
 faults, files         faults in one line, and files that are written whole or not at all
 holders, stopping     which process has the tables, and how it is stopped for a moment
@@ -9,8 +10,14 @@ copying               how a copy is made with these
 schemas, tables       the tables in a copy, opened for reading
 workunits             what became of a workunit, by the rules of docs/PROFILE.md
 results, cursors      the results of workunits, and which were given out before
+jobs                  what happened to one workunit, and what one computer did
 counts                how many there are of each thing
 members, averages, exports      users over several files, and the files that statistics sites read
 history, findings, plots, page  the page: what earlier reports counted, what it says, and how it is drawn
 checks, settings_file, doctor   why bsched refuses a file
+projects, volunteers  a project's folder, and which users agreed to be named, and how
+handing               new results for a program of the operator
+import_files, imports files that are imported: what is wrong with them, and how they are sent
+health                what answers, and what is old or nearly full
+command_line          the words of the command line
 """

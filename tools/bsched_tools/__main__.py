@@ -3,86 +3,76 @@ import argparse
 import os
 import signal
 import sys
-from collections.abc import Callable
+from collections.abc import Callable, Iterable
 from io import TextIOWrapper
 from pathlib import Path
 from types import FrameType
 from typing import NoReturn
 
+from .command_line import NAME, new_parser
 from .copying import copy_tables
 from .counts import as_json, as_lines, as_metrics, counted
 from .doctor import examined
 from .exports import export
 from .faults import Fault
+from .files import replace_file
+from .handing import handed_on
+from .health import findings_of, mail_changes, worst_of
+from .import_files import KINDS, ImportFile, checked
+from .imports import imported
+from .jobs import host_lines, workunit_lines
+from .members import agreed_in
+from .projects import PROGRAM, Project, project_of
 from .results import write_results
+from .tables import opened
+from .volunteers import Volunteers, volunteers_of
 
-FAULT, BAD_COMMAND_LINE = 1, 64
-NAME = "bsched-tools"
-
-
-class CommandLine(argparse.ArgumentParser):
-    """A parser that ends with the status of bsched for a bad command line."""
-
-    def error(self, message: str) -> NoReturn:
-        """Prints what is wrong, and ends the program."""
-        self.print_usage(sys.stderr)
-        self.exit(BAD_COMMAND_LINE, f"{NAME}: {message}\n")
+FAULT = 1
+Arguments = argparse.Namespace
 
 
-def count(text: str) -> int:
-    """Reads a whole number that is at least 1."""
-    if not (text.isascii() and text.isdigit()) or int(text) < 1:
-        raise argparse.ArgumentTypeError(f"{text} is not a whole number of at least 1")
-    return int(text)
+def project_named(args: Arguments) -> Project | None:
+    """Returns the project of the command line, if it names one. As root the command goes on as its owner."""
+    if args.project is None:
+        return None
+    project = project_of(args.project)
+    project.become_owner()
+    return project
 
 
-def words() -> argparse.ArgumentParser:
-    """Returns the parser of the command line."""
-    parser = CommandLine(prog=NAME, description="Tools for the operator of a project of bsched.")
-    commands = parser.add_subparsers(dest="command", metavar="COMMAND", required=True)
-    copy = commands.add_parser("copy", help="copies the tables while a program serves them")
-    copy.add_argument("--tables", type=Path, required=True, metavar="F", help="the tables of the project")
-    copy.add_argument("--to", type=Path, required=True, metavar="G", help="a folder of copies, or a new file")
-    copy.add_argument("--keep", type=count, metavar="N", help="keeps N copies, and removes older ones")
-    copy.add_argument("--check", type=Path, metavar="PROGRAM", help="has this bsched open the copy, too")
-    results = commands.add_parser("results", help="the results of workunits that are done or have failed")
-    add_copies(results)
-    results.add_argument("--json", action="store_true", help="lines of JSON, and not comma-separated values")
-    results.add_argument("--to", type=Path, metavar="NEW", help="a new file, and not standard output")
-    begin = results.add_mutually_exclusive_group()
-    begin.add_argument("--after", metavar="NAME", help="only workunits that were imported after this one")
-    begin.add_argument("--cursor", type=Path, metavar="FILE", help="only what was not given out before")
-    counts = commands.add_parser("counts", help="how many there are of each thing, and how much room is left")
-    add_copies(counts)
-    form = counts.add_mutually_exclusive_group()
-    form.add_argument("--json", action="store_true", help="one line of JSON")
-    form.add_argument("--prometheus", action="store_true", help="the text format of Prometheus")
-    doctor = commands.add_parser("doctor", help="why bsched says `bsched: file` or `bsched: settings`")
-    doctor.add_argument("--tables", type=Path, metavar="F", help="the tables")
-    doctor.add_argument("--settings", type=Path, metavar="S", help="the file of settings")
-    statistics = commands.add_parser("statistics", help="the files that statistics sites read")
-    add_copies(statistics)
-    statistics.add_argument("--to", type=Path, required=True, metavar="DIR", help="the folder of the files")
-    who = statistics.add_mutually_exclusive_group()
-    who.add_argument("--agreed", type=Path, metavar="FILE", help="the authenticators of users who agreed")
-    who.add_argument("--everybody", action="store_true", help="all users agreed")
-    report = commands.add_parser("report", help="a page with tables and plots")
-    report.add_argument("--tables", type=Path, required=True, metavar="COPY", help="a copy, or a folder")
-    report.add_argument("--to", type=Path, required=True, metavar="DIR", help="the folder of the page")
-    return parser
+def copies_of(args: Arguments, project: Project | None) -> list[Path]:
+    """Returns the copies that are read."""
+    if project is not None:
+        return [project.units().copies]
+    return list(args.tables) if isinstance(args.tables, list) else [args.tables]
 
 
-def add_copies(parser: argparse.ArgumentParser) -> None:
-    """Adds the option that names the tables to read."""
-    parser.add_argument(
-        "--tables", type=Path, required=True, nargs="+", metavar="COPY",
-        help="copies of the tables; a folder means its newest copy",
-    )
+def chosen(project: Project | None) -> Volunteers:
+    """Returns what the volunteers of a project chose."""
+    return Volunteers() if project is None else volunteers_of(project)
 
 
-def copy(told: argparse.Namespace) -> None:
-    """Copies the tables, and prints how long serving stood still."""
-    copied = copy_tables(told.tables, told.to, told.keep, told.check)
+def needed(args: Arguments, option: str, default: Path | None) -> Path:
+    """Returns the value of an option that only a project has a default for."""
+    value: Path | None = getattr(args, option) or default
+    if value is None:
+        new_parser().error(f"{args.command}: --{option} or --project is needed")
+    return value
+
+
+# ---- The commands
+
+
+def copy(args: Arguments) -> None:
+    """Copies the tables, and prints how long serving stood still. It stays root, to stop the scheduler."""
+    tables, to, keep, check = args.tables, args.to, args.keep, args.check
+    if args.project is not None:
+        project = project_of(args.project)
+        units, tables = project.units(), project.tables
+        keep = keep or (None if to else units.copies_kept)
+        check = check or (PROGRAM if units.is_checked and PROGRAM.exists() else None)
+        to = to or project.made(units.copies, 0o700)
+    copied = copy_tables(tables, needed(args, "to", to), keep, check)
     still = "nobody had the tables"
     if copied.still_seconds is not None:
         still = f"serving stood still for {copied.still_seconds * 1000:.0f} milliseconds"
@@ -91,24 +81,52 @@ def copy(told: argparse.Namespace) -> None:
         print(f"removed {path}")
 
 
-def results(told: argparse.Namespace) -> None:
+def results(args: Arguments) -> None:
     """Writes the results."""
-    write_results(told.tables, told.json, told.after, told.cursor, told.to)
+    project = project_named(args)
+    names = chosen(project).names
+    write_results(copies_of(args, project), args.json, args.after, args.cursor, args.to, names=names)
 
 
-def counts(told: argparse.Namespace) -> None:
+def process(args: Arguments) -> None:
+    """Hands new results to the operator's program."""
+    project = project_named(args) or project_of(args.project)
+    print(handed_on(project, project.units(), chosen(project).names))
+
+
+def counts(args: Arguments) -> None:
     """Prints the counts."""
-    form = as_json if told.json else as_metrics if told.prometheus else as_lines
-    for line in form(counted(told.tables)):
-        print(line)
+    form = as_json if args.json else as_metrics if args.prometheus else as_lines
+    lines = form(counted(copies_of(args, project_named(args))))
+    if args.to is not None:
+        replace_file(args.to, (f"{line}\n".encode() for line in lines))
+        return
+    print_lines(lines)
 
 
-def doctor(told: argparse.Namespace) -> int:
+def job(args: Arguments) -> None:
+    """Prints what happened to a workunit."""
+    project = project_named(args)
+    with opened(copies_of(args, project)[0], names=chosen(project).names) as tables:
+        print_lines(workunit_lines(tables, args.name))
+
+
+def host(args: Arguments) -> None:
+    """Prints what a computer did."""
+    project = project_named(args)
+    with opened(copies_of(args, project)[0], names=chosen(project).names) as tables:
+        print_lines(host_lines(tables, args.number))
+
+
+def doctor(args: Arguments) -> int:
     """Prints why a file is refused, and returns the exit status."""
-    if told.tables is None and told.settings is None:
-        words().error("doctor: --tables F, --settings S, or both")
+    if args.project is not None:
+        project = project_of(args.project)
+        args.tables, args.settings = args.tables or project.tables, args.settings or project.settings
+    if args.tables is None and args.settings is None:
+        new_parser().error("doctor: --tables F, --settings S, or --project P")
     found = False
-    for fault in examined(told.tables, told.settings):
+    for fault in examined(args.tables, args.settings):
         found = True
         print(fault)
     if not found:
@@ -116,25 +134,95 @@ def doctor(told: argparse.Namespace) -> int:
     return FAULT if found else 0
 
 
-def statistics(told: argparse.Namespace) -> None:
+def statistics(args: Arguments) -> None:
     """Writes the files for statistics sites, and prints how many users they name."""
-    made = export(told.tables, told.to, told.agreed, told.everybody)
-    print(f"{told.to}: {made.users} users, of whom {made.agreed} agreed to be named, and {made.hosts} hosts")
+    project = project_named(args)
+    said = chosen(project)
+    to, agreed, averages, everybody = args.to, said.agreed, None, args.everybody
+    if project is not None:
+        units = project.units()
+        everybody = everybody or units.is_everybody_named and args.agreed is None
+        to = to or project.made(units.statistics, 0o755)
+        averages = project.made(project.work, 0o700) / "averages.json"
+    if args.agreed is not None:
+        agreed = frozenset(agreed_in(args.agreed))
+    folder, copies = needed(args, "to", to), copies_of(args, project)
+    made = export(copies, folder, None if everybody else agreed, said.names, averages)
+    print(f"{folder}: {made.users} users, {made.agreed} of them named, and {made.hosts} computers")
 
 
-def report(told: argparse.Namespace) -> None:
-    """Writes the page."""
+def report(args: Arguments) -> None:
+    """Writes the page. For a project it first writes the counts that the bridge shows on its own page."""
+    project = project_named(args)
+    to, title, kept, copies = args.to, args.title, None, copies_of(args, project)
+    if project is not None:
+        kept, to = project.made(project.work, 0o700), to or project.made(project.units().page, 0o755)
+        title = title or project.title
+        replace_file(kept / "counts.json", (f"{line}\n".encode() for line in as_json(counted(copies))))
     try:
         from .page import write_report
     except ModuleNotFoundError:
         raise Fault("report: it needs Debian's python3-matplotlib: install that") from None
-    print(write_report(told.tables, told.to))
+    print(write_report(copies[0], needed(args, "to", to), title, chosen(project).names, kept))
 
 
-COMMANDS: dict[str, Callable[[argparse.Namespace], int | None]] = {
-    "copy": copy, "results": results, "counts": counts, "doctor": doctor, "statistics": statistics,
-    "report": report,
+def health(args: Arguments) -> int:
+    """Prints what is found, and returns the level of the worst finding."""
+    project = project_named(args) or project_of(args.project)
+    units = project.units()
+    found = findings_of(project, units)
+    print_lines(one.line for one in found)
+    if to := args.mail or units.mail:
+        mail_changes(project, units, found, to)
+    return worst_of(found)
+
+
+def read_imports(paths: Iterable[Path]) -> tuple[list[ImportFile], int]:
+    """Reads and checks files. Returns those without a fault, and how many have one; prints each fault."""
+    good: list[ImportFile] = []
+    faulty = 0
+    for path in paths:
+        file, faults = checked(path)
+        for fault in faults:
+            print(f"{path}: {fault}")
+        if faults or file is None:
+            faulty += 1
+        else:
+            good.append(file)
+    return good, faulty
+
+
+def check(args: Arguments) -> int:
+    """Prints what is wrong with files that are imported."""
+    good, faulty = read_imports(args.files)
+    for file in good:
+        print(f"{file.path}: good: {len(file.rows)} rows of {file.kind.name}")
+    return FAULT if faulty else 0
+
+
+def load(args: Arguments) -> int:
+    """Imports files, in the order of their kinds. If one of them has a fault, none is imported."""
+    good, faulty = read_imports(args.files)
+    if faulty:
+        return FAULT
+    project = project_named(args) or project_of(args.project)
+    kinds = list(KINDS)
+    for file in sorted(good, key=lambda file: kinds.index(file.kind.name)):
+        print_lines(imported(project, file, args.batch))
+    return 0
+
+
+COMMANDS: dict[str, Callable[[Arguments], int | None]] = {
+    "copy": copy, "results": results, "process": process, "counts": counts, "job": job, "host": host,
+    "doctor": doctor, "statistics": statistics, "report": report, "health": health, "check": check,
+    "import": load,
 }
+
+
+def print_lines(lines: Iterable[str]) -> None:
+    """Prints lines. What control characters they have are replaced, since hosts send some of the texts."""
+    for line in lines:
+        print("".join(one if one.isprintable() or one == "\t" else "\ufffd" for one in line))
 
 
 def end_by_signal(number: int, _frame: FrameType | None) -> NoReturn:
@@ -144,13 +232,13 @@ def end_by_signal(number: int, _frame: FrameType | None) -> NoReturn:
 
 def main() -> int:
     """Does what the command line says, and returns the exit status."""
-    told = words().parse_args()
+    args = new_parser().parse_args()
     for number in (signal.SIGINT, signal.SIGTERM, signal.SIGHUP):
         signal.signal(number, end_by_signal)
     if isinstance(sys.stdout, TextIOWrapper):
-        sys.stdout.reconfigure(encoding="utf-8", newline="")
+        sys.stdout.reconfigure(encoding="utf-8", errors="replace", newline="")
     try:
-        status = COMMANDS[told.command](told)
+        status = COMMANDS[args.command](args)
         sys.stdout.flush()
     except Fault as fault:
         print(f"{NAME}: {fault}", file=sys.stderr)

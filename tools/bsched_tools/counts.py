@@ -163,7 +163,7 @@ def as_lines(counts: Counts) -> Iterator[str]:
     rows += [("credit", f"{counts.millicredits / 1000:.3f}")]
     for name, limit in counts.limits.items():
         share = 100 * limit.used // limit.most
-        rows.append((f"room for {name}", f"{limit.used} of {limit.most} ({share} %)"))
+        rows.append((f"{name} used", f"{limit.used} of {limit.most} ({share} %)"))
     rows += [("bytes", str(counts.bytes)), ("schema", str(SCHEMA_NUMBER))]
     width = max(len(what) for what, _ in rows)
     return (f"{what:{width}}  {told}" for what, told in rows)

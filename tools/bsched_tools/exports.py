@@ -2,7 +2,7 @@
 import hashlib
 import os
 import re
-from collections.abc import Iterable, Iterator
+from collections.abc import Collection, Iterable, Iterator, Mapping
 from contextlib import ExitStack
 from dataclasses import dataclass
 from pathlib import Path
@@ -12,7 +12,7 @@ from .averages import Averages, Kept
 from .copies import turn
 from .faults import Fault
 from .files import replace_file
-from .members import Host, User, agreed_in, users_of
+from .members import Host, User, users_of
 from .tables import opened
 
 TURN_SECONDS = 60.0
@@ -84,7 +84,7 @@ def host_members(host: Host, kept: Kept, userid: int | None, cpid: str) -> dict[
 class Export:
     """The elements of all files."""
 
-    def __init__(self, averages: Averages, moment: int, agreed: set[str] | None) -> None:
+    def __init__(self, averages: Averages, moment: int, agreed: Collection[str] | None) -> None:
         self.averages, self.moment, self.agreed = averages, moment, agreed
         self.users: list[str] = []
         self.hosts: list[str] = []
@@ -129,19 +129,22 @@ def state_of(folder: Path) -> Path:
     return folder.with_name(f"{folder.name}-averages.json")
 
 
-def export(paths: Iterable[Path], folder: Path, agreed: Path | None, everybody: bool) -> Exported:
-    """Writes the files of some tables into a folder. Sites know users and hosts by their numbers, so the
-    numbers are stored before they are published. tables.xml is written last, because sites look at it first.
-    """
+def export(
+    paths: Iterable[Path], folder: Path, agreed: Collection[str] | None,
+    names: Mapping[str, str] | None = None, averages_file: Path | None = None,
+) -> Exported:
+    """Writes the files of some tables into a folder. They name the users whose authenticators agreed, or with
+    None all users. Sites know users and hosts by their numbers, so the numbers are stored before they are
+    published. tables.xml is written last, because sites look at it first."""
     folder = Path(os.path.abspath(folder))
     if not folder.is_dir():
         raise Fault(f"{folder}: no such folder: make it first")
-    who = None if everybody else agreed_in(agreed) if agreed is not None else set()
     with ExitStack() as stack:
-        all_tables = [stack.enter_context(opened(path)) for path in paths]
+        all_tables = [stack.enter_context(opened(path, names=names)) for path in paths]
         stack.enter_context(turn(folder, TURN_SECONDS))
-        averages, moment = Averages(state_of(folder)), max(tables.moment for tables in all_tables)
-        made = Export(averages, moment, who)
+        averages = Averages(averages_file or state_of(folder))
+        moment = max(tables.moment for tables in all_tables)
+        made = Export(averages, moment, agreed)
         for user in users_of(all_tables).values():
             made.add(user)
         averages.write()

@@ -11,12 +11,12 @@ HOUR, DAY_HOURS = 3600, 24
 MOST_LISTED = 20
 DEADLINES = f"SELECT deadline FROM instance WHERE {IS_HELD} AND deadline >= ?1 AND deadline < ?2"
 CREDIT = """
-SELECT account.name, sum(host.credit), count(*)
+SELECT shown_name(auth, account.name), sum(host.credit), count(*)
 FROM account JOIN host ON host.account_id = account.id
 GROUP BY account.id ORDER BY sum(host.credit) DESC, account.id LIMIT ?1
 """
 ERRORS = """
-SELECT host.id, account.name, sum(outcome = 3), sum(lapse = 1), count(*), quota
+SELECT host.id, shown_name(auth, account.name), sum(outcome = 3), sum(lapse = 1), count(*), quota
 FROM host JOIN account ON account.id = account_id JOIN instance ON host_id = host.id GROUP BY host.id
 """
 MARKED = """

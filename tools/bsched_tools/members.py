@@ -13,6 +13,8 @@ FROM host JOIN account ON account.id = account_id LEFT JOIN instance ON host_id 
 GROUP BY host.id ORDER BY host.id
 """
 
+NAMES = "SELECT auth, shown_name(auth, name) FROM account ORDER BY id"
+
 
 @dataclass(slots=True)
 class Host:
@@ -70,7 +72,7 @@ def users_of(all_tables: Iterable[Tables]) -> dict[str, User]:
     """Returns the users of files, by authenticator. The name is that of the file that was named last."""
     users: dict[str, User] = {}
     for tables in all_tables:
-        for authenticator, name in tables.rows("SELECT auth, name FROM account ORDER BY id"):
+        for authenticator, name in tables.rows(NAMES):
             users.setdefault(authenticator, User(authenticator, name)).name = name
         for authenticator, cpid, *row in tables.rows(HOSTS):
             hosts = users[authenticator].hosts

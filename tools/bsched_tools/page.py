@@ -1,6 +1,6 @@
 """The page with the project's status, as HTML with plots. Each plot has its numbers in a table."""
 import re
-from collections.abc import Iterable, Sequence
+from collections.abc import Iterable, Mapping, Sequence
 from datetime import datetime, timezone
 from html import escape
 from pathlib import Path
@@ -215,31 +215,30 @@ def marked_part(tables: Tables) -> str:
     return section("Marked workunits", *parts)
 
 
-def room_part(counts: Counts) -> str:
-    """Returns how full each limit is."""
+def used_part(counts: Counts) -> str:
+    """Returns how much of each limit is used."""
     rows = [
         (name, limit.used, limit.most, limit.most - limit.used, f"{100 * limit.used / limit.most:.1f} %")
         for name, limit in counts.limits.items()
     ]
     shares = [100 * limit.used / limit.most for limit in counts.limits.values()]
-    text = "How full each limit is: " + ", ".join(f"{row[0]} {row[4]}" for row in rows)
-    svg = plots.bars("room", text, list(counts.limits), shares, most=100)
-    caption = "How full each limit is, in percent."
-    return section("Room left", figure(svg, caption, table(("what", "used", "most", "left", "full"), rows)))
+    text = "How much of each limit is used: " + ", ".join(f"{row[0]} {row[4]}" for row in rows)
+    svg = plots.bars("used", text, list(counts.limits), shares, most=100)
+    caption = "How much of each limit is used, in percent."
+    header = ("what", "used", "at most", "left", "share")
+    return section("Used", figure(svg, caption, table(header, rows)))
 
 
 # ---- The page
 
 
-def page(tables: Tables, counts: Counts, entries: list[Entry]) -> str:
-    """Returns the page."""
-    match = COPY_NAME.fullmatch(tables.path.name)
-    name = match["stem"] if match else tables.path.stem
+def page(tables: Tables, counts: Counts, entries: list[Entry], name: str) -> str:
+    """Returns the page of the project with this name."""
     title = f"{escape(name)}: status"
     parts = [
         counts_part(counts, entries), history_parts(entries), turnaround_part(entries, tables.moment),
         deadlines_part(tables, counts.instances["late"]), credit_part(tables), errors_part(tables),
-        marked_part(tables), room_part(counts),
+        marked_part(tables), used_part(counts),
     ]
     head = (
         f'<meta charset="utf-8">\n<title>{title}</title>\n<style>{STYLE}</style>\n'
@@ -255,14 +254,21 @@ def clean(text: str) -> str:
     return re.sub("[\x00-\x08\x0b\x0c\x0e-\x1f\x7f-\x9f\ufffe\uffff]", "\ufffd", text)
 
 
-def write_report(path: Path, folder: Path) -> Path:
-    """Writes the page of a copy into a folder, and appends to the history there."""
-    if not folder.is_dir():
-        raise Fault(f"{folder}: no such folder: make it first")
-    with opened(path) as tables, turn(folder, TURN_SECONDS):
-        counts, history = counted([tables.path]), History(folder)
+def write_report(
+    path: Path, folder: Path, title: str | None = None, names: Mapping[str, str] | None = None,
+    kept: Path | None = None,
+) -> Path:
+    """Writes the page of a copy into a folder. The history is appended in the folder `kept`, or in the same
+    one. Without a title the page has the name of the tables."""
+    for one in (folder, kept):
+        if one is not None and not one.is_dir():
+            raise Fault(f"{one}: no such folder: make it first")
+    with opened(path, names=names) as tables, turn(folder, TURN_SECONDS):
+        match = COPY_NAME.fullmatch(tables.path.name)
+        counts, history = counted([tables.path]), History(kept or folder)
         history.add(tables, counts)
-        text = page(tables, counts, history.entries)
+        name = title or (match["stem"] if match else tables.path.stem)
+        text = page(tables, counts, history.entries, name)
         target = folder / "index.html"
         replace_file(target, [clean(text).encode(errors="replace")])
     return target

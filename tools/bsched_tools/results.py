@@ -5,7 +5,7 @@ import json
 import os
 import stat
 import sys
-from collections.abc import Iterable, Iterator
+from collections.abc import Iterable, Iterator, Mapping
 from contextlib import ExitStack, suppress
 from dataclasses import dataclass, replace
 from pathlib import Path
@@ -133,6 +133,7 @@ def write_results(
     cursor: Path | None = None,
     target: Path | None = None,
     file: TextIO | None = None,
+    names: Mapping[str, str] | None = None,
 ) -> None:
     """Writes the results of tables to standard output or to a new file, as comma-separated values or as lines
     of JSON. The cursor is written last. If a stop comes before that, the same results come again."""
@@ -140,7 +141,7 @@ def write_results(
         kept = stack.enter_context(cursor_at(cursor)) if cursor is not None else None
         if target is not None and target.exists():
             raise Fault(f"{target}: it exists: process what it has, and remove it")
-        all_tables = [stack.enter_context(opened(path)) for path in paths]
+        all_tables = [stack.enter_context(opened(path, names=names)) for path in paths]
         parts = texts(all_tables, as_lines, after, kept)
         if target is not None:
             replace_file(target, (part.encode() for part in parts))

@@ -2,7 +2,7 @@
 import os
 import re
 import sqlite3
-from collections.abc import Iterator
+from collections.abc import Iterator, Mapping
 from contextlib import closing, contextmanager
 from dataclasses import dataclass, field
 from datetime import datetime, timezone
@@ -153,11 +153,16 @@ def schema_fault(connection: sqlite3.Connection) -> str | None:
 
 
 @contextmanager
-def opened(path: Path, is_any_schema: bool = False) -> Iterator[Tables]:
-    """Yields the tables of a copy. They must be of the newest schema, unless any schema is right."""
+def opened(
+    path: Path, is_any_schema: bool = False, names: Mapping[str, str] | None = None
+) -> Iterator[Tables]:
+    """Yields the tables of a copy. They must be of the newest schema, unless any schema is right. Names of
+    users can be given by authenticator; the others have those in the tables."""
     path = found_copy(path)
     check_file(path)
     with faults_of(path), closing(connected(path)) as connection:
+        shown = names or {}
+        connection.create_function("shown_name", 2, lambda auth, name: shown.get(auth, name))
         connection.execute("BEGIN")
         if not is_any_schema and (fault := schema_fault(connection)):
             raise Fault(f"{path}: {fault}")

@@ -14,7 +14,7 @@ REASONS = {2: "errors", 3: "successes", 4: "total"}  # why a workunit failed
 SUCCESS = 1
 DECIDED = """
 SELECT unit.id, unit.name, app.name, agreement, min_quorum, unit.credit, status,
-  num, host_id, account.name, outcome, output, place
+  num, host_id, shown_name(auth, account.name), outcome, output, place
 FROM unit JOIN app ON app.id = unit.app_id
   CROSS JOIN instance ON instance.unit_id = unit.id
   LEFT JOIN host ON host.id = host_id

@@ -133,7 +133,7 @@ def test_the_forms(tmp_path: Path) -> None:
     assert status == 0 and 'bsched_workunits{status="open"} 20' in lines
     assert all(line.startswith("# ") or SAMPLE.fullmatch(line) for line in lines)
     status, told, _ = tools("counts", "--tables", path)
-    assert status == 0 and re.search(r"^room for workunits +20 of 200000 \(0 %\)$", told, re.MULTILINE)
+    assert status == 0 and re.search(r"^workunits used +20 of 200000 \(0 %\)$", told, re.MULTILINE)
     assert tools("counts", "--tables", path, "--json", "--prometheus")[0] == 64
 
 

@@ -14,6 +14,7 @@ from small_project import SETTINGS, make_tables, tools
 
 from bsched_tools import averages, exports, files
 from bsched_tools.faults import Fault
+from bsched_tools.members import agreed_in
 
 DAY = 86400
 
@@ -53,7 +54,7 @@ def test_the_files_of_a_life(tmp_path: Path, folder: Path) -> None:
     lived = life_of(11, calls=600)
     path = stored_life(lived, tmp_path / "project.db")
     os.utime(path, (lived.now, lived.now))
-    made = exports.export([path], folder, None, True)
+    made = exports.export([path], folder, None)
     machine = lived.service.machine
     accounts = machine.rows["accounts"]
     assert (made.users, made.agreed, made.hosts) == (len(accounts), len(accounts), len(machine.hosts))
@@ -83,7 +84,7 @@ def test_averages_over_runs(tmp_path: Path, folder: Path) -> None:
         tables.put([("kept4", (1, 0, seqno, "{}", "{}"))])
         tables.connection.close()
         os.utime(path, (moment, moment))
-        exports.export([path], folder, None, True)
+        exports.export([path], folder, None)
         host, = read(folder, "host.gz")
         return round(float(host["expavg_credit"]), 5), int(host["create_time"]), int(host["rpc_time"])
 
@@ -96,16 +97,16 @@ def test_averages_over_runs(tmp_path: Path, folder: Path) -> None:
 def test_nobody_is_named_who_did_not_agree(tmp_path: Path, folder: Path) -> None:
     lived = life_of(11)
     path = stored_life(lived, tmp_path / "project.db")
-    assert exports.export([path], folder, None, False).agreed == 0
+    assert exports.export([path], folder, frozenset()).agreed == 0
     assert read(folder, "user.gz") == [] and not any("userid" in host for host in read(folder, "host.gz"))
     agreed = tmp_path / "agreed"
     agreed.write_text("user1\n\nnobody\n")
-    assert exports.export([path], folder, agreed, False).agreed == 1
+    assert exports.export([path], folder, agreed_in(agreed)).agreed == 1
     user, = read(folder, "user.gz")
     assert user["name"] == "User 1"
     assert {host["userid"] for host in read(folder, "host.gz") if "userid" in host} == {user["id"]}
     with pytest.raises(Fault, match="No such file"):
-        exports.export([path], folder, tmp_path / "none", False)
+        agreed_in(tmp_path / "none")
 
 
 def test_several_files_are_summed_by_authenticator(tmp_path: Path, folder: Path) -> None:
@@ -113,9 +114,9 @@ def test_several_files_are_summed_by_authenticator(tmp_path: Path, folder: Path)
     first.answer(life_of(11).lines)
     second = first.copy(tmp_path / "2026.db")
     first = first.close()
-    exports.export([first], folder, None, True)
+    exports.export([first], folder, None)
     alone = {user["id"]: float(user["total_credit"]) for user in read(folder, "user.gz")}
-    exports.export([first, second], folder, None, True)
+    exports.export([first, second], folder, None)
     both = {user["id"]: float(user["total_credit"]) for user in read(folder, "user.gz")}
     assert both == pytest.approx({number: 2 * credit for number, credit in alone.items()})
     assert sum(alone.values()) > 0
@@ -127,13 +128,13 @@ def test_names_are_text(tmp_path: Path, folder: Path) -> None:
     tables = plain_tables.Tables(path)
     plain_tables.Service(tables).imported("accounts", "b", 'authenticator,name\nk1,"<b> & \x07""é\n"\n')
     tables.connection.close()
-    exports.export([path], folder, None, True)
+    exports.export([path], folder, None)
     assert [user["name"] for user in read(folder, "user.gz")] == ['<b> & \ufffd"é\n']
 
 
 def test_no_half_file(tmp_path: Path, folder: Path, monkeypatch: pytest.MonkeyPatch) -> None:
     path = stored_life(life_of(11), tmp_path / "project.db")
-    exports.export([path], folder, None, True)
+    exports.export([path], folder, None)
     before = {one.name: one.read_bytes() for one in folder.iterdir()}
     kept = exports.state_of(folder).read_bytes()
 
@@ -142,7 +143,7 @@ def test_no_half_file(tmp_path: Path, folder: Path, monkeypatch: pytest.MonkeyPa
 
     monkeypatch.setattr(files.os, "fsync", full)
     with pytest.raises(Fault, match="stats-averages.json: No space left on device"):
-        exports.export([path], folder, None, False)
+        exports.export([path], folder, frozenset())
     assert {one.name: one.read_bytes() for one in folder.iterdir()} == before
     assert exports.state_of(folder).read_bytes() == kept
 
@@ -160,29 +161,29 @@ def test_numbers_are_stored_before_they_are_published(
 
     monkeypatch.setattr(exports, "replace_file", full_at_the_end)
     with pytest.raises(Fault, match="tables.xml"):
-        exports.export([path], folder, None, True)
+        exports.export([path], folder, None)
     published = read(folder, "user.gz"), read(folder, "host.gz")
     monkeypatch.undo()
-    exports.export([path], folder, None, True)
+    exports.export([path], folder, None)
     assert (read(folder, "user.gz"), read(folder, "host.gz")) == published
 
 
 def test_what_is_kept(tmp_path: Path, folder: Path) -> None:
     path = stored_life(life_of(11), tmp_path / "project.db")
-    exports.export([path], folder, None, True)
+    exports.export([path], folder, None)
     kept = exports.state_of(folder)
     assert kept.stat().st_mode & 0o777 == 0o600 and "user1" not in kept.read_text()
     other = json.dumps({"format": 1, "salt": "", "users": {}, "hosts": [1]})
     for text in ("", "{}", json.dumps({"format": 2}), other):
         kept.write_text(text)
         with pytest.raises(Fault, match="it has no averages"):
-            exports.export([path], folder, None, True)
+            exports.export([path], folder, None)
 
 
 def test_the_command_line(tmp_path: Path, folder: Path) -> None:
     path = make_tables(tmp_path / "project.db")
     status, told, fault = tools("statistics", "--tables", path, "--to", folder)
     assert (status, fault) == (0, "")
-    assert told == f"{folder}: 4 users, of whom 0 agreed to be named, and 0 hosts\n"
+    assert told == f"{folder}: 4 users, 0 of them named, and 0 computers\n"
     assert tools("statistics", "--tables", path, "--to", folder, "--everybody", "--agreed", "x")[0] == 64
     assert tools("statistics", "--tables", path, "--to", folder / "none")[0] == 1

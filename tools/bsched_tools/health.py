@@ -1,0 +1,297 @@
+"""Whether a project is well: what answers, how old the newest copy is, and what is nearly full.
+
+The levels and the exit status are those that monitors such as Nagios know: 0 good, 1 warning, 2 critical,
+3 unknown.
+"""
+import http.client
+import json
+import shutil
+import socket
+import ssl
+import subprocess
+import time
+from collections.abc import Callable, Iterable, Iterator
+from dataclasses import dataclass
+from enum import IntEnum
+from pathlib import Path
+from urllib.parse import urlsplit
+
+from .counts import counted
+from .faults import Fault
+from .files import replace_file
+from .projects import Project, UnitSettings
+from .tables import copies_in, moment_of
+
+SECONDS = 20.0  # for an answer
+NO_HOST = 2**31 - 1  # no computer has this number: there are at most 100,000
+DAY, HOUR = 86_400, 3_600
+CERTIFICATE_DAYS = 14, 3  # fewer days are a warning, and critical
+FREE_SHARE = 0.1, 0.03  # of a disk: less is a warning, and critical
+USED_SHARE = 0.9, 1.0  # of a limit: more is a warning, and critical
+COPIES_LATE = 8  # times the hours of the settings: an older copy is critical
+SENDMAIL = Path("/usr/sbin/sendmail")
+
+
+class Level(IntEnum):
+    """How bad a finding is."""
+
+    GOOD = 0
+    WARNING = 1
+    CRITICAL = 2
+    UNKNOWN = 3
+
+    @property
+    def badness(self) -> int:
+        """The order of levels: what is unknown is worse than good, and better than a warning."""
+        return {Level.GOOD: 0, Level.UNKNOWN: 1, Level.WARNING: 2, Level.CRITICAL: 3}[self]
+
+
+@dataclass(frozen=True, slots=True)
+class Finding:
+    """What a check found."""
+
+    check: str
+    level: Level
+    text: str
+
+    @property
+    def line(self) -> str:
+        """The finding in a line."""
+        return f"{self.level.name.lower():8}  {self.check:11}  {self.text}"
+
+
+Check = Callable[[Project, UnitSettings], Iterator[Finding]]
+
+
+def answer_of(url: str, fields: dict[str, str] | None = None) -> tuple[int, bytes]:
+    """Returns the status and the body of the answer to a GET."""
+    parts = urlsplit(url)
+    kind = http.client.HTTPSConnection if parts.scheme == "https" else http.client.HTTPConnection
+    connection = kind(parts.hostname or "", parts.port, timeout=SECONDS)
+    try:
+        connection.request("GET", parts.path or "/", headers=fields or {})
+        response = connection.getresponse()
+        return response.status, response.read(1_000_000)
+    finally:
+        connection.close()
+
+
+def reason_of(error: Exception) -> str:
+    """Returns why a connection failed."""
+    if isinstance(error, ssl.SSLCertVerificationError):
+        return f"its certificate is not valid: {error.verify_message}"
+    if isinstance(error, OSError) and error.strerror:
+        return error.strerror
+    return str(error) or type(error).__name__
+
+
+def scheduler(project: Project, _settings: UnitSettings) -> Iterator[Finding]:
+    """Asks the scheduler with the operator's key for a computer that does not exist."""
+    port, began = project.port(), time.monotonic()
+    try:
+        fields = {"x-operator-key": project.operator_key}
+        status, body = answer_of(f"http://127.0.0.1:{port}/hosts/{NO_HOST}", fields)
+    except (OSError, http.client.HTTPException) as error:
+        text = f"port {port} gives no answer ({reason_of(error)}): `systemctl status bsched@{project.name}`"
+        yield Finding("scheduler", Level.CRITICAL, text)
+        return
+    took = f"{1000 * (time.monotonic() - began):.0f} ms"
+    if status == 403:
+        text = f"what has port {port} refuses the operator's key: it is another project's, or the key changed"
+        yield Finding("scheduler", Level.CRITICAL, text)
+    elif status == 404 and b"no_such_host" in body:
+        yield Finding("scheduler", Level.GOOD, f"port {port} answers in {took}")
+    else:
+        yield Finding("scheduler", Level.CRITICAL, f"port {port} answers with status {status}")
+
+
+def bridge(project: Project, _settings: UnitSettings) -> Iterator[Finding]:
+    """Asks the bridge what a client asks before it joins, and then at the URL, as a client does."""
+    url = project.url
+    if url is None:
+        return
+    port, path = project.port("BRIDGE_PORT"), urlsplit(url).path
+    unit = f"`systemctl status bsched-bridge@{project.name}`"
+    yield asked("bridge", f"http://127.0.0.1:{port}{path}", url, f"port {port}", unit)
+    yield asked("url", url, url, url, "see whether the name leads here, and what nginx logs")
+
+
+def asked(check: str, place: str, url: str, name: str, advice: str) -> Finding:
+    """Asks for the project's configuration at a place. It must have the project's URL."""
+    try:
+        status, body = answer_of(f"{place}get_project_config.php")
+    except (OSError, http.client.HTTPException) as error:
+        return Finding(check, Level.CRITICAL, f"{name} gives no answer ({reason_of(error)}): {advice}")
+    if status != 200:
+        return Finding(check, Level.CRITICAL, f"{name} answers with status {status}: {advice}")
+    if f"<master_url>{url}</master_url>".encode() not in body:
+        return Finding(check, Level.CRITICAL, f"{name} answers, and is not this project: {advice}")
+    return Finding(check, Level.GOOD, f"{name} answers")
+
+
+def certificate(project: Project, _settings: UnitSettings) -> Iterator[Finding]:
+    """Looks at how long the certificate of the URL is valid."""
+    parts = urlsplit(project.url or "")
+    if parts.scheme != "https" or parts.hostname is None:
+        return
+    try:
+        with socket.create_connection((parts.hostname, parts.port or 443), SECONDS) as made:
+            context = ssl.create_default_context()
+            with context.wrap_socket(made, server_hostname=parts.hostname) as tls:
+                told = tls.getpeercert() or {}
+    except OSError as error:
+        yield Finding("certificate", Level.CRITICAL, f"{parts.hostname}: {reason_of(error)}")
+        return
+    days = int((ssl.cert_time_to_seconds(str(told["notAfter"])) - time.time()) // DAY)
+    level = level_of(-days, -CERTIFICATE_DAYS[0], -CERTIFICATE_DAYS[1])
+    yield Finding("certificate", level, f"that of {parts.hostname} is valid for {days} days")
+
+
+def tick(project: Project, _settings: UnitSettings) -> Iterator[Finding]:
+    """Asks systemd whether the timer of the tick waits, and whether the last tick was answered."""
+    name = f"bsched-tick@{project.name}"
+    timer = shown_by_systemd(f"{name}.timer", "ActiveState")
+    result = shown_by_systemd(f"{name}.service", "Result")
+    if timer is None or result is None:
+        yield Finding("tick", Level.UNKNOWN, "systemd is not asked: it does not run here")
+    elif timer != "active":
+        text = f"{name}.timer is {timer}, so deadlines don't pass: `systemctl enable --now {name}.timer`"
+        yield Finding("tick", Level.CRITICAL, text)
+    elif result != "success":
+        text = f"the last one failed ({result}): `journalctl -u {name}`"
+        yield Finding("tick", Level.WARNING, text)
+    else:
+        yield Finding("tick", Level.GOOD, "the timer waits, and the last tick was answered")
+
+
+def shown_by_systemd(unit: str, key: str) -> str | None:
+    """Returns what systemd says about a unit; None if it can't be asked."""
+    words = ["systemctl", "show", "--value", f"--property={key}", unit]
+    try:
+        told = subprocess.run(words, capture_output=True, text=True, timeout=SECONDS)
+    except (OSError, subprocess.TimeoutExpired):
+        return None
+    return told.stdout.strip() if told.returncode == 0 else None
+
+
+def newest_copy(project: Project, settings: UnitSettings) -> Path | None:
+    """Returns the newest copy of the tables."""
+    if not settings.copies.is_dir():
+        return None
+    return next(iter(copies_in(settings.copies, project.tables.stem)), None)
+
+
+def copy(project: Project, settings: UnitSettings) -> Iterator[Finding]:
+    """Looks at the age of the newest copy."""
+    advice = f"`systemctl enable --now bsched-copy@{project.name}.timer`"
+    newest = newest_copy(project, settings)
+    if newest is None:
+        yield Finding("copy", Level.CRITICAL, f"there is none in {settings.copies}: {advice}")
+        return
+    hours = (time.time() - moment_of(newest)) / HOUR
+    level = level_of(hours, settings.copy_hours, COPIES_LATE * settings.copy_hours)
+    ends = "" if level is Level.GOOD else f": {advice}, or read its log"
+    yield Finding("copy", level, f"the newest one is {hours:.1f} hours old{ends}")
+
+
+def limits(project: Project, settings: UnitSettings) -> Iterator[Finding]:
+    """Looks at how full the tables are, in the newest copy."""
+    newest = newest_copy(project, settings)
+    if newest is None:
+        return
+    told = counted([newest])
+    for name, limit in told.limits.items():
+        share = limit.used / limit.most
+        level = level_of(share, *USED_SHARE)
+        if level is not Level.GOOD:
+            advice = 'see "Limits" in docs/OPERATING.md'
+            yield Finding("limits", level, f"{limit.used} of {limit.most} {name} are used: {advice}")
+            return
+    name, limit = max(told.limits.items(), key=lambda item: item[1].used / item[1].most)
+    yield Finding("limits", Level.GOOD, f"at most {100 * limit.used // limit.most} % are used ({name})")
+
+
+def disk(project: Project, settings: UnitSettings) -> Iterator[Finding]:
+    """Looks at the free room of the disks of the project and its copies."""
+    seen = set()
+    for folder in (project.folder, settings.copies):
+        if not folder.is_dir() or folder.stat().st_dev in seen:
+            continue
+        seen.add(folder.stat().st_dev)
+        usage = shutil.disk_usage(folder)
+        level = level_of(-usage.free / usage.total, -FREE_SHARE[0], -FREE_SHARE[1])
+        text = f"{usage.free / 1e9:.1f} GB of {usage.total / 1e9:.1f} GB are free in {folder}"
+        yield Finding("disk", level, text)
+
+
+def level_of(value: float, warning: float, critical: float) -> Level:
+    """Returns the level of a value that should be small."""
+    return Level.CRITICAL if value >= critical else Level.WARNING if value >= warning else Level.GOOD
+
+
+CHECKS: tuple[Check, ...] = (scheduler, bridge, certificate, tick, copy, limits, disk)
+
+
+def findings_of(project: Project, settings: UnitSettings) -> list[Finding]:
+    """Returns what all checks found. A check that fails by itself is unknown."""
+    found: list[Finding] = []
+    for check in CHECKS:
+        try:
+            found += check(project, settings)
+        except (Fault, OSError) as fault:
+            found.append(Finding(check.__name__, Level.UNKNOWN, str(fault)))
+    return found
+
+
+def worst_of(found: Iterable[Finding]) -> Level:
+    """Returns the worst level."""
+    return max((one.level for one in found), key=lambda level: level.badness, default=Level.UNKNOWN)
+
+
+# ---- Mail
+
+
+def levels_of(found: Iterable[Finding]) -> dict[str, str]:
+    """Returns the worst level of each check, as it is kept from one run to the next."""
+    levels: dict[str, Level] = {}
+    for one in found:
+        levels[one.check] = max(levels.get(one.check, Level.GOOD), one.level, key=lambda level: level.badness)
+    return {check: level.name for check, level in levels.items()}
+
+
+def is_changed(path: Path, found: list[Finding]) -> bool:
+    """Returns whether the levels differ from those in a file. Without a file, all was good."""
+    try:
+        before = json.loads(path.read_text())
+    except (OSError, ValueError):
+        before = {}
+    now = levels_of(found)
+    names = {*now, *before} if isinstance(before, dict) else set(now)
+    return any(now.get(name, "GOOD") != before.get(name, "GOOD") for name in names)
+
+
+def mail_changes(project: Project, settings: UnitSettings, found: list[Finding], to: str) -> bool:
+    """Sends a mail if a level changed since the last mail, and returns whether it did. The levels are kept
+    after the mailer has taken the mail. So a change is never lost, and after a stop may come twice."""
+    folder = project.made(project.work, 0o700)
+    path = folder / "health.json"
+    if not is_changed(path, found):
+        return False
+    send(f"{project.name}: {worst_of(found).name.lower()}", [one.line for one in found], to)
+    replace_file(path, [json.dumps(levels_of(found)).encode()], mode=0o600)
+    return True
+
+
+def send(subject: str, lines: Iterable[str], to: str) -> None:
+    """Hands a mail to the system's mailer."""
+    if "\n" in to or not to.strip():
+        raise Fault(f"{to!r} is no address for mail")
+    text = "\n".join([f"To: {to}", f"Subject: [bsched] {subject}", "", *lines, ""])
+    command = str(SENDMAIL)
+    try:
+        told = subprocess.run([command, "-t"], input=text, text=True, capture_output=True, timeout=SECONDS)
+    except (OSError, subprocess.TimeoutExpired) as error:
+        reason = getattr(error, "strerror", None) or error
+        raise Fault(f"{command}: {reason}: install a mailer, such as postfix or msmtp-mta") from None
+    if told.returncode:
+        raise Fault(f"{command}: status {told.returncode}: {told.stderr.strip()}")

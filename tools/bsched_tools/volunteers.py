@@ -1,0 +1,46 @@
+"""Which users agreed to be named, and by which names. The bridge knows it: volunteers choose on its pages."""
+import json
+import shutil
+import subprocess
+import sys
+from dataclasses import dataclass, field
+
+from .faults import Fault
+from .projects import Project
+
+SECONDS = 60.0
+
+
+@dataclass(frozen=True, slots=True)
+class Volunteers:
+    """What volunteers chose."""
+
+    agreed: frozenset[str] = frozenset()  # the authenticators of those who agreed to be named
+    names: dict[str, str] = field(default_factory=dict)  # by authenticator; those of deleted accounts, too
+
+
+def command_of_bridge() -> list[str]:
+    """Returns the words that run the bridge's commands: the installed program, or the module next to this
+    one."""
+    installed = shutil.which("bsched-bridge")
+    return [installed] if installed else [sys.executable, "-m", "bsched_bridge"]
+
+
+def volunteers_of(project: Project) -> Volunteers:
+    """Returns what the volunteers of a project chose. A project without a bridge has none."""
+    if not project.bridge_file.exists():
+        return Volunteers()
+    words = [*command_of_bridge(), "consented", "--config", str(project.bridge_file), "--json"]
+    try:
+        told = subprocess.run(
+            words, capture_output=True, text=True, timeout=SECONDS, stdin=subprocess.DEVNULL
+        )
+    except (OSError, subprocess.TimeoutExpired) as error:
+        raise Fault(f"{words[0]}: {getattr(error, 'strerror', None) or error}") from None
+    if told.returncode:
+        raise Fault(f"the names of volunteers can't be read: {told.stderr.strip()}")
+    rows = [json.loads(line) for line in told.stdout.splitlines()]
+    return Volunteers(
+        frozenset(row["authenticator"] for row in rows if not row["is_deleted"]),
+        {row["authenticator"]: row["name"] for row in rows},
+    )

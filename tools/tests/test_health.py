@@ -1,0 +1,209 @@
+"""Tests `health`: each check good and bad, its status, and the mail of what changed."""
+import os
+import ssl
+import subprocess
+import threading
+import time
+from collections.abc import Iterator
+from contextlib import contextmanager
+from http.server import BaseHTTPRequestHandler, ThreadingHTTPServer
+from pathlib import Path
+
+import pytest
+from made_project import SETTINGS, MadeProject
+
+from bsched_tools import health
+from bsched_tools.health import Finding, Level
+from bsched_tools.projects import Project
+
+
+class Bridge(BaseHTTPRequestHandler):
+    """Answers as a bridge does that is asked for its configuration."""
+
+    url = ""
+
+    def do_GET(self) -> None:
+        """Answers."""
+        is_known = self.path.endswith("/get_project_config.php")
+        body = f"<project_config><master_url>{self.url}</master_url></project_config>".encode()
+        self.send_response(200 if is_known else 404)
+        self.send_header("content-length", str(len(body)))
+        self.end_headers()
+        self.wfile.write(body)
+
+    def log_message(self, *_words: object) -> None:
+        """Prints nothing."""
+
+
+@contextmanager
+def served(port: int, url: str, context: ssl.SSLContext | None = None) -> Iterator[int]:
+    """Serves a bridge with this URL, and yields its port."""
+    handler = type("Handler", (Bridge,), {"url": url})
+    server = ThreadingHTTPServer(("127.0.0.1", port), handler)
+    if context is not None:
+        server.socket = context.wrap_socket(server.socket, server_side=True)
+    thread = threading.Thread(target=server.serve_forever, daemon=True)
+    thread.start()
+    try:
+        yield server.server_port
+    finally:
+        server.shutdown()
+        thread.join(10)
+        server.server_close()
+
+
+@pytest.fixture
+def made(tmp_path: Path, monkeypatch: pytest.MonkeyPatch) -> Iterator[MadeProject]:
+    """Makes a project that is served, with a copy. A stand-in of systemd says that all is well."""
+    states = {"ActiveState": "active", "Result": "success"}
+    monkeypatch.setattr(health, "shown_by_systemd", lambda _unit, key: states[key])
+    project = MadeProject(tmp_path)
+    project.serve()
+    assert project.tools("copy")[0] == 0
+    yield project
+    project.end()
+
+
+def found(made: MadeProject) -> dict[str, Finding]:
+    """Returns the findings by their checks."""
+    project = Project(made.folder)
+    return {one.check: one for one in health.findings_of(project, project.units())}
+
+
+def with_bridge(made: MadeProject, url: str) -> None:
+    """Gives the project the settings of a bridge."""
+    (made.folder / "bridge").mkdir(exist_ok=True)
+    (made.folder / "bridge" / "bridge.toml").write_text(f'name = "Sums"\nurl = "{url}"\n')
+
+
+def test_all_is_good(made: MadeProject) -> None:
+    port = Project(made.folder).port("BRIDGE_PORT")
+    url = f"http://127.0.0.1:{port}/project/"
+    with_bridge(made, url)
+    with served(port, url):
+        told = found(made)
+    free = told.pop("disk")  # that of this machine
+    assert {one.check: one.level for one in told.values()} == dict.fromkeys(
+        ("scheduler", "bridge", "url", "tick", "copy", "limits"), Level.GOOD)
+    assert "GB" in free.text
+
+
+def test_a_project_without_a_bridge(made: MadeProject) -> None:
+    assert found(made).keys() == {"scheduler", "tick", "copy", "limits", "disk"}
+
+
+def test_a_scheduler_that_does_not_run(made: MadeProject) -> None:
+    made.end()
+    told = found(made)["scheduler"]
+    assert told.level is Level.CRITICAL and "Connection refused" in told.text
+
+
+def test_the_scheduler_of_another_project(made: MadeProject) -> None:
+    (made.folder / "settings.toml").write_text(SETTINGS.replace("change-this-key", "another-key"))
+    told = found(made)["scheduler"]
+    assert told.level is Level.CRITICAL and "refuses the operator's key" in told.text
+
+
+def test_a_port_that_something_else_has(made: MadeProject) -> None:
+    made.end()
+    with served(made.port, ""):
+        assert found(made)["scheduler"].level is Level.CRITICAL
+
+
+def test_the_bridge_of_another_project(made: MadeProject) -> None:
+    port = Project(made.folder).port("BRIDGE_PORT")
+    with_bridge(made, f"http://127.0.0.1:{port}/")
+    assert "Connection refused" in found(made)["bridge"].text
+    with served(port, "http://others.example/"):
+        told = found(made)
+    assert "is not this project" in told["bridge"].text and told["url"].level is Level.CRITICAL
+
+
+def test_certificates(made: MadeProject, tmp_path: Path, monkeypatch: pytest.MonkeyPatch) -> None:
+    """One that nobody knows, one for 30 days, and one for 2 days."""
+    for days, level, text in ((30, Level.GOOD, "valid for 29 days"), (2, Level.CRITICAL, "valid for 1 days")):
+        words = ["openssl", "req", "-x509", "-newkey", "rsa:2048", "-nodes", "-days", str(days)]
+        words += ["-subj", "/CN=localhost", "-addext", "subjectAltName=DNS:localhost"]
+        words += ["-keyout", str(tmp_path / "key"), "-out", str(tmp_path / "pem")]
+        subprocess.run(words, check=True, capture_output=True)
+        context = ssl.SSLContext(ssl.PROTOCOL_TLS_SERVER)
+        context.load_cert_chain(tmp_path / "pem", tmp_path / "key")
+        with served(0, "", context) as port:
+            with_bridge(made, f"https://localhost:{port}/")
+            assert "its certificate is not valid: self-signed" in found(made)["certificate"].text
+            monkeypatch.setenv("SSL_CERT_FILE", str(tmp_path / "pem"))
+            told = found(made)["certificate"]
+            assert told.level is level and text in told.text
+            monkeypatch.delenv("SSL_CERT_FILE")
+
+
+@pytest.mark.parametrize("states, level, text", [
+    ({"ActiveState": "inactive", "Result": "success"}, Level.CRITICAL,
+     "systemctl enable --now bsched-tick@sums.timer"),
+    ({"ActiveState": "active", "Result": "exit-code"}, Level.WARNING, "journalctl -u bsched-tick@sums"),
+    ({"ActiveState": None, "Result": None}, Level.UNKNOWN, "it does not run here"),
+])
+def test_ticks(
+    made: MadeProject, monkeypatch: pytest.MonkeyPatch, states: dict[str, str], level: Level, text: str
+) -> None:
+    monkeypatch.setattr(health, "shown_by_systemd", lambda _unit, key: states[key])
+    told = found(made)["tick"]
+    assert told.level is level and text in told.text
+
+
+@pytest.mark.parametrize("hours, level", [(2, Level.GOOD), (4, Level.WARNING), (25, Level.CRITICAL)])
+def test_old_copies(made: MadeProject, hours: int, level: Level) -> None:
+    copy, = (made.folder / "copies").iterdir()
+    moment = time.strftime("%Y%m%dT%H%M%S.000Z", time.gmtime(time.time() - 3600 * hours))
+    copy.rename(copy.with_name(f"project-{moment}.db"))
+    assert found(made)["copy"].level is level
+    copy.with_name(f"project-{moment}.db").unlink()
+    assert "there is none" in found(made)["copy"].text
+
+
+def test_a_table_that_is_nearly_full(made: MadeProject, monkeypatch: pytest.MonkeyPatch) -> None:
+    from bsched_tools import counts
+    monkeypatch.setitem(counts.MOST, "unit", 22)
+    told = found(made)["limits"]
+    assert told.level is Level.WARNING and told.text.startswith("20 of 22 workunits are used")
+    monkeypatch.setitem(counts.MOST, "unit", 20)
+    assert found(made)["limits"].level is Level.CRITICAL
+
+
+def test_a_disk_that_is_nearly_full(made: MadeProject, monkeypatch: pytest.MonkeyPatch) -> None:
+    usage = type("Usage", (), {"free": 2 * 10**9, "total": 100 * 10**9})
+    monkeypatch.setattr(health.shutil, "disk_usage", lambda _folder: usage)
+    told = found(made)["disk"]
+    assert told.level is Level.CRITICAL and "2.0 GB of 100.0 GB" in told.text
+
+
+def test_the_command(made: MadeProject) -> None:
+    made.end()
+    status, told, fault = made.tools("health")
+    assert (status, fault) == (2, "") and told.splitlines()[0].startswith("critical  scheduler    port ")
+
+
+def test_mail_of_changes(made: MadeProject, tmp_path: Path, monkeypatch: pytest.MonkeyPatch) -> None:
+    """One mail when it becomes bad, none while it stays so, and one when it is good again. If the mailer
+    fails, the mail comes at the next run."""
+    mailer, sent = tmp_path / "sendmail", tmp_path / "sent"
+    mailer.write_text(f"#!/bin/sh\ntest ! -e {tmp_path}/broken || exit 75\ncat >> {sent}\n")
+    mailer.chmod(0o755)
+    monkeypatch.setattr(health, "SENDMAIL", mailer)
+    project = Project(made.folder)
+    good = [Finding("scheduler", Level.GOOD, "answers")]
+    bad = [Finding("scheduler", Level.CRITICAL, "gives no answer")]
+
+    def mailed(findings: list[Finding]) -> bool:
+        return health.mail_changes(project, project.units(), findings, "op@sums.example")
+
+    assert not mailed(good) and not sent.exists()
+    (tmp_path / "broken").touch()
+    with pytest.raises(health.Fault, match="status 75"):
+        mailed(bad)
+    os.remove(tmp_path / "broken")
+    assert mailed(bad) and not mailed(bad)
+    assert sent.read_text() == (
+        "To: op@sums.example\nSubject: [bsched] sums: critical\n\ncritical  scheduler    gives no answer\n")
+    assert mailed(good) and not mailed(good)
+    assert sent.read_text().count("Subject: ") == 2
