@@ -2,6 +2,7 @@
 import argparse
 import logging
 import sys
+from importlib import metadata
 from pathlib import Path
 from typing import NoReturn
 
@@ -11,8 +12,10 @@ from . import client_requests, sweep_command
 from .application import new_application
 from .catalogue import read_catalogue
 from .code_signing import KeyFault, file_md5, read_private_key, signature_text, write_new_keys
-from .operator_files import OperatorFault
-from .settings import read_settings
+from .operator_files import OperatorFault, OperatorFile
+from .operator_orders import ORDERS, OrderFault, add_orders, run_order
+from .scheduler import WRONG_KEY, NoAnswer, Scheduler
+from .settings import Settings, read_settings
 from .state_file import StateFault
 from .upload_store import check_uploads
 from .uploads import most_body
@@ -36,6 +39,7 @@ def words() -> argparse.ArgumentParser:
         prog="bsched-bridge", description="A bridge between BOINC's client and bsched."
     )
     parser.add_argument("--config", type=Path, metavar="FILE", help="the settings (TOML); serves them")
+    parser.add_argument("--version", action="version", version=f"bsched-bridge {version()}")
     parser.add_argument("--check", action="store_true", help="only checks the settings and the catalogue")
     orders = parser.add_subparsers(dest="order", metavar="ORDER")
     keygen = orders.add_parser("keygen", help="makes a pair of keys for code signing")
@@ -50,7 +54,30 @@ def words() -> argparse.ArgumentParser:
         help="copies of the tables, or folders of copies; without them reported results keep their files",
     )
     sign.add_argument("--key", type=Path, required=True, metavar="KEY", help="the private key")
+    add_orders(orders)
     return parser
+
+
+def version() -> str:
+    """Returns the version: of the package, or of the clone in which this file is."""
+    file = Path(__file__).resolve().parent.parent.parent / "VERSION"
+    return file.read_text().strip() if file.exists() else metadata.version("bsched-tools")
+
+
+def check_scheduler(path: Path, settings: Settings) -> None:
+    """Asks the scheduler whether it knows the key in the settings. It is a fault if it does not; if nobody
+    answers, a line says so.
+    """
+    key, address = settings.operator_key, settings.scheduler
+    if key is None:
+        return
+    place = f"the scheduler at {address.host}:{address.port}"
+    try:
+        if not Scheduler(address, settings.answer_seconds).knows_key(key):
+            OperatorFile(path).fault(f"{place} {WRONG_KEY}", "operator_key")
+        print(f"{place} knows operator_key")
+    except NoAnswer as failure:
+        print(f"{place} gives no answer ({failure}), so operator_key was not compared")
 
 
 def serve(path: Path, only_check: bool) -> None:
@@ -66,6 +93,7 @@ def serve(path: Path, only_check: bool) -> None:
         if settings.accounts is not None:
             limits = settings.accounts.most_a_day, settings.accounts.most_from_address
             print("volunteers make accounts: at most {} a day, {} from one address".format(*limits))
+        check_scheduler(path, settings)
         return
     application = new_application(path)
     print(f"serving {settings.url} on {settings.listen.host}:{settings.listen.port}", flush=True)
@@ -93,18 +121,27 @@ def main() -> int:
             print(signature_text(file_md5(told.file), read_private_key(told.key.read_text())), end="")
         elif told.order == "sweep":
             print(sweep_command.run(told.swept, told.tables))
+        elif told.order in ORDERS:
+            run_order(told)
         elif told.config is None:
-            parser.error("--config FILE, keygen, sign or sweep")
+            parser.error("--config FILE or a command is needed: see --help")
         else:
             serve(told.config, told.check)
-    except (OperatorFault, StateFault) as fault:
+    except (OperatorFault, StateFault, OrderFault) as fault:
         print(f"bsched-bridge: {fault}", file=sys.stderr)
         return FAULT
     except KeyFault as fault:
         print(f"bsched-bridge: {told.key} {fault}", file=sys.stderr)
         return FAULT
-    except (OSError, UnicodeDecodeError) as error:
-        print(f"bsched-bridge: {error}", file=sys.stderr)
+    except FileExistsError as error:
+        print(f"bsched-bridge: {error.filename} exists, and is not replaced", file=sys.stderr)
+        return FAULT
+    except OSError as error:
+        where = f"{error.filename}: " if error.filename else ""
+        print(f"bsched-bridge: {where}{error.strerror or error}", file=sys.stderr)
+        return FAULT
+    except UnicodeDecodeError as error:
+        print(f"bsched-bridge: {told.key} is not text: {error}", file=sys.stderr)
         return FAULT
     return 0
 

@@ -146,7 +146,9 @@ class AccountMessages:
         ).authenticator
 
     def _known_key(self, authenticator: str) -> str:
-        """Returns the key if bsched knows it."""
+        """Returns the key if bsched knows it, and the account was not deleted."""
+        if self.accounts is not None and self.accounts.is_deleted(authenticator):
+            raise AccountFault(Fault.WRONG_KEY)
         try:
             if is_word(authenticator) and self.scheduler.has_account(authenticator):
                 return authenticator

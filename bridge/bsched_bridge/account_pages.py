@@ -95,6 +95,15 @@ NEW_PASSWORD = Input(
 )
 
 
+DELETION = (
+    "The project then forgets your e-mail address, your password, your name, your consents and what it knows "
+    "about your computers. Statistics sites get your name no more. Nobody can undo this.",
+    "What stays says nothing about you: the number of the account, its key, which no computer can use any "
+    "more, and the results and the credit of the account under the name with which the account was made, or "
+    "as “deleted”.",
+)
+
+
 class AccountPages:
     """Answers people who ask about accounts."""
 
@@ -210,8 +219,56 @@ class AccountPages:
             ),
             element("h2", "Your password"),
             element("p", element("a", "Change e-mail address or password", href="get_passwd.php")),
+            element("h2", "To leave"),
+            element("p", element("a", "Delete this account", href="delete_account.php")),
             links=BACK,
             is_kept=False,
+        )
+
+    # ---- The end of an account
+
+    def delete(self, environ: Environ) -> Answer:
+        """Answers delete_account.php: whoever has the address and the password deletes the account."""
+        has_method(environ, "GET", "HEAD", "POST")
+        if environ["REQUEST_METHOD"] != "POST":
+            return self._deletion_form(Form())
+        sent, client = Form(form_of(environ)), client_of(environ, self._field)
+        email = in_small_letters(sent.text("email"))
+        if sent.text("is_sure") != "1":
+            sent.faults["is_sure"] = "Tick this, to delete the account."
+            return self._deletion_form(sent)
+        try:
+            with at_work(self.places):
+                self.accounts.delete(email, client_hash(sent.told.get("password", ""), email), client)
+        except AccountFault as fault:
+            sent.faults["password"] = fault.fault.text
+            return self._deletion_form(sent)
+        return page(
+            f"{self.settings.name}: the account is deleted",
+            element("p", "Your account is deleted.", class_="done", role="status"),
+            element("p", "Remove the project on each of your computers: it gets no more work there."),
+            links=BACK, is_kept=False,
+        )
+
+    def _deletion_form(self, sent: Form) -> Answer:
+        """Returns the page that asks for the password before it deletes an account."""
+        email = replace(EMAIL, value=sent.text("email"))
+        sure = element(
+            "label", element("input", type="checkbox", name="is_sure", value="1"),
+            " Delete my account for good", class_="choice",
+        )
+        fault = sent.faults.get("is_sure")
+        return page(
+            f"{self.settings.name}: delete your account",
+            *(element("p", text) for text in DELETION),
+            form(
+                "delete_account.php", "Delete", email.markup(None),
+                PASSWORD.markup(sent.faults.get("password")), sure,
+                element("div", fault, class_="fault") if fault else "",
+            ),
+            element("p", "You have only the account key? ", element(
+                "a", "Set a password first", href="get_passwd.php"), "."),
+            links=(("account", "Your account"), *BACK), is_kept=False,
         )
 
     # ---- A password

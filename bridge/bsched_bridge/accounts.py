@@ -14,6 +14,7 @@ from contextlib import contextmanager
 from dataclasses import dataclass
 from enum import Enum
 
+from .barring import Barred, Barring
 from .key_locks import Busy, KeyLocks
 from .limits import NoPlace, Places, RecentCounts
 from .members import DayIsFull, EmailTaken, Member, Members
@@ -135,8 +136,10 @@ class Accounts:
         scheduler: Scheduler,
         operator_key: str,
         passwords: Passwords,
+        barring: Barring,
     ):
         self.settings, self.members, self.scheduler, self.passwords = settings, members, scheduler, passwords
+        self.barring = barring
         self._operator_key = operator_key
         self._locks = KeyLocks(WAIT_SECONDS)
         self._new = RecentCounts(settings.most_from_address, DAY)
@@ -189,7 +192,13 @@ class Accounts:
     def of_key(self, authenticator: str) -> Member | None:
         """Returns the account with a key, if the bridge knows it and bsched has it."""
         member = self.members.of_key(authenticator) if WORD.fullmatch(authenticator) else None
-        return member if member is not None and member.is_imported else None
+        if member is None or not member.is_imported or self.is_deleted(authenticator):
+            return None
+        return member
+
+    def is_deleted(self, authenticator: str) -> bool:
+        """Returns whether the account with a key was deleted."""
+        return self.barring.reason(authenticator) is Barred.DELETED
 
     def has_password(self, authenticator: str, email: str, told: str, client: str) -> Member:
         """Sets the address and the password of an account, and returns it. The owner sends the key."""
@@ -203,7 +212,18 @@ class Accounts:
             except EmailTaken:
                 attempt.is_wrong = True  # it says that the address has an account
                 raise AccountFault(Fault.TAKEN) from None
+        if self.is_deleted(authenticator):  # by another message, just now: then nothing was set
+            raise AccountFault(Fault.WRONG_KEY)
         return member
+
+    def delete(self, email: str, told: str, client: str) -> None:
+        """Deletes the account with an address and a password: its key is barred, and its user forgotten."""
+        member = self.look_up(email, told, client)
+        with self._held(email):
+            again = self.members.of_email(email)
+            if again is None or again.authenticator != member.authenticator:
+                raise AccountFault(Fault.WRONG)
+            self.barring.delete(member.authenticator, int(time.time()))
 
     def of_owner(self, authenticator: str, client: str) -> Member:
         """Returns the account with a key that somebody sends. After too many wrong keys it refuses."""

@@ -12,6 +12,7 @@ from .account_messages import AccountMessages, project_config
 from .account_pages import AccountPages
 from .accounts import Accounts
 from .archives import read_archives
+from .barring import Barring
 from .call_numbers import CallNumbers
 from .catalogue import Catalogue, MissingFile, read_catalogue
 from .client_replies import ReplyWriter
@@ -72,14 +73,14 @@ class Application:
         self.accounts: Accounts | None = None
         if settings.accounts is not None and settings.operator_key is not None:
             self.accounts = Accounts(
-                settings.accounts, self.members, scheduler, settings.operator_key, passwords or Passwords()
+                settings.accounts, self.members, scheduler, settings.operator_key, passwords or Passwords(),
+                Barring(file),
             )
         self.exchange = Exchange(
             hosts, CallNumbers(file), scheduler, settings.retry_delay, rules or (lambda: settings.host_rules),
-            HostSearch(hosts, scheduler, settings.operator_key),
+            HostSearch(hosts, scheduler, settings.operator_key), Barring(file),
             self.accounts.is_imported_again if self.accounts else lambda _authenticator: False,
-            archives,
-            self._report_checks(hosts),
+            archives, self._report_checks(hosts), settings.contact,
         )
         tokens = None if store is None else UploadTokens(store.secret)
         has_accounts = self.accounts is not None
@@ -120,6 +121,7 @@ class Application:
                 "account": people.account,
                 "account_finish.php": people.finish,
                 "get_passwd.php": people.password,
+                "delete_account.php": people.delete,
                 "terms": people.terms,
             }
         return handlers
@@ -247,7 +249,7 @@ def new_application(path: Path) -> Application:
     if settings.is_without_addresses:
         log.warning("all volunteers count as one address, that of the proxy: set address_field in [accounts]")
     catalogue = read_catalogue(settings.catalogue)
-    scheduler = Scheduler(settings.scheduler, settings.answer_seconds)
+    scheduler = Scheduler(settings.scheduler, settings.answer_seconds, settings.operator_key)
     rules = HostRuleReader(path, settings.host_rules)
     file = StateFile(settings.state)  # no other bridge has it from now on, nor the folder of uploads
     store = opened_store(settings, catalogue)

@@ -168,17 +168,19 @@ class CallNumbers:
             )
             first_heard(connection, key.authenticator, reply.user_name, now)
 
-    def told_hostid(self, key: Key) -> int:
+    def told_hostid(self, key: Key) -> int | None:
         """Returns the number of a host, which its client is told with this reply. The host has one if a
         client was told it before; else it gets a new one. It is on the disk before this returns. The client
-        counts its requests from 0 again.
+        counts its requests from 0 again. If the account was deleted just now, there is no number.
         """
         with self.file.transaction() as connection:
             values = key.authenticator, key.host_cpid
-            (hostid,) = connection.execute(
+            row = connection.execute(
                 "SELECT hostid FROM host WHERE authenticator = ? AND host_cpid = ?", values
             ).fetchone()
-            hostid = new_hostid(connection) if hostid is None else hostid
+            if row is None:
+                return None
+            hostid = new_hostid(connection) if row[0] is None else row[0]
             connection.execute(
                 "UPDATE host SET hostid = ?, client_seqno = NULL WHERE authenticator = ? AND host_cpid = ?",
                 (hostid, *values),

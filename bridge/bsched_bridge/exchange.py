@@ -16,6 +16,7 @@ from collections.abc import Callable, Iterable
 from dataclasses import dataclass, replace
 
 from .archives import Archives
+from .barring import Barred, Barring
 from .call_numbers import CallNumbers, ClientState, CountEnded, TooManyHosts
 from .calls import call_text
 from .client_requests import ClientRequest, Report
@@ -72,6 +73,9 @@ COUNT_ENDED = PutOff(
     "notice",
 )
 BARRED = PutOff("The project's operator has barred this account. Ask the operator why.", DAY, "notice")
+DELETED = PutOff(
+    "This account was deleted. Remove the project, or join it with a new account.", DAY, "notice"
+)
 
 
 def put_off_by(refusal: Refusal) -> PutOff:
@@ -107,12 +111,12 @@ class Exchange:
 
     def __init__(
         self, hosts: Hosts, numbers: CallNumbers, scheduler: Scheduler, retry_delay: int,
-        rules: Callable[[], HostRules], search: HostSearch,
+        rules: Callable[[], HostRules], search: HostSearch, barring: Barring,
         is_imported_again: Callable[[str], bool] = lambda _authenticator: False,
-        archives: Archives | None = None, reports: ReportChecks | None = None,
+        archives: Archives | None = None, reports: ReportChecks | None = None, contact: str | None = None,
     ):
         self.hosts, self.numbers, self.scheduler, self.search = hosts, numbers, scheduler, search
-        self.retry_delay, self.rules = retry_delay, rules
+        self.retry_delay, self.rules, self.barring, self.contact = retry_delay, rules, barring, contact
         self.reports = reports  # None if no application has output files
         self.is_imported_again = is_imported_again  # imports an account again that bsched has lost
         self.archives = archives or Archives()
@@ -122,13 +126,13 @@ class Exchange:
         """Returns the reply to a request, with the jobs that were in hand. If the request is put off, returns
         why and for how long.
         """
-        if request.authenticator in self.rules().barred:
+        refused = self._refused(request.authenticator)
+        if refused is not None:
             log.warning(
-                "host %s of account %s is refused: barred",
-                request.host_cpid,
-                shown_key(request.authenticator),
+                "host %s of account %s is refused: %s", request.host_cpid, shown_key(request.authenticator),
+                "deleted" if refused is DELETED else "barred",
             )
-            return BARRED
+            return refused
         try:
             known = self.hosts.of_number(request.authenticator, request.hostid)
             if known is not None and request.rpc_seqno >= known.client_seqno:
@@ -144,6 +148,16 @@ class Exchange:
             return PutOff(TOO_BUSY, self.retry_delay)
         except CountEnded:
             return COUNT_ENDED
+
+    def _refused(self, authenticator: str) -> PutOff | None:
+        """Returns what a client of a barred or a deleted account reads, or None for other accounts."""
+        reason = self.barring.reason(authenticator)
+        if reason is Barred.DELETED:
+            return DELETED
+        is_barred = reason is not None or authenticator in self.rules().barred
+        if not is_barred:
+            return None
+        return replace(BARRED, message=f"{BARRED.message} ({self.contact})") if self.contact else BARRED
 
     # ---- Clients that don't send the number of their host
 

@@ -161,6 +161,14 @@ class Hosts:
         row = self.file.row("SELECT count(*) FROM host WHERE scheduler_hostid IS NOT NULL")
         return cast(int, row[0]) if row else 0
 
+    def counted_by_account(self) -> dict[str, int]:
+        """Returns how many hosts each account has that have had a reply, by its key."""
+        rows = self.file.rows(
+            "SELECT authenticator, count(*) FROM host WHERE scheduler_hostid IS NOT NULL "
+            "GROUP BY authenticator"
+        )
+        return {cast(str, row[0]): cast(int, row[1]) for row in rows}
+
     def user_credits(self) -> list[tuple[str, int]]:
         """Returns each account that has had a reply, with its credit from the latest reply to one of its
         hosts.

@@ -23,6 +23,7 @@ INSERT = (
 # rows of the operator's accounts have no batch
 MADE_SINCE = "SELECT count(*) FROM member WHERE batch IS NOT NULL AND created_at > ?"
 DAY = 86400
+ROWS_AT_ONCE = 1000
 
 
 class EmailTaken(Exception):
@@ -120,6 +121,28 @@ class Members:
         while (member := self._one("is_imported = 0 AND id > ? ORDER BY id", last)) is not None:
             yield member
             last = member.id
+
+    def all(self) -> Iterator[Member]:
+        """Yields all accounts, in the order of their numbers."""
+        last = 0
+        while rows := self.file.rows(
+            f"SELECT {COLUMNS} FROM member WHERE id > ? ORDER BY id LIMIT {ROWS_AT_ONCE}", last
+        ):
+            yield from map(member_of, rows)
+            last = cast(int, rows[-1][0])
+
+    def with_name(self, text: str, least_key: int) -> list[Member]:
+        """Returns the accounts that a text names: by the address or the whole key, else by the front of the
+        key, of at least this many characters, or by the name.
+        """
+        exact = self._one("email = ?1 OR authenticator = ?1", text) or self._one("email = ?", text.lower())
+        if exact is not None:
+            return [exact]
+        rows = self.file.rows(
+            f"SELECT {COLUMNS} FROM member WHERE name = ?1 OR "
+            "(length(?1) >= ?2 AND substr(authenticator, 1, length(?1)) = ?1) ORDER BY id", text, least_key
+        )
+        return list(map(member_of, rows))
 
     def names(self) -> dict[str, str]:
         """Returns the name of each account, by its key."""

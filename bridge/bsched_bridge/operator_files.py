@@ -1,4 +1,5 @@
 """TOML files that an operator writes. Each fault is reported with its line."""
+import difflib
 import re
 import tomllib
 from bisect import bisect_right
@@ -7,6 +8,7 @@ from typing import Any, NoReturn, cast
 
 from .words import is_word
 
+LEAST_LIKENESS = 0.75  # of two names, of which one may be meant as the other
 MOST_TEXT = 65_536  # characters of a file whose text is shown on a page
 TABLE = re.compile(r"[ \t]*\[\[?[ \t]*([A-Za-z0-9_-]+)[ \t]*\]\]?")
 
@@ -46,10 +48,17 @@ class Entry:
         self.untaken.discard(member)
         value = self.members.get(member, default)
         if value is ...:
-            self.fault(f"{member} is missing")
+            self.is_missing(member)
         if value is not default and type(value) is not kind:
             self.fault(f"{member} is not {kind_name}", member)
         return value
+
+    def is_missing(self, member: str) -> NoReturn:
+        """Raises the fault of a member that is missing. If another one has nearly its name, it is named."""
+        close = difflib.get_close_matches(member, sorted(self.untaken), 1, LEAST_LIKENESS)
+        if close:
+            self.fault(f"{close[0]} is not known here: is {member} meant, which is missing?", close[0])
+        self.fault(f"{member} is missing")
 
     def text(self, member: str, default: Any = ...) -> str:
         """Returns a text."""

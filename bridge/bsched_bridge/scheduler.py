@@ -12,7 +12,8 @@ from .settings import Address
 
 ATTEMPTS = 3
 PAUSE_SECONDS = 0.5  # between attempts
-UNAVAILABLE = "unavailable"
+UNAVAILABLE, NO_SUCH_HOST, NOT_OPERATOR = "unavailable", "no_such_host", "not_operator"
+WRONG_KEY = "refuses operator_key: it is that of another project, or the key is another one"
 NO_HOST = 2**31 - 1  # no host has this number: there are at most 100,000
 MOST_ANSWER = 16 * 1024 * 1024  # bytes
 
@@ -92,11 +93,17 @@ def read_refusal(status: int, said: object) -> Refusal:
 
 
 class Scheduler:
-    """Sends messages to bsched. Each message has a connection of its own, as bsched requires."""
+    """Sends messages to bsched. Each message has a connection of its own, as bsched requires.
 
-    def __init__(self, address: Address, answer_seconds: int) -> None:
+    With the operator's key it first asks whether what has the port knows that key. Otherwise it may be the
+    scheduler of another project, whose jobs would go to this one's computers. It asks again after each
+    message without an answer, since another program may have the port then.
+    """
+
+    def __init__(self, address: Address, answer_seconds: int, operator_key: str | None = None) -> None:
         self.address, self.answer_seconds = address, answer_seconds
         self.silent_since: float | None = None  # since when bsched gives no answer; None after an answer
+        self._key_to_check, self._is_checked = operator_key, operator_key is None
 
     def message(
         self, method: str, path: str, body: bytes | None = None, fields: dict[str, str] | None = None
@@ -105,6 +112,8 @@ class Scheduler:
         has none.
         """
         try:
+            if not self._is_checked:
+                self._check_key()
             status, told = self._exchange(method, path, body, fields or {})
             if len(told) > MOST_ANSWER:
                 self._is_too_long(method, path)
@@ -112,9 +121,32 @@ class Scheduler:
                 raise NoAnswer(f"status {status}")
         except NoAnswer:
             self.silent_since = self.silent_since or time.time()
+            self._is_checked = self._key_to_check is None
             raise
         self.silent_since = None
         return status, told
+
+    def _check_key(self) -> None:
+        """Asks whether bsched knows the operator's key. If it does not, nothing else is sent to it."""
+        if not self.knows_key(self._key_to_check or ""):
+            log.error("the scheduler at %s:%d %s", self.address.host, self.address.port, WRONG_KEY)
+            raise NoAnswer(WRONG_KEY)
+        self._is_checked = True
+
+    def knows_key(self, operator_key: str) -> bool:
+        """Returns whether bsched knows an operator's key. It asks for the statement of a host that does not
+        exist. Raises NoAnswer if nobody answers, or another program does.
+        """
+        fields = {"x-operator-key": operator_key}
+        status, told = self._exchange("GET", f"/hosts/{NO_HOST}", None, fields)
+        try:
+            said = json.loads(told)
+        except ValueError:
+            said = None
+        refusal = read_refusal(status, said)
+        if refusal.error not in (NO_SUCH_HOST, NOT_OPERATOR):
+            raise NoAnswer(f"status {status} with a body that is no answer of bsched")
+        return refusal.error == NO_SUCH_HOST
 
     def _exchange(
         self, method: str, path: str, body: bytes | None, fields: dict[str, str]

@@ -9,6 +9,7 @@ from .operator_files import Entry, OperatorFile
 
 FIELD_NAME = re.compile("[A-Za-z][A-Za-z0-9-]{0,63}")
 LEAST_KEPT_DAYS = 7  # a client whose reply was lost reports a result again within this time
+MOST_CONTACT = 200  # characters
 LISTED_FIELDS = {"x-forwarded-for", "forwarded"}  # clients write here; a proxy only adds
 
 
@@ -66,6 +67,7 @@ class Settings:
     answer_seconds: int  # how long the bridge waits for an answer of bsched
     retry_delay: int  # the seconds that a client must wait if bsched gave no answer
     welcome: str | None  # what the project's page says, in the operator's own words
+    contact: str | None  # how to reach the operator: an address or a URL
     counts: Path | None  # a file with the counts of a copy of bsched's tables
     host_rules: HostRules
     accounts: AccountSettings | None  # None if only the operator makes accounts
@@ -179,6 +181,14 @@ def read_host_rules(file: OperatorFile) -> HostRules:
     return HostRules(file.whole("most_hosts", 1, 100_000, 20), file.words("barred"))
 
 
+def read_contact(file: Entry) -> str | None:
+    """Reads how to reach the operator: one line that people read."""
+    contact = file.text("contact", "").strip()
+    if len(contact) > MOST_CONTACT or not contact.isprintable():
+        file.fault(f"contact is not one line of at most {MOST_CONTACT} characters", "contact")
+    return contact or None
+
+
 def archive_paths(file: Entry) -> tuple[Path, ...]:
     """Reads the paths of the project's earlier files."""
     paths = []
@@ -208,6 +218,7 @@ def read_settings(path: Path) -> Settings:
         answer_seconds=file.whole("answer_seconds", 1, 120, 15),
         retry_delay=file.whole("retry_delay", 1, 86400, 60),
         welcome=file.short_text("welcome"),
+        contact=read_contact(file),
         counts=path.parent / file.text("counts") if "counts" in file.members else None,
         host_rules=read_host_rules(file),
         accounts=read_accounts(file, url, key is not None),

@@ -1,8 +1,12 @@
 """The state file: what must outlive a stop of the bridge, in SQLite.
 
-Three modules keep their rows in it: `hosts` and `call_numbers` the keys of bsched with their numbers and
-their calls, and `members` the accounts.
+Four modules keep their rows in it: `hosts` and `call_numbers` the keys of bsched with their numbers and
+their calls, `members` the accounts, and `barring` those whose computers are refused.
+
+One bridge has the file: it holds the lock file next to it. Commands of the operator work on the file while
+the bridge serves it; each of their transactions takes a part of a second.
 """
+import fcntl
 import os
 import sqlite3
 import threading
@@ -11,7 +15,7 @@ from contextlib import contextmanager
 from pathlib import Path
 
 # the name of the format, in the file's header: "bscb"
-APPLICATION_ID, SCHEMA_VERSION = 0x62736362, 3
+APPLICATION_ID, SCHEMA_VERSION = 0x62736362, 4
 HOSTS = """
 CREATE TABLE host (
   -- the key; the host_cpid is the one with which the host was made
@@ -57,6 +61,19 @@ CREATE TABLE member (
 CREATE INDEX member_open ON member (id) WHERE is_imported = 0;
 CREATE INDEX member_created ON member (created_at) WHERE batch IS NOT NULL;
 """
+BARRED = """
+CREATE TABLE barred (            -- accounts whose computers are refused
+  authenticator TEXT PRIMARY KEY, barred_at INTEGER NOT NULL,
+  is_deleted INTEGER NOT NULL    -- 1 if the account was deleted, 0 if the operator barred it
+) STRICT, WITHOUT ROWID;
+-- a message that was in work when its account was deleted writes nothing of what was forgotten
+CREATE TRIGGER host_of_deleted BEFORE INSERT ON host
+  WHEN EXISTS (SELECT 1 FROM barred WHERE authenticator = NEW.authenticator AND is_deleted = 1)
+  BEGIN SELECT RAISE(IGNORE); END;
+CREATE TRIGGER member_of_deleted BEFORE UPDATE ON member
+  WHEN EXISTS (SELECT 1 FROM barred WHERE authenticator = NEW.authenticator AND is_deleted = 1)
+  BEGIN SELECT RAISE(IGNORE); END;
+"""
 # inserts the accounts of hosts that had a reply before the table member existed
 HEARD_MEMBERS = """
 INSERT INTO member (authenticator, name, is_imported, cpid, created_at)
@@ -79,9 +96,10 @@ INSERT INTO host (authenticator, host_cpid, scheduler_hostid, last_number, open_
     host_credit, heard_at FROM host_of_version_2;
 DROP TABLE host_of_version_2;
 """
-NEW_FILE = HOSTS + NUMBERS + MEMBERS
+NEW_FILE = HOSTS + NUMBERS + MEMBERS + BARRED
 # the statements from each version to the next
-UPGRADES = {1: MEMBERS + HEARD_MEMBERS, 2: HOSTS_OF_VERSION_2 + NUMBERS}
+UPGRADES = {1: MEMBERS + HEARD_MEMBERS, 2: HOSTS_OF_VERSION_2 + NUMBERS, 3: BARRED}
+BUSY_SECONDS = 10.0  # for a transaction of another process
 
 
 class StateFault(Exception):
@@ -98,32 +116,58 @@ def make_private(path: Path) -> None:
         pass
 
 
+def held(path: Path) -> int:
+    """Locks the lock file of a state file, and returns its descriptor. The lock ends with the process."""
+    descriptor = os.open(path.with_name(f"{path.name}.lock"), os.O_RDWR | os.O_CREAT | os.O_CLOEXEC, 0o600)
+    try:
+        fcntl.flock(descriptor, fcntl.LOCK_EX | fcntl.LOCK_NB)
+    except BlockingIOError:
+        os.close(descriptor)
+        raise StateFault(f"{path}: a bridge has it; no other bridge may have it") from None
+    return descriptor
+
+
 class StateFile:
-    """A connection to the state file. Only one process at a time can have it. The threads of that process
-    take turns.
+    """A connection to the state file. One bridge has it, and its threads take turns. A guest is a command of
+    the operator, which works on the file of a bridge that runs or not.
     """
 
-    def __init__(self, path: Path) -> None:
-        self._lock = threading.Lock()
+    def __init__(self, path: Path, is_guest: bool = False) -> None:
+        self._lock, self._held = threading.Lock(), None
         try:
-            make_private(path)
+            if is_guest:
+                path.stat()
+            else:
+                make_private(path)
+                self._held = held(path)
         except OSError as error:
             raise StateFault(f"{path}: {error.strerror}") from None
         try:
-            self._connection = sqlite3.connect(path, isolation_level=None, check_same_thread=False, timeout=1)
+            self._connection = sqlite3.connect(
+                path, isolation_level=None, check_same_thread=False, timeout=BUSY_SECONDS
+            )
         except sqlite3.Error as error:
+            self._release()
             raise StateFault(f"{path}: {error}") from None
         try:
-            for pragma in ("locking_mode = EXCLUSIVE", "journal_mode = WAL"):
+            # what is deleted is overwritten: the file has addresses
+            for pragma in ("secure_delete = ON", "journal_mode = WAL"):
                 self._connection.execute(f"PRAGMA {pragma}").fetchall()
-            with self.transaction() as connection:
-                prepare(connection)
-        except sqlite3.Error as error:
-            self._connection.close()
-            raise StateFault(f"{path}: {error}; no other bridge may have it") from None
-        except StateFault as fault:
-            self._connection.close()
-            raise StateFault(f"{path}: {fault}") from None
+            if is_guest:
+                check_version(self._connection)
+            else:
+                with self.transaction() as connection:
+                    prepare(connection)
+        except (sqlite3.Error, StateFault) as fault:
+            self.close()
+            advice = "; no other bridge may have it" if isinstance(fault, sqlite3.Error) else ""
+            raise StateFault(f"{path}: {fault}{advice}") from None
+
+    def _release(self) -> None:
+        """Gives up the lock of a bridge."""
+        if self._held is not None:
+            os.close(self._held)
+            self._held = None
 
     @contextmanager
     def transaction(self, is_synced: bool = True) -> Iterator[sqlite3.Connection]:
@@ -157,6 +201,34 @@ class StateFile:
         """Closes the file."""
         with self._lock:
             self._connection.close()
+            self._release()
+
+    def wipe_log(self) -> None:
+        """Moves the log into the file, and cuts the log off, so that it has nothing that was deleted. If
+        another process reads just now, a later commit does it.
+        """
+        with self._lock:
+            self._connection.execute("PRAGMA wal_checkpoint(TRUNCATE)").fetchall()
+
+    def backup(self, target: Path) -> None:
+        """Copies the file as it is at one moment into a new file. Others can go on writing meanwhile."""
+        with self._lock:
+            copy = sqlite3.connect(target, isolation_level=None)
+            try:
+                self._connection.backup(copy)
+                copy.execute("PRAGMA journal_mode = DELETE").fetchall()
+            finally:
+                copy.close()
+
+
+def check_version(connection: sqlite3.Connection) -> None:
+    """Checks that a file is one of this bridge's format."""
+    identity = connection.execute("PRAGMA application_id").fetchone()[0]
+    version = connection.execute("PRAGMA user_version").fetchone()[0]
+    if identity != APPLICATION_ID:
+        raise StateFault("is not the state file of a bridge")
+    if version != SCHEMA_VERSION:
+        raise StateFault(f"has format {version}, and this command knows {SCHEMA_VERSION}: restart the bridge")
 
 
 def prepare(connection: sqlite3.Connection) -> None:

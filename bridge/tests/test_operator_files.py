@@ -1,5 +1,6 @@
 """Faults of the settings and of the catalogue are reported with their line."""
 import re
+import socket
 import subprocess
 import sys
 
@@ -72,7 +73,9 @@ def test_passwords_are_sent_over_tls(project, url, is_good):
 SETTINGS_FAULTS = [
     ('"Sums"', "Sums", None, "is not TOML.*line 1"),
     ('name = "Sums"', "", 1, "name is missing"),
+    ("catalogue =", "catalog =", 6, "catalog is not known here: is catalogue meant, which is missing"),
     ('"Sums"', "1", 1, "name is not a text in quotes"),
+    ('"bridge.db"', '"bridge.db"\ncontact = "a\\nb"', 8, "contact is not one line"),
     ('"Sums"', '" "', 1, "name is empty"),
     ("http://127.0.0.1:8081/p/", "127.0.0.1:8081/p/", 2, "url is not http"),
     ("http://127.0.0.1:8081/p/", "ftp://x/", 2, "url is not http"),
@@ -224,13 +227,41 @@ def ordered(folder, *words):
     )
 
 
-def test_the_command_line(project):
+def free_port():
+    """Returns a port at which nobody listens."""
+    with socket.create_server(("127.0.0.1", 0)) as made:
+        return made.getsockname()[1]
+
+
+def at_port(project, port):
+    """Gives the bridge the port of a scheduler."""
+    path = project / "bridge.toml"
+    path.write_text(re.sub("127.0.0.1:8080", f"127.0.0.1:{port}", path.read_text()))
+
+
+def test_the_check_asks_the_scheduler(project, twin):
+    twin.statement = None
+    at_port(project, twin.address.port)
     told = ordered(project, "--config", "bridge.toml", "--check")
-    assert (told.returncode, told.stdout) == (0, "good: 1 applications, 1 versions, 1 workunits\n")
+    place = f"the scheduler at 127.0.0.1:{twin.address.port}"
+    assert (told.returncode, told.stdout.splitlines()[1:]) == (0, [f"{place} knows operator_key"])
+    path = project / "bridge.toml"
+    path.write_text(path.read_text().replace("change-this-key", "another-key"))
+    told = ordered(project, "--config", "bridge.toml", "--check")
+    fault = f"{place} refuses operator_key: it is that of another project, or the key is another one"
+    assert (told.returncode, told.stderr) == (1, f"bsched-bridge: bridge.toml: line 5: {fault}\n")
+
+
+def test_the_command_line(project):
+    at_port(project, free_port())
+    told = ordered(project, "--config", "bridge.toml", "--check")
+    lines = told.stdout.splitlines()
+    assert (told.returncode, lines[0]) == (0, "good: 1 applications, 1 versions, 1 workunits")
+    assert lines[1].endswith("so operator_key was not compared") and "gives no answer" in lines[1]
     with (project / "bridge.toml").open("a") as file:
         file.write("[accounts]\nmost_a_day = 7\n")
     told = ordered(project, "--config", "bridge.toml", "--check")
-    assert told.stdout.splitlines()[1:] == ["volunteers make accounts: at most 7 a day, 3 from one address"]
+    assert told.stdout.splitlines()[1] == "volunteers make accounts: at most 7 a day, 3 from one address"
     (project / "catalogue.toml").write_text("x = 1\n")
     told = ordered(project, "--config", "bridge.toml")
     assert (told.returncode, told.stderr) == (

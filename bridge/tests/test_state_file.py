@@ -91,7 +91,8 @@ def test_only_the_owner_can_read_a_new_file(tmp_path):
     finally:
         os.umask(mask)
     modes = {path.name: path.stat().st_mode & 0o777 for path in tmp_path.iterdir()}
-    assert modes == {"state.db": 0o600, "state.db-wal": 0o600}
+    names = "state.db", "state.db-wal", "state.db-shm", "state.db.lock"
+    assert modes == dict.fromkeys(names, 0o600)
     file.close()
     (tmp_path / "state.db").chmod(0o640)  # as an operator wants it
     StateFile(tmp_path / "state.db").close()
@@ -121,7 +122,7 @@ def test_a_newer_file_is_refused_and_not_changed(tmp_path):
     with pytest.raises(StateFault) as told:
         StateFile(path)
     assert str(told.value) == (
-        f"{path}: a newer bridge wrote this file (format 4, and this bridge knows 3): run that bridge"
+        f"{path}: a newer bridge wrote this file (format 5, and this bridge knows 4): run that bridge"
     )
     assert contents(path) == before
 
@@ -160,7 +161,7 @@ def test_a_file_of_version_1_gets_accounts(tmp_path):
     kept = contents(path)
     StateFile(path).close()  # no upgrade is needed
     assert contents(path) == kept
-    assert kept[1] == 3
+    assert kept[1] == 4
 
 
 @pytest.mark.parametrize("version", [1, 2])
@@ -187,4 +188,4 @@ def test_a_new_file_and_an_upgraded_one_have_the_same_tables(tmp_path):
         kept = file.rows("SELECT type, name FROM sqlite_schema WHERE name NOT LIKE 'sqlite_%' ORDER BY name")
         shapes.append([(kind, table, file.rows(f"PRAGMA table_xinfo({table})")) for kind, table in kept])
         file.close()
-    assert shapes[0] == shapes[1] == shapes[2] and len(shapes[0]) == 11
+    assert shapes[0] == shapes[1] == shapes[2] and len(shapes[0]) == 14

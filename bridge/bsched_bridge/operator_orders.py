@@ -1,0 +1,293 @@
+"""The operator's commands on accounts. They work on the state file, while a bridge serves it or not.
+
+Root can use them, too: what SQLite then makes next to the file belongs to the user who has the file.
+"""
+import argparse
+import csv
+import json
+import os
+import sys
+import time
+from collections.abc import Callable, Iterable, Iterator
+from contextlib import suppress
+from dataclasses import dataclass
+from datetime import datetime, timezone
+from pathlib import Path
+from typing import TypeVar
+
+from .barring import Barred, Barring
+from .hosts import HeardHost, Hosts
+from .members import Member, Members
+from .settings import Settings, read_settings
+from .state_file import StateFile
+from .texts import credits_text, moment_text
+from .words import shown_key
+
+PROJECTS = Path("/var/lib/bsched")
+COPY_ENDING = ".state"
+LEAST_KEY = 6  # characters of a key that name an account
+MOST_HOSTS = 1000
+
+
+class OrderFault(Exception):
+    """Raised if a command can't do its work."""
+
+
+@dataclass(frozen=True, slots=True)
+class State:
+    """The state file of a project, with what the commands need of it."""
+
+    settings: Settings
+    file: StateFile
+    members: Members
+    hosts: Hosts
+    barring: Barring
+
+    def barred(self, member: Member) -> str:
+        """Returns why the computers of an account are refused, in a word; empty if they are not."""
+        reason = self.barring.reason(member.authenticator)
+        if reason is Barred.DELETED:
+            return "deleted"
+        is_listed = member.authenticator in self.settings.host_rules.barred
+        return "barred" if reason is not None or is_listed else ""
+
+    def found(self, name: str) -> Member:
+        """Returns the account with an e-mail address, a name or a key, of which the first characters do."""
+        found = self.members.with_name(name, LEAST_KEY)
+        if not found:
+            raise OrderFault(f"no account has the address, name or key {name}")
+        if len(found) > 1:
+            keys = ", ".join(shown_key(member.authenticator) for member in found[:10])
+            raise OrderFault(f"{len(found)} accounts have this name: give the key, which begins with {keys}")
+        return found[0]
+
+
+def config_of(args: argparse.Namespace) -> Path:
+    """Returns the settings of the bridge that the command line names."""
+    if args.config is not None:
+        return Path(args.config)
+    name: str = args.project
+    return (Path(name) if "/" in name else PROJECTS / name) / "bridge" / "bridge.toml"
+
+
+def opened(args: argparse.Namespace) -> State:
+    """Opens the state file of the command line's project."""
+    settings = read_settings(config_of(args))
+    if not settings.state.exists():
+        raise OrderFault(f"{settings.state}: there is none: the bridge makes it at its first start")
+    file = StateFile(settings.state, is_guest=True)
+    return State(settings, file, Members(file), Hosts(file), Barring(file))
+
+
+# ---- Who there is
+
+
+def row_of(state: State, member: Member, credit: int, hosts: int) -> dict[str, object]:
+    """Returns an account as a row of the list."""
+    return {
+        "number": member.id, "key": shown_key(member.authenticator), "name": member.name,
+        "address": member.email or "", "computers": hosts, "credit": credits_text(credit),
+        "made": moment_text(member.created_at), "named": "yes" if member.is_exported else "",
+        "state": state.barred(member),
+    }
+
+
+def members(state: State, args: argparse.Namespace) -> Iterator[str]:
+    """Yields the accounts, as a table or as lines of JSON."""
+    credits, counted = dict(state.hosts.user_credits()), state.hosts.counted_by_account()
+    rows = [
+        row_of(state, member, credits.get(member.authenticator, 0), counted.get(member.authenticator, 0))
+        for member in state.members.all()
+    ]
+    if args.json:
+        yield from (json.dumps(row) for row in rows)
+    elif rows:
+        yield from as_table([list(rows[0]), *([str(value) for value in row.values()] for row in rows)])
+
+
+def as_table(rows: list[list[str]]) -> Iterator[str]:
+    """Yields rows as lines whose columns are as wide as their widest field."""
+    widths = [max(len(row[at]) for row in rows) for at in range(len(rows[0]))]
+    for row in rows:
+        yield "  ".join(field.ljust(width) for field, width in zip(row, widths)).rstrip()
+
+
+def show(state: State, args: argparse.Namespace) -> Iterator[str]:
+    """Yields what is known of an account and its computers. The key is shown whole."""
+    member = state.found(args.account)
+    heard = state.hosts.heard(MOST_HOSTS, member.authenticator)
+    consent = "" if member.consent_at is None else moment_text(member.consent_at)
+    facts = {
+        "number": member.id, "key": member.authenticator, "name": member.name,
+        "address": member.email or "none", "made": moment_text(member.created_at),
+        "agreed to the terms": consent or "no", "may be named": "yes" if member.is_exported else "no",
+        "credit": credits_text(heard[0].user_credit if heard else 0), "state": state.barred(member) or "good",
+    }
+    yield from (f"{name}: {value}" for name, value in facts.items())
+    yield from (host_line(host) for host in heard)
+
+
+def host_line(host: HeardHost) -> str:
+    """Returns a computer in a line. bsched-tools host knows it by the number in the tables."""
+    number = "-" if host.hostid is None else str(host.hostid)
+    return (
+        f"computer {number} ({host.scheduler_hostid} in the tables): "
+        f"{credits_text(host.host_credit)} credit, "
+        f"called last {moment_text(host.heard_at)}"
+    )
+
+
+def consented(state: State, args: argparse.Namespace) -> Iterator[str]:
+    """Yields the accounts whose users agreed to be named, by key and name. As JSON it also has the accounts
+    that were deleted, whose names in bsched's tables nobody should show.
+    """
+    barred = state.barring.all()
+    rows = [
+        (member, barred.get(member.authenticator) is Barred.DELETED) for member in state.members.all()
+        if member.is_exported or barred.get(member.authenticator) is Barred.DELETED
+    ]
+    if args.json:
+        for member, is_deleted in rows:
+            yield json.dumps(
+                {"authenticator": member.authenticator, "name": member.name, "is_deleted": is_deleted}
+            )
+        return
+    yield from as_csv((member.authenticator, member.name) for member, is_deleted in rows if not is_deleted)
+
+
+def as_csv(rows: Iterable[tuple[str, str]]) -> Iterator[str]:
+    """Yields rows as lines of comma-separated values."""
+    lines: list[str] = []
+
+    class Lines:
+        """Keeps what is written."""
+
+        def write(self, line: str) -> None:
+            """Keeps a line."""
+            lines.append(line)
+
+    csv.writer(Lines(), lineterminator="").writerows(rows)
+    yield from lines
+
+
+# ---- What the operator changes
+
+
+def bar(state: State, args: argparse.Namespace) -> Iterator[str]:
+    """Bars an account. A bridge that runs refuses its next call."""
+    member = state.found(args.account)
+    state.barring.bar(member.authenticator, int(time.time()))
+    yield f"{member.name} ({shown_key(member.authenticator)}) is {state.barred(member)}"
+
+
+def unbar(state: State, args: argparse.Namespace) -> Iterator[str]:
+    """Ends the barring of an account."""
+    member = state.found(args.account)
+    if state.barring.reason(member.authenticator) is Barred.DELETED:
+        raise OrderFault("the account was deleted, and its user can make another one")
+    if member.authenticator in state.settings.host_rules.barred:
+        raise OrderFault("the key is in the list `barred` of bridge.toml: remove it there")
+    state.barring.unbar(member.authenticator)
+    yield f"{member.name} ({shown_key(member.authenticator)}) is not barred"
+
+
+def delete(state: State, args: argparse.Namespace) -> Iterator[str]:
+    """Deletes an account, after a question on a terminal."""
+    member = state.found(args.account)
+    shown = f"{member.name} ({shown_key(member.authenticator)}, {member.email or 'no address'})"
+    if not args.yes:
+        if not sys.stdin.isatty() or not input(f"Delete {shown} for good? [y/N] ").lower().startswith("y"):
+            raise OrderFault("nothing was deleted: answer y, or give --yes")
+    state.barring.delete(member.authenticator, int(time.time()))
+    yield f"{shown} is deleted, and its key stays barred"
+
+
+def copy(state: State, args: argparse.Namespace) -> Iterator[str]:
+    """Copies the state file into a new file or a folder, while a bridge serves it."""
+    made = copied(state, args.to)
+    yield f"{made}: {made.stat().st_size} bytes"
+    if args.keep is not None and args.to.is_dir():
+        for old in sorted(args.to.glob(f"bridge-*{COPY_ENDING}"), reverse=True)[args.keep:]:
+            old.unlink()
+            yield f"removed {old}"
+
+
+def copied(state: State, target: Path) -> Path:
+    """Copies a state file, and returns the copy. It has the owner of the state file, and gets its name once
+    it is whole and on the disk.
+    """
+    moment = datetime.now(timezone.utc)
+    name = f"bridge-{moment:%Y%m%dT%H%M%S}.{moment.microsecond // 1000:03}Z{COPY_ENDING}"
+    final = target / name if target.is_dir() else target
+    if final.exists():
+        raise OrderFault(f"{final}: it exists, and a copy is never written over another")
+    work = final.with_name(f".{final.name}.new")
+    try:
+        os.close(os.open(work, os.O_WRONLY | os.O_CREAT | os.O_TRUNC, 0o600))
+        state.file.backup(work)
+        owner = state.settings.state.stat()
+        with suppress(PermissionError):
+            os.chown(work, owner.st_uid, owner.st_gid)
+        sync(work)
+        os.rename(work, final)
+        sync(final.parent)
+    finally:
+        work.unlink(missing_ok=True)
+    return final
+
+
+def sync(path: Path) -> None:
+    """Syncs a file or a folder to the disk."""
+    descriptor = os.open(path, os.O_RDONLY)
+    try:
+        os.fsync(descriptor)
+    finally:
+        os.close(descriptor)
+
+
+AnyParser = TypeVar("AnyParser", bound=argparse.ArgumentParser)
+Order = Callable[[State, argparse.Namespace], Iterator[str]]
+ORDERS: dict[str, tuple[Order, str]] = {
+    "members": (members, "lists the accounts"),
+    "show": (show, "shows an account and its computers"),
+    "bar": (bar, "refuses the computers of an account"),
+    "unbar": (unbar, "ends that"),
+    "delete": (delete, "deletes an account"),
+    "copy": (copy, "copies the state file"),
+    "consented": (consented, "lists the keys and names of users who agreed to be named"),
+}
+
+
+def add_orders(orders: "argparse._SubParsersAction[AnyParser]") -> None:
+    """Adds the commands to the command line."""
+    for name, (_, text) in ORDERS.items():
+        parser = orders.add_parser(name, help=text)
+        where = parser.add_mutually_exclusive_group(required=True)
+        where.add_argument("--project", metavar="P", help="the name of a project of bsched-project")
+        where.add_argument("--config", type=Path, metavar="FILE", help="the settings of the bridge")
+        if name in ("show", "bar", "unbar", "delete"):
+            parser.add_argument(
+                "account", metavar="ACCOUNT", help="its address, its name, or the first characters of its key"
+            )
+        if name in ("members", "consented"):
+            parser.add_argument("--json", action="store_true", help="lines of JSON")
+        if name == "delete":
+            parser.add_argument("--yes", action="store_true", help="without a question")
+        if name == "copy":
+            parser.add_argument(
+                "--to", type=Path, required=True, metavar="G", help="a folder of copies, or a new file"
+            )
+            parser.add_argument("--keep", type=int, metavar="N", help="keeps N copies in the folder")
+
+
+def run_order(args: argparse.Namespace) -> None:
+    """Does what a command of the operator says."""
+    order, _ = ORDERS[args.order]
+    if getattr(args, "keep", None) is not None and args.keep < 1:
+        raise OrderFault("--keep is a whole number of at least 1")
+    state = opened(args)
+    try:
+        for line in order(state, args):
+            print("".join(one if one.isprintable() or one == "\t" else "\ufffd" for one in line))
+    finally:
+        state.file.close()

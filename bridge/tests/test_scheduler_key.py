@@ -1,0 +1,45 @@
+"""A bridge sends nothing to a scheduler that does not know its key: it may be another project's."""
+import logging
+
+import pytest
+
+from bsched_bridge import scheduler as module
+from bsched_bridge.scheduler import NoAnswer, Scheduler, asking_call
+
+
+@pytest.fixture(autouse=True)
+def without_pauses(monkeypatch):
+    """Sends again at once."""
+    monkeypatch.setattr(module, "PAUSE_SECONDS", 0.0)
+
+
+def test_the_scheduler_of_another_project_gets_no_call(twin, caplog):
+    caplog.set_level(logging.ERROR)
+    bridge = Scheduler(twin.address, 2, "another-key")
+    for _ in range(2):
+        with pytest.raises(NoAnswer, match="refuses operator_key"):
+            bridge.call(asking_call("ann-key", "c1", 1))
+    assert twin.heard == [] and bridge.silent_since is not None
+    assert "refuses operator_key: it is that of another project" in caplog.text
+
+
+def test_its_own_scheduler_is_asked_once(twin, monkeypatch):
+    twin.statement = None
+    bridge = Scheduler(twin.address, 2, "change-this-key")
+    asked = []
+    knows = bridge.knows_key
+    monkeypatch.setattr(bridge, "knows_key", lambda key: asked.append(key) or knows(key))
+    for _ in range(3):
+        bridge.call(asking_call("ann-key", "c1", 1))
+    assert asked == ["change-this-key"] and len(twin.heard) == 3
+    twin.faults.append("unheard")  # another program may have the port after this
+    bridge.call(asking_call("ann-key", "c1", 1))
+    assert asked == ["change-this-key"] * 2
+
+
+def test_a_program_that_is_no_scheduler(twin, monkeypatch):
+    bridge = Scheduler(twin.address, 2, "change-this-key")
+    monkeypatch.setattr(twin, "statement", "<html>")
+    with pytest.raises(NoAnswer, match="no answer of bsched"):
+        bridge.call(asking_call("ann-key", "c1", 1))
+    assert twin.heard == []
