@@ -88,7 +88,7 @@ def test_the_commands(tmp_path):
 def test_no_key_is_made_without_its_other_half(tmp_path, there):
     (tmp_path / there).write_text("older")
     told = ordered(tmp_path, "keygen")
-    assert (told.returncode, told.stderr) == (1, f"bsched-bridge: [Errno 17] File exists: '{there}'\n")
+    assert (told.returncode, told.stderr) == (1, f"bsched-bridge: {there} exists, and is not replaced\n")
     assert [(path.name, path.read_text()) for path in tmp_path.iterdir()] == [(there, "older")]
 
 

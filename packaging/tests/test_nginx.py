@@ -43,7 +43,7 @@ def test_the_files_of_a_project(machine: Machine, url: str, port: int) -> None:
     assert has_redirect == (url == URL)
     path = "/project/" if url == URL else "/"
     assert f"location {path} {{" in locations and "http://127.0.0.1:8081;" in locations
-    assert "@" not in site + locations
+    assert re.findall("@[A-Z_]+@", site + locations) == []
 
 
 def test_what_has_no_files(machine: Machine) -> None:

@@ -1,6 +1,7 @@
 """Why bsched refuses a file: each reason in a line, with what to do."""
 import os
 import stat
+import tomllib
 from collections.abc import Iterator
 from contextlib import closing
 from itertools import islice
@@ -11,10 +12,15 @@ from .checks import wrong_rows
 from .faults import Fault
 from .settings_file import settings_faults
 from .tables import (
-    TAKE_ANOTHER, Tables, check_file, connected, faults_of, journal_fault, log_of, moment_of, schema_fault,
+    EMPTY, TAKE_ANOTHER, Tables, check_file, connected, faults_of, journal_fault, log_of, log_size, moment_of,
+    schema_fault,
 )
 
 MOST_ROWS = 50
+OTHER_KEY = (
+    "operator_key is not that of the tables, so ticks and imports with it are refused. Each copy of the "
+    "tables has the right one: `SELECT value FROM setting WHERE name = 'operator_key'`"
+)
 RESTORE = "restore a copy (docs/OPERATING.md, \"Backup and restore\")"
 
 
@@ -51,12 +57,22 @@ def holder_faults(path: Path) -> Iterator[str]:
             yield f"{one.process} reads it: end that first"
 
 
+def without_log(path: Path) -> str:
+    """Returns what to do if a file has no tables at all, and its log is missing. A young project has its
+    tables only in the log."""
+    log = log_of(path).name
+    return (
+        f"it has no tables, and its log {log} is not next to it: in a young project the log has everything. "
+        f"Look for {log} where the file came from, and put both here together; else {RESTORE}"
+    )
+
+
 def content_faults(path: Path) -> Iterator[str]:
     """Yields what is wrong with the tables in a file."""
     with faults_of(path), closing(connected(path)) as connection:
         connection.execute("BEGIN")
         if fault := schema_fault(connection):
-            yield fault
+            yield without_log(path) if fault == EMPTY and not log_size(path) else fault
             return
         told = [row[0] for row in connection.execute("PRAGMA integrity_check(5)")]
         if told != ["ok"]:
@@ -86,9 +102,39 @@ def tables_faults(path: Path) -> Iterator[str]:
         yield str(fault).removeprefix(f"{real}: ").replace(TAKE_ANOTHER, f": {RESTORE}")
 
 
+def stored_settings(path: Path) -> dict[str, int | str] | None:
+    """Returns the settings in tables, also while a program has them; None if they can't be read."""
+    try:
+        check_file(path)
+        with faults_of(path), closing(connected(path)) as connection:
+            if schema_fault(connection) is None:
+                return dict(connection.execute("SELECT name, value FROM setting"))
+    except (Fault, OSError):
+        pass
+    return None
+
+
+def settings_differences(tables: Path, settings: Path) -> Iterator[str]:
+    """Yields each setting of a file that is not the one with which the tables were made. The tables count."""
+    stored = stored_settings(Path(os.path.realpath(tables)))
+    try:
+        told = tomllib.loads(settings.read_text(encoding="utf-8"))
+    except (OSError, ValueError):
+        return
+    for name, value in told.items():
+        if stored is None or name not in stored or stored[name] == value:
+            continue
+        if name == "operator_key":
+            yield OTHER_KEY
+        else:
+            yield f"{name} is {value!r}, and the tables were made with {stored[name]}, which counts"
+
+
 def examined(tables: Path | None, settings: Path | None) -> Iterator[str]:
     """Yields each reason, with the file."""
     if settings is not None:
         yield from (f"{settings}: {fault}" for fault in settings_faults(settings))
     if tables is not None:
         yield from (f"{tables}: {fault}" for fault in tables_faults(tables))
+    if tables is not None and settings is not None:
+        yield from (f"{settings}: {fault}" for fault in settings_differences(tables, settings))

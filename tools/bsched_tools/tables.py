@@ -19,6 +19,7 @@ COPY_NAME = re.compile(r"(?P<stem>.+)-(?P<moment>\d{8}T\d{6}\.\d{3}Z)\.db")
 MOMENT = "%Y%m%dT%H%M%S.%fZ"
 BUSY_SECONDS = 1.0
 TAKE_ANOTHER = ": take another copy"
+EMPTY = "it has no tables: a log (-wal) that has them is missing, or nothing was stored yet"
 
 
 @dataclass(slots=True)
@@ -138,6 +139,8 @@ def connected(path: Path) -> sqlite3.Connection:
 def schema_fault(connection: sqlite3.Connection) -> str | None:
     """Returns what is wrong with the schema of a database, or None."""
     shape = shape_of(connection)
+    if not shape:
+        return EMPTY
     if "setting" not in shape:
         return "it has no tables of bsched"
     row = connection.execute("SELECT value FROM setting WHERE name = 'schema'").fetchone()

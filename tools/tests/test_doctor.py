@@ -199,3 +199,31 @@ def test_the_command_line(tmp_path: Path, project: Path) -> None:
     status, told, fault = tools("doctor", "--tables", tmp_path / "none", "--settings", tmp_path / "none")
     assert (status, fault) == (1, "") and len(told.splitlines()) == 2
     assert tools("doctor")[0] == 64
+
+
+def test_settings_that_differ_from_those_of_the_tables(tmp_path: Path) -> None:
+    tables, path = make_tables(tmp_path / "project.db"), tmp_path / "settings.toml"
+    lines = [f"{name} = {str(value).lower()}\n" for name, value in SETTINGS.items() if name != "operator_key"]
+    path.write_text(f'{"".join(lines)}operator_key = "{SETTINGS["operator_key"]}"\n')
+    assert list(doctor.examined(tables, path)) == []
+    changed = path.read_text().replace("request_delay = 60", "request_delay = 90")
+    path.write_text(changed.replace("change-", "other-"))
+    first, second = doctor.examined(tables, path)
+    assert first == f"{path}: request_delay is 90, and the tables were made with 60, which counts"
+    assert second.startswith(f"{path}: operator_key is not that of the tables") and "other-" not in second
+
+
+def test_a_young_file_without_its_log(tmp_path: Path) -> None:
+    """What was stored is in the log alone. The file by itself has no tables."""
+    path = tmp_path / "project.db"
+    with closing(sqlite3.connect(path, isolation_level=None)) as connection:
+        connection.execute("PRAGMA journal_mode = WAL").fetchall()
+        connection.execute("PRAGMA wal_autocheckpoint = 0").fetchall()
+        connection.execute("CREATE TABLE setting (name TEXT, value)")
+        (tmp_path / "alone.db").write_bytes(path.read_bytes())
+    told, = told_of(tmp_path / "alone.db")
+    assert told.startswith("it has no tables, and its log alone.db-wal is not next to it")
+    status, said, _ = tools("doctor", "--tables", tmp_path / "alone.db")
+    assert status == 1 and "put both here together" in said
+    status, _, fault = tools("results", "--tables", tmp_path / "alone.db")
+    assert status == 1 and "a log (-wal) that has them is missing" in fault
