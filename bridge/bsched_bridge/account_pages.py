@@ -98,9 +98,8 @@ NEW_PASSWORD = Input(
 DELETION = (
     "The project then forgets your e-mail address, your password, your name, your consents and what it knows "
     "about your computers. Statistics sites get your name no more. Nobody can undo this.",
-    "What stays says nothing about you: the number of the account, its key, which no computer can use any "
-    "more, and the results and the credit of the account under the name with which the account was made, or "
-    "as “deleted”.",
+    "What stays is the number of the account, its key, which no computer can use any more, and the results "
+    "and the credit of the account, under the name with which it was made.",
 )
 
 
@@ -112,6 +111,7 @@ class AccountPages:
     ) -> None:
         self.settings, self.accounts, self.statements, self.places = settings, accounts, statements, places
         self._field = settings.accounts.address_field if settings.accounts else None
+        self._is_name_told = settings.accounts is not None and settings.accounts.is_name_told
 
     # ---- An account
 
@@ -261,6 +261,8 @@ class AccountPages:
         return page(
             f"{self.settings.name}: delete your account",
             *(element("p", text) for text in DELETION),
+            element("p", "That name is the one that BOINC sent when you joined." if self._is_name_told
+                    else "That name was made up, and says nothing about you."),
             form(
                 "delete_account.php", "Delete", email.markup(None),
                 PASSWORD.markup(sent.faults.get("password")), sure,
@@ -324,7 +326,8 @@ class AccountPages:
 def hosts_markup(status: AccountStatus) -> list[Markup]:
     """Returns the hosts of an account with their credit, and with their results if these are known."""
     hosts = status.recent.hosts
-    together = element("p", "Together ", element("strong", credits_text(status.credit)), ".")
+    average = "" if status.average is None else f" The recent average is {status.average:,.2f} a day."
+    together = element("p", "Together ", element("strong", credits_text(status.credit)), ".", average)
     if not hosts:
         return [together] if status.credit else [element("p", "None of your computers has called yet.")]
     header = ["computer", "called last (UTC)", "credit"]

@@ -40,6 +40,7 @@ from .key_locks import Busy, KeyLocks
 from .limits import Places
 from .members import Members
 from .passwords import Passwords
+from .recent_credit import Recent, RecentCredit
 from .report_checks import ReportChecks
 from .request_parts import RequestFault
 from .scheduler import Scheduler
@@ -86,8 +87,10 @@ class Application:
         has_accounts = self.accounts is not None
         self.writer = ReplyWriter(catalogue, settings.name, settings.url, tokens, has_accounts)
         self.statements = Statements(
-            hosts, self.members, scheduler, settings.operator_key, settings.counts, archives
+            hosts, self.members, scheduler, settings.operator_key, settings.counts, archives,
+            RecentCredit(settings.averages),
         )
+        self.recent = self.statements.recent
         self._large = KeyLocks(LARGE_SECONDS)
         self._handlers = self._new_handlers()
 
@@ -135,9 +138,7 @@ class Application:
             name = path.removeprefix(self.settings.path)
             if name.startswith("download/"):
                 return self._download(environ, start_response, name.removeprefix("download/"))
-            if name not in self._handlers:
-                raise HttpFault(404)
-            answer = self._handlers[name](environ)
+            answer = self._handlers.get(name, self._not_found)(environ)
         except HttpFault as fault:
             answer = Answer(TEXT, f"{fault}\n".encode(), fault.fields, fault.status)
         except Exception as error:
@@ -148,6 +149,10 @@ class Application:
         return [] if environ["REQUEST_METHOD"] == "HEAD" else [answer.body]
 
     # ---- Pages
+
+    def _not_found(self, _environ: Environ) -> Answer:
+        """Returns the page for a URL of the project that does not exist."""
+        return pages.not_found_page(self.settings)
 
     def _master_page(self, environ: Environ) -> Answer:
         """Returns the page at the master URL."""
@@ -185,7 +190,19 @@ class Application:
             return Answer(XML, self.writer.put_off(answered))
         member = self.members.of_key(request.authenticator)  # the user may have chosen another name
         reply = answered.reply if member is None else replace(answered.reply, user_name=member.name)
-        return Answer(XML, self.writer.reply(request, reply, answered.hostid, answered.notice))
+        recent = self._recent(request.authenticator, reply.hostid)
+        return Answer(XML, self.writer.reply(request, reply, answered.hostid, answered.notice, recent))
+
+    def _recent(self, authenticator: str, scheduler_hostid: int) -> Recent | None:
+        """Returns the recent average credit that a reply has; None if the operator has no file of it."""
+        if self.settings.averages is None:
+            return None
+        cpids = self.statements.hosts.cpids(authenticator)
+        own = cpids.get(scheduler_hostid)
+        return Recent(
+            self.recent.of_hosts((authenticator, cpid) for cpid in cpids.values()),
+            0.0 if own is None else self.recent.of_host(authenticator, own),
+        )
 
     def _request(self, environ: Environ) -> ClientRequest:
         """Reads a request. Large ones are read one after the other, since anybody can send them, and several

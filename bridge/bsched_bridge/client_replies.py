@@ -10,6 +10,7 @@ from .catalogue import App, Catalogue, MissingFile, StoredFile, Version, Work
 from .client_requests import ClientRequest
 from .exchange import PutOff
 from .output_files import upload_name
+from .recent_credit import Recent
 from .scheduler import Job, Reply
 from .upload_tokens import UploadTokens
 from .uploads import PATH as UPLOAD_PATH
@@ -93,7 +94,8 @@ class ReplyWriter:
         return written(root)
 
     def reply(
-        self, request: ClientRequest, reply: Reply, hostid: int | None = None, notice: str | None = None
+        self, request: ClientRequest, reply: Reply, hostid: int | None = None, notice: str | None = None,
+        recent: Recent | None = None,
     ) -> bytes:
         """Returns the reply to a request, with a notice for the volunteer. It has a hostid only for a client
         that did not send it: a client that has one takes any as a sign that it was copied, takes a new
@@ -103,6 +105,9 @@ class ReplyWriter:
         add(root, "user_name", reply.user_name)
         add(root, "user_total_credit", f"{reply.user_total_credit / MILLICREDITS:.3f}")
         add(root, "host_total_credit", f"{reply.host_total_credit / MILLICREDITS:.3f}")
+        if recent is not None:
+            add(root, "user_expavg_credit", f"{recent.user:.6f}")
+            add(root, "host_expavg_credit", f"{recent.host:.6f}")
         if hostid is not None:
             add(root, "hostid", hostid)
         if notice is not None:

@@ -169,6 +169,14 @@ class Hosts:
         )
         return {cast(str, row[0]): cast(int, row[1]) for row in rows}
 
+    def cpids(self, authenticator: str) -> dict[int, str]:
+        """Returns the host_cpid of each host of an account that bsched has, by bsched's number."""
+        rows = self.file.rows(
+            "SELECT scheduler_hostid, host_cpid FROM host "
+            "WHERE authenticator = ? AND scheduler_hostid IS NOT NULL", authenticator,
+        )
+        return {cast(int, row[0]): cast(str, row[1]) for row in rows}
+
     def user_credits(self) -> list[tuple[str, int]]:
         """Returns each account that has had a reply, with its credit from the latest reply to one of its
         hosts.

@@ -3,7 +3,7 @@ import re
 from html import escape
 
 from .http_messages import Answer, Environ, query_of
-from .markup import Markup, Number, element, joined, page, paragraphs, table
+from .markup import Markup, Number, element, joined, linked, page, paragraphs, table
 from .settings import Settings
 from .statements import Status, UnitCounts
 from .texts import credits_text, moment_text
@@ -28,8 +28,9 @@ def master_page(settings: Settings) -> Answer:
         joining = joining_by_oneself(settings, has_terms)
         links += [("account", "Your account"), *([("terms", "Terms of use")] if has_terms else [])]
     welcome = paragraphs(settings.welcome) if settings.welcome else ""
+    contact = element("p", "Contact: ", linked(settings.contact)) if settings.contact else ""
     return page(
-        settings.name, welcome, element("h2", "How to join"), *joining, head=head, links=tuple(links)
+        settings.name, welcome, element("h2", "How to join"), *joining, contact, head=head, links=tuple(links)
     )
 
 
@@ -68,6 +69,14 @@ def joining_by_oneself(settings: Settings, has_terms: bool) -> list[Markup]:
         element("p", more),
         element("p", kept, class_="note"),
     ]
+
+
+def not_found_page(settings: Settings) -> Answer:
+    """Returns the page for a URL of the project that does not exist."""
+    said = "There is no such page here."
+    return page(
+        f"{settings.name}: not found", element("p", said), links=((settings.url, "The project"),), status=404
+    )
 
 
 def no_passwords_page(settings: Settings) -> Answer:
@@ -120,9 +129,10 @@ def users_markup(status: Status, environ: Environ) -> list[Markup]:
     number = min(int(told), pages) if PAGE_NUMBER.fullmatch(told) else 1
     first, last = (number - 1) * USERS_ON_A_PAGE, number * USERS_ON_A_PAGE
     rows: list[list[object]] = [
-        [Number(place), name, Number(credits_text(credit))]
-        for place, (name, credit) in enumerate(status.ranking[first:last], first + 1)
+        [Number(place), name, Number(credits_text(credit)), *([Number(f"{recent:,.2f}")] * status.has_recent)]
+        for place, (name, credit, recent) in enumerate(status.ranking[first:last], first + 1)
     ]
+    header = ["place", "user", "credit", *(["recent average credit"] * status.has_recent)]
     turns = [
         element("a", text, href=f"status?page={target}")
         for text, target in (("earlier places", number - 1), ("later places", number + 1))
@@ -131,7 +141,7 @@ def users_markup(status: Status, environ: Environ) -> list[Markup]:
     return [
         element("h2", "Users"),
         element("p", f"Users with computers that called: {len(status.ranking)}."),
-        table(["place", "user", "credit"], rows),
+        table(header, rows),
         element("p", *(joined(turn, " ") for turn in turns)) if turns else Markup(""),
     ]
 

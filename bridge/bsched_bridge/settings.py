@@ -69,6 +69,7 @@ class Settings:
     welcome: str | None  # what the project's page says, in the operator's own words
     contact: str | None  # how to reach the operator: an address or a URL
     counts: Path | None  # a file with the counts of a copy of bsched's tables
+    averages: Path | None  # a file with recent average credit
     host_rules: HostRules
     accounts: AccountSettings | None  # None if only the operator makes accounts
     archives: tuple[Path, ...] = ()  # earlier files of the project, whose credit is added
@@ -220,6 +221,7 @@ def read_settings(path: Path) -> Settings:
         welcome=file.short_text("welcome"),
         contact=read_contact(file),
         counts=path.parent / file.text("counts") if "counts" in file.members else None,
+        averages=path.parent / file.text("averages") if "averages" in file.members else None,
         host_rules=read_host_rules(file),
         accounts=read_accounts(file, url, key is not None),
         archives=archive_paths(file),

@@ -15,6 +15,7 @@ from .archives import Archives
 from .hosts import HeardHost
 from .hosts import Hosts as KnownHosts
 from .members import Members
+from .recent_credit import RecentCredit
 from .scheduler import NoAnswer, Scheduler
 
 MOST_HOSTS = 50
@@ -54,6 +55,7 @@ class AccountStatus:
 
     recent: Hosts  # its hosts that called last
     credit: int  # of all its hosts, in millicredits
+    average: float | None = None  # its recent average credit; None if the operator has no file of it
 
 
 @dataclass(frozen=True, slots=True)
@@ -70,9 +72,11 @@ class Status:
 
     recent: Hosts  # the hosts that called last
     count_of_hosts: int
-    ranking: list[tuple[str, int]]  # each user's name and credit, the greatest credit first
+    # each user's name, credit and recent average credit, the greatest credit first
+    ranking: list[tuple[str, int, float]]
     units: UnitCounts | None
     silent_since: float | None  # since when bsched gives no answer
+    has_recent: bool = False  # whether recent average credit is known
 
 
 def standing(row: dict[str, str]) -> str:
@@ -128,7 +132,9 @@ class Statements:
         operator_key: str | None,
         unit_counts: Path | None,
         archives: Archives,
+        recent: RecentCredit,
     ):
+        self.recent = recent
         self.hosts, self.members, self.scheduler, self.operator_key = hosts, members, scheduler, operator_key
         self.unit_counts, self.archives = unit_counts, archives
         self._lock, self._accounts_lock = threading.Lock(), threading.Lock()
@@ -175,7 +181,8 @@ class Statements:
         shown = sum(one.credit for one in recent.hosts)
         others = self.archives.users[authenticator] - sum(self.archives.hosts[host.key] for host in heard)
         told = heard[0].user_credit if heard else 0
-        return AccountStatus(recent, max(told, shown + others))
+        average = None if self.recent.path is None else self._recent(authenticator)
+        return AccountStatus(recent, max(told, shown + others), average)
 
     def _read(self, with_statements: bool = True) -> Status:
         """Reads the status of the project."""
@@ -185,11 +192,21 @@ class Statements:
             for host in self.hosts.heard(MOST_HOSTS)
         ]
         recent = self._hosts(heard) if with_statements else self._heard_only(heard)
-        ranking = [(names.get(key, "?"), credit) for key, credit in self.hosts.user_credits()]
+        ranking = [
+            (names.get(key, "?"), credit, self._recent(key)) for key, credit in self.hosts.user_credits()
+        ]
         return Status(
             recent, self.hosts.count(), sorted(ranking, key=lambda user: (-user[1], user[0])),
             read_unit_counts(self.unit_counts), self.scheduler.silent_since,
+            self.recent.path is not None,
         )
+
+    def _recent(self, authenticator: str) -> float:
+        """Returns the recent average credit of an account."""
+        if self.recent.path is None:
+            return 0.0
+        cpids = self.hosts.cpids(authenticator).values()
+        return self.recent.of_hosts((authenticator, cpid) for cpid in cpids)
 
     def _hosts(self, heard: list[HeardHost]) -> Hosts:
         """Reads the status of hosts. Without an answer, or without the operator's key, only what replies said

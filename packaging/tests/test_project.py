@@ -242,6 +242,7 @@ def test_a_real_project_has_no_accounts(machine: Machine) -> None:
         "name": "sums", "url": "https://sums.example/", "listen": f"127.0.0.1:{bridge_port}",
         "scheduler": f"127.0.0.1:{port}", "operator_key": machine.key("sums"), "catalogue": "catalogue.toml",
         "state": "bridge.db", "counts": "../units/counts.json",
+        "averages": "../units/averages.json",
         "accounts": {"most_a_day": 100, "address_field": "X-Real-IP"},
     }
 
