@@ -240,7 +240,6 @@ def at_port(project, port):
 
 
 def test_the_check_asks_the_scheduler(project, twin):
-    twin.statement = None
     at_port(project, twin.address.port)
     told = ordered(project, "--config", "bridge.toml", "--check")
     place = f"the scheduler at 127.0.0.1:{twin.address.port}"

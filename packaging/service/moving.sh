@@ -1,0 +1,145 @@
+# A project as one file, for another machine. bsched-project reads this file.
+# shellcheck shell=bash
+
+UNITS="bsched@ bsched-tick@.timer bsched-bridge@ bsched-copy@.timer bsched-results@.timer bsched-page@.timer
+  bsched-statistics@.timer bsched-health@.timer bsched-sweep@.timer"
+
+# Prints the names of the units of a project.
+units_of() {
+  local unit
+  for unit in $UNITS; do
+    echo "${unit/@/@$1}"
+  done
+}
+
+# Prints the units of a project that systemd starts by itself.
+enabled_units() {
+  local unit
+  for unit in $(units_of "$1"); do
+    ! systemctl is-enabled --quiet "$unit" 2> /dev/null || echo "$unit"
+  done
+}
+
+# Stops the units of a project, and lets systemd start them no more.
+stop_units() {
+  local unit
+  # the timers and the bridge first: the bridge starts the scheduler
+  for unit in $(units_of "$1" | tac); do
+    if systemctl is-enabled --quiet "$unit" 2> /dev/null || systemctl is-active --quiet "$unit" 2> /dev/null; then
+      systemctl disable --now "$unit" 2> /dev/null || fail "$unit can't be stopped"
+    fi
+  done
+}
+
+# Prints the lines of a project's files that name a path outside of its folder.
+paths_outside() {
+  grep -HnE '^[^#]*"/' "$1"/bridge/*.toml "$1"/units.toml 2> /dev/null | grep -vF "\"$1/" | sed "s|^$1/|  |"
+}
+
+# Writes a project into one file. With --stop its units are stopped before, and stay so.
+export_project() {
+  local project=$1 target=$2 is_stopped=$3 folder=$PROJECTS/$1 outside
+  [ ! -e "$target" ] || fail "$target exists, and is not replaced"
+  command -v bsched-tools > /dev/null || fail "the tools are not installed: apt install bsched-tools"
+  take_turn
+  made=$(mktemp -d "${target%/*}/.bsched-export-XXXXXX") || fail "no folder can be made next to $target"
+  mkdir "$made/$project" || fail "$made can't be written"
+  enabled_units "$project" > "$made/$project/enabled-units"
+  [ -z "$is_stopped" ] || stop_units "$project"
+  bsched-tools copy --tables "$folder/project.db" --to "$made/$project/project.db" > /dev/null ||
+    fail "the tables can't be copied"
+  # what a running program writes is copied by the tools alone
+  tar -C "$folder" --exclude=./project.db* --exclude=./before-* --exclude=./bridge/bridge.db* -cf - . |
+    tar -C "$made/$project" -xf - || fail "the files can't be copied"
+  if [ -e "$folder/bridge/bridge.db" ]; then
+    bsched-bridge copy --config "$folder/bridge/bridge.toml" --to "$made/$project/bridge/bridge.db" > /dev/null ||
+      fail "the state of the bridge can't be copied"
+  fi
+  (umask 077 && tar -C "$made" -czf "$made/whole" "$project") && sync "$made/whole" && mv -n "$made/whole" "$target" ||
+    fail "$target can't be written"
+  outside=$(paths_outside "$folder")
+  rm -rf "$made"
+  made=
+  print_exported "$project" "$target" "$is_stopped" "$outside"
+}
+
+print_exported() {
+  echo "$2 has the project $1: keep it secret, since it has all keys. On the other machine run"
+  echo
+  echo "  bsched-project import ${2##*/}"
+  echo
+  if [ -n "$3" ]; then
+    echo "The project's units are stopped here and stay so. If you start them here after all, don't start"
+    echo "them there: two schedulers would answer for one project."
+  else
+    echo "The project still runs here. Before it runs elsewhere, export it with --stop: what is reported"
+    echo "after this moment is not in the file."
+  fi
+  [ -z "$4" ] || printf '\n%s\n%s\n' "Not in the file are what these lines name outside of its folder, and nginx's files:" "$4"
+}
+
+# Gives the files of a project to those who have them in a new one.
+hand_over_project() {
+  local folder=$1 path
+  hand_over "$folder" && chown "$USER_NAME:" "$folder" || return 1
+  for path in project.db units bridge/uploads bridge/bridge.db bridge/uploads.db; do
+    [ ! -e "$folder/$path" ] || { chown -R "$USER_NAME:" "$folder/$path" && chmod -R u=rwX,go= "$folder/$path"; } || return 1
+  done
+  [ ! -d "$folder/bridge" ] || chown "$USER_NAME:" "$folder/bridge" || return 1
+  [ ! -e "$folder/bridge/code_sign_private" ] || chmod 600 "$folder/bridge/code_sign_private"
+}
+
+# Gives a project other ports if its own are taken here.
+choose_other_ports() {
+  local folder=$1 listen
+  port=$(sed -n 's/^PORT=//p' "$folder/environment") listen=$(sed -n 's/^BRIDGE_PORT=//p' "$folder/environment")
+  [[ $port =~ ^[0-9]+$ && $listen =~ ^[0-9]+$ ]] || fail "the project has no valid PORT and BRIDGE_PORT"
+  ! is_taken "$port" && ! is_taken "$listen" && return
+  port=''
+  choose_port
+  sed -i -E -e "s/^PORT=.*/PORT=$port/" -e "s/^BRIDGE_PORT=.*/BRIDGE_PORT=$((port + 1))/" "$folder/environment"
+  [ ! -e "$folder/bridge/bridge.toml" ] ||
+    sed -i -E -e "s/^(scheduler.*127\.0\.0\.1:)[0-9]+/\1$port/" -e "s/^(listen.*127\.0\.0\.1:)[0-9]+/\1$((port + 1))/" \
+      "$folder/bridge/bridge.toml"
+  echo "Its ports are taken here, so it gets $port and $((port + 1))."
+}
+
+# Makes a project from the file of an export, and enables the units that were enabled there.
+import_project() {
+  local source=$1 project others units
+  [ -r "$source" ] || fail "$source can't be read"
+  others=$(tar -tzf "$source" 2> /dev/null) || fail "$source is no file of bsched-project export"
+  project=${others%%/*}
+  is_name "$project" && ! grep -qvE "^$project/" <<< "$others" && ! grep -qE '(^|/)\.\.(/|$)' <<< "$others" &&
+    grep -qxF "$project/project.db" <<< "$others" || fail "$source is no file of bsched-project export"
+  take_turn
+  [ ! -e "$PROJECTS/$project" ] || fail "$PROJECTS/$project exists already"
+  made=$(mktemp -d "$PROJECTS/.new-XXXXXX") || fail "no folder can be made in $PROJECTS"
+  tar -C "$made" --strip-components=1 --no-same-owner -xzf "$source" || fail "$source can't be unpacked"
+  choose_other_ports "$made"
+  hand_over_project "$made" || fail "the files can't be given to $USER_NAME"
+  bsched-tools doctor --tables "$made/project.db" --settings "$made/settings.toml" ||
+    fail "the tables in $source are not good"
+  units=$(cat "$made/enabled-units" 2> /dev/null)
+  rm -f "$made/enabled-units"
+  mv -T "$made" "$PROJECTS/$project" || fail "$PROJECTS/$project can't be made"
+  made=
+  echo "$PROJECTS/$project is there."
+  start_units "$project" "$units"
+}
+
+# Enables and starts units, or prints how.
+start_units() {
+  local project=$1 units
+  units=$(tr '\n' ' ' <<< "$2")
+  if [ -z "${units// /}" ]; then
+    echo "None of its units was enabled: systemctl enable --now bsched@$project bsched-tick@$project.timer"
+  elif [ -d /run/systemd/system ]; then
+    # shellcheck disable=SC2086
+    systemctl enable --now $units || fail "its units don't start: systemctl status 'bsched*@$project*'"
+    echo "Its units are enabled and started: $units"
+  else
+    echo "Start its units: systemctl enable --now $units"
+  fi
+  [ ! -d "$PROJECTS/$project/nginx" ] || echo "For nginx: bsched-project nginx $project"
+}
