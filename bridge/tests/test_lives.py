@@ -92,11 +92,14 @@ def looked_at_numbers(twin):
     last = {}
     for body in twin.heard:
         call = json.loads(body)
+        if call["rpc_seqno"] == 0:
+            continue  # a question whether bsched has an account or a host, which changes nothing
         key = call["authenticator"], call["host_info"]["host_cpid"]
         number, before = last.get(key, (0, b""))
         assert call["rpc_seqno"] > number or (call["rpc_seqno"] == number and body == before)
         last[key] = call["rpc_seqno"], body
-    assert not any('"error"' in told and "unavailable" not in told for told in twin.told)
+    refusals = {json.loads(told)["error"] for told in twin.told if '"error"' in told}
+    assert refusals <= {"unavailable", "bad_host"}  # a question of the bridge is refused as bad_host
 
 
 @pytest.mark.parametrize("seed", range(6))
