@@ -10,6 +10,7 @@ copying               how a copy is made with these
 schemas, tables       the tables in a copy, opened for reading
 workunits             what became of a workunit, by the rules of docs/PROFILE.md
 results, cursors      the results of workunits, and which were given out before
+uploaded              the output files of canonical results
 jobs                  what happened to one workunit, and what one computer did
 counts                how many there are of each thing
 members, averages, exports      users over several files, and the files that statistics sites read

@@ -85,7 +85,13 @@ def results(args: Arguments) -> None:
     """Writes the results."""
     project = project_named(args)
     names = chosen(project).names
-    write_results(copies_of(args, project), args.json, args.after, args.cursor, args.to, names=names)
+    uploads = args.uploads or (project.uploads if project else None)
+    if args.files is not None and uploads is None:
+        new_parser().error("results: --files needs --uploads FOLDER, or a project whose bridge has uploads")
+    write_results(
+        copies_of(args, project), args.json, args.after, args.cursor, args.to, names=names,
+        uploads=uploads, files_to=args.files,
+    )
 
 
 def process(args: Arguments) -> None:

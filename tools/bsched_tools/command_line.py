@@ -80,6 +80,8 @@ def add_reading(commands: "argparse._SubParsersAction[CommandLine]") -> None:
     add_copies(results)
     results.add_argument("--json", action="store_true", help="lines of JSON, and not comma-separated values")
     results.add_argument("--to", type=Path, metavar="NEW", help="a new file, and not standard output")
+    results.add_argument("--uploads", type=Path, metavar="FOLDER", help="the bridge's folder of uploads")
+    results.add_argument("--files", type=Path, metavar="DIR", help="gets the files of canonical results")
     begin = results.add_mutually_exclusive_group()
     begin.add_argument("--after", metavar="NAME", help="only workunits that were imported after this one")
     begin.add_argument("--cursor", type=Path, metavar="FILE", help="only what was not given out before")

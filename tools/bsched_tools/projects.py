@@ -130,6 +130,14 @@ class Project:
         said = toml_of(self.bridge_file).get("url") if self.bridge_file.exists() else None
         return said if isinstance(said, str) else None
 
+    @property
+    def uploads(self) -> Path | None:
+        """The bridge's folder of uploads, or None if there is none."""
+        said = toml_of(self.bridge_file).get("uploads") if self.bridge_file.exists() else None
+        folder = said.get("folder") if isinstance(said, dict) else None
+        path = self.bridge_file.parent / folder if isinstance(folder, str) else None
+        return path if path is not None and (path / "uploads.db").exists() else None
+
     def port(self, name: str = "PORT") -> int:
         """Returns a port: PORT is that of the scheduler, BRIDGE_PORT that of the bridge."""
         path = self.folder / "environment"

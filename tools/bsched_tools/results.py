@@ -13,8 +13,9 @@ from typing import TextIO
 
 from .cursors import Cursor, Given, cursor_at
 from .faults import Fault
-from .files import replace_file
+from .files import replace_file, sync
 from .tables import Tables, opened
+from .uploaded import UploadedFile, Uploads, place, uploads_in
 from .workunits import Result, Workunit, decided
 
 COLUMNS = (
@@ -29,6 +30,7 @@ class Line:
 
     workunit: Workunit
     is_late: bool  # the workunit was given out before, and these are further results
+    files: list[UploadedFile] | None = None  # of the canonical result; None if nobody asks for them
 
 
 def csv_text(rows: Iterable[Iterable[object]]) -> str:
@@ -43,12 +45,15 @@ def as_csv(line: Line) -> str:
     unit, late = line.workunit, int(line.is_late)
     status = "failed" if unit.reason else "done"
     front = (unit.name, unit.app, status, unit.reason, unit.millicredits, unit.canonical, unit.output)
+    end: tuple[object, ...] = (late,)
+    if line.files is not None:
+        end = late, json.dumps([file.as_member() for file in line.files])
     if unit.reason:
-        return csv_text([(*front, "", "", "", "", late)])
+        return csv_text([(*front, "", "", "", "", *end)])
     rows = []
     for one in unit.results:
         verdict = "valid" if one.is_valid else "invalid"
-        rows.append((*front, one.name, verdict, one.host, one.user, late))
+        rows.append((*front, one.name, verdict, one.host, one.user, *end))
     return csv_text(rows)
 
 
@@ -70,6 +75,8 @@ def as_json(line: Line) -> str:
             "valid": [member_of(one) for one in unit.results if one.is_valid],
             "invalid": [member_of(one) for one in unit.results if not one.is_valid],
         }
+        if line.files is not None:
+            said["files"] = [file.as_member() for file in line.files]
     return f"{json.dumps(said, ensure_ascii=False)}\n"
 
 
@@ -111,19 +118,40 @@ def flushed(file: TextIO) -> None:
             os.fsync(file.fileno())
 
 
+@dataclass(frozen=True, slots=True)
+class Output:
+    """The form of the results, and where their files are and go."""
+
+    as_lines: bool  # lines of JSON
+    uploads: Uploads | None  # the bridge's folder of uploads, if files are asked for
+    files_to: Path | None  # the folder that gets the files
+
+    def text(self, line: Line) -> str:
+        """Returns the text of a line. Its files are in their place then."""
+        unit = line.workunit
+        if self.uploads is not None:
+            files = []
+            if unit.canonical is not None:
+                files = self.uploads.files_of(unit.canonical, unit.output or "")
+            line = replace(line, files=files)
+            if self.files_to is not None and not line.is_late:
+                place(files, unit, self.files_to)
+        return as_json(line) if self.as_lines else as_csv(line)
+
+
 def texts(
-    all_tables: list[Tables], as_lines: bool, after: str | None, cursor: Cursor | None
+    all_tables: list[Tables], output: Output, after: str | None, cursor: Cursor | None
 ) -> Iterator[str]:
     """Yields the parts of the text to write."""
     begins = dict.fromkeys((tables.path for tables in all_tables), 0)
     if after is not None:
         begins = places_after(all_tables, after)
-    if not as_lines:
-        yield csv_text([COLUMNS])
+    if not output.as_lines:
+        yield csv_text([COLUMNS if output.uploads is None else (*COLUMNS, "files")])
     for tables in all_tables:
         if tables.path in begins:
             for line in lines_of(tables, begins[tables.path], cursor.given(tables) if cursor else None):
-                yield as_json(line) if as_lines else as_csv(line)
+                yield output.text(line)
 
 
 def write_results(
@@ -134,20 +162,29 @@ def write_results(
     target: Path | None = None,
     file: TextIO | None = None,
     names: Mapping[str, str] | None = None,
+    uploads: Path | None = None,
+    files_to: Path | None = None,
 ) -> None:
     """Writes the results of tables to standard output or to a new file, as comma-separated values or as lines
-    of JSON. The cursor is written last. If a stop comes before that, the same results come again."""
+    of JSON. With a folder of uploads they name the files of canonical results, and files_to gets these files.
+    The cursor is written last. If a stop comes before that, the same results come again.
+    """
     with ExitStack() as stack:
         kept = stack.enter_context(cursor_at(cursor)) if cursor is not None else None
         if target is not None and target.exists():
             raise Fault(f"{target}: it exists: process what it has, and remove it")
+        if files_to is not None and not files_to.is_dir():
+            raise Fault(f"{files_to}: it is not a folder: make it first")
         all_tables = [stack.enter_context(opened(path, names=names)) for path in paths]
-        parts = texts(all_tables, as_lines, after, kept)
+        opened_uploads = stack.enter_context(uploads_in(uploads)) if uploads is not None else None
+        parts = texts(all_tables, Output(as_lines, opened_uploads, files_to), after, kept)
         if target is not None:
             replace_file(target, (part.encode() for part in parts))
         else:
             output = file or sys.stdout
             output.writelines(parts)
             flushed(output)
+        if files_to is not None:
+            sync(files_to)
         if kept is not None:
             kept.write()
