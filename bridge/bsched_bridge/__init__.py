@@ -15,6 +15,7 @@ call_numbers     the numbers of calls, and the calls without an answer
 calls            the JSON text of a call
 archives         the credit from earlier files of the project, which is added to replies
 scheduler        the connection to bsched, and what its answers say
+plan_classes     versions for several processors and for coprocessors, as platforms of bsched
 client_replies   the XML of a reply
 catalogue        files, command lines and signatures, as the operator wrote them
 
@@ -25,8 +26,20 @@ accounts         checks, limits, and the import of an account into bsched
 passwords        what is kept of a password
 members          the accounts that the bridge knows
 
-Both keep their rows in the state_file, in SQLite. The modules of the pages for people are pages,
-account_pages, statements, markup (HTML, with escaping) and texts. The other modules are settings, host_rules
-(settings that are read again), limits, operator_files (TOML with the lines of its faults), http_messages,
-code_signing, key_locks and words.
+The files of results go through these:
+
+output_files     what the catalogue says about them, and the output that bsched compares
+uploads          the messages by which a client uploads a file
+upload_tokens    who may upload a file
+upload_store     the files on the disk
+upload_tables    the rows of the files, in SQLite
+handed_out       the jobs that went out, with their files
+report_checks    whether a reported result has its files
+digest_programs  what is compared if equal files are too much to ask for
+upload_sweep     what the daily sweep deletes (sweep_command)
+
+Requests and accounts keep their rows in the state_file, in SQLite. The modules of the pages for people
+are pages, account_pages, statements, markup (HTML, with escaping) and texts. The other modules are
+settings, host_rules (settings that are read again), limits, operator_files (TOML with the lines of its
+faults), http_messages, code_signing, key_locks and words.
 """

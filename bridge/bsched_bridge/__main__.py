@@ -12,6 +12,7 @@ from . import client_requests, sweep_command
 from .application import new_application
 from .catalogue import read_catalogue
 from .code_signing import KeyFault, file_md5, read_private_key, signature_text, write_new_keys
+from .digest_programs import DigestFault, check_digest
 from .operator_files import OperatorFault, OperatorFile
 from .operator_orders import ORDERS, OrderFault, add_orders, run_order
 from .scheduler import WRONG_KEY, NoAnswer, Scheduler
@@ -88,6 +89,14 @@ def serve(path: Path, only_check: bool) -> None:
     if only_check:
         catalogue = read_catalogue(settings.catalogue)
         check_uploads(settings, catalogue)
+        for name, app in catalogue.apps.items():
+            if app.digest is not None:
+                try:
+                    text = check_digest(app.digest, app.output_files)
+                except DigestFault as fault:
+                    raise OperatorFault(app.digest.path, None, str(fault)) from None
+                if text is not None:
+                    print(f"the digest program of {name} prints {text!r} for its example, twice")
         counts = len(catalogue.apps), len(catalogue.versions), len(catalogue.works)
         print("good: {} applications, {} versions, {} workunits".format(*counts))
         if settings.accounts is not None:

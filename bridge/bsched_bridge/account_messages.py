@@ -15,6 +15,7 @@ from .http_messages import (
     NO_STORE, XML, Answer, Environ, HttpFault, has_method, is_of_no_browser, log_fault, query_of,
 )
 from .limits import Places, is_loopback, network_of
+from .plan_classes import split
 from .scheduler import NoAnswer, Scheduler
 from .settings import Settings
 from .words import in_small_letters, is_word
@@ -57,7 +58,7 @@ def project_config(settings: Settings, catalogue: Catalogue) -> bytes:
         if settings.accounts.terms is not None:
             add(root, "terms_of_use", settings.accounts.terms)
     platforms = SubElement(root, "platforms")
-    for platform in sorted({version.platform for version in catalogue.versions.values()}):
+    for platform in sorted({split(version.platform)[0] for version in catalogue.versions.values()}):
         add(SubElement(platforms, "platform"), "platform_name", platform)
     return written(root)
 

@@ -180,7 +180,7 @@ class Application:
         """Answers a scheduler_request. The client always gets a scheduler_reply."""
         has_method(environ, "POST")
         try:
-            request = self._request(environ)
+            request = self.catalogue.by_resource(self._request(environ))
         except RequestFault as fault:
             return Answer(XML, self.writer.put_off(PutOff(f"Error in request message: {fault}", HOUR)))
         except Busy:

@@ -3,6 +3,7 @@
 For each application it has the command line and the input files of its workunits, and for each version its
 files. The operator writes it in TOML. The bridge checks it when it starts.
 """
+import os
 import re
 import threading
 from dataclasses import dataclass, field
@@ -10,9 +11,12 @@ from pathlib import Path
 
 from cryptography.hazmat.primitives.asymmetric import rsa
 
+from .client_requests import ClientRequest
 from .code_signing import KeyFault, file_md5, is_signature, read_public_key
+from .digest_programs import DigestProgram
 from .operator_files import Entry, OperatorFile
 from .output_files import UPLOAD_NAME, OutputFile, read_output_files
+from .plan_classes import PlanClass, by_resource, read_plan_class, split
 from .words import NO_XML
 
 FILE_NAME = re.compile(r"[A-Za-z0-9_][A-Za-z0-9_.+-]{0,127}")
@@ -85,6 +89,7 @@ class App:
     is_reported_at_once: bool  # else the client waits for its next request, an hour at most
     work: Work
     output_files: tuple[OutputFile, ...] = ()  # without them its output is what it writes to standard error
+    digest: DigestProgram | None = None  # None: its files must be equal
 
 
 class MissingFile(Exception):
@@ -134,16 +139,19 @@ class Catalogue:
     apps: dict[str, App]
     versions: dict[tuple[str, str, int], Version]
     works: dict[str, Work] = field(default_factory=dict)  # of the workunits that have their own entry
+    plan_classes: dict[str, PlanClass] = field(default_factory=dict)
 
     def work(self, app: App, workunit: str) -> Work:
         """Returns the command line and the input files of a workunit."""
         own = self.works.get(workunit)
         return app.work.of(workunit) if own is None else own
 
-    @property
-    def has_output_files(self) -> bool:
-        """Whether an application has output files."""
-        return any(app.output_files for app in self.apps.values())
+    def by_resource(self, request: ClientRequest) -> ClientRequest:
+        """Returns a request as bsched gets it, with the platforms of plan classes."""
+        if not self.plan_classes:
+            return request
+        platforms = frozenset(version.platform for version in self.versions.values())
+        return by_resource(request, self.plan_classes.values(), platforms)
 
 
 # ---- Reading
@@ -213,9 +221,23 @@ def read_app(entry: Entry, folder: FileFolder) -> App:
         is_reported_at_once=entry.flag("report_immediately"),
         work=read_work(entry, folder, True),
         output_files=read_output_files(entry),
+        digest=read_digest(entry),
     )
+    if app.digest is not None and not app.output_files:
+        entry.fault("digest needs output_files", "digest")
     entry.end()
     return app
+
+
+def read_digest(entry: Entry) -> DigestProgram | None:
+    """Reads the digest program of an application, if it has one."""
+    if "digest" not in entry.members:
+        return None
+    path = entry.existing("digest")
+    if not path.is_file() or not os.access(path, os.X_OK):
+        entry.fault(f"digest: {path} is not a file that may be run", "digest")
+    example = entry.existing("digest_example") if "digest_example" in entry.members else None
+    return DigestProgram(path, entry.whole("digest_seconds", 1, 60, 10), example)
 
 
 def read_version_file(entry: Entry, folder: FileFolder, key: rsa.RSAPublicKey) -> VersionFile:
@@ -283,8 +305,15 @@ def read_catalogue(path: Path) -> Catalogue:
         app = read_app(entry, folder)
         once(entry, "app", app.name)
         catalogue.apps[app.name] = app
+    for entry in file.tables("plan_class"):
+        plan_class = read_plan_class(entry)
+        once(entry, "plan_class", plan_class.name)
+        catalogue.plan_classes[plan_class.name] = plan_class
     for entry in file.tables("version"):
         version = read_version(entry, catalogue.apps, folder, key)
+        name = split(version.platform)[1]
+        if name and name not in catalogue.plan_classes:
+            entry.fault(f"there is no [[plan_class]] {name}", "platform")
         once(entry, "version", (version.app, version.platform, version.number))
         catalogue.versions[version.app, version.platform, version.number] = version
     for entry in file.tables("workunit"):

@@ -10,6 +10,7 @@ from .catalogue import App, Catalogue, MissingFile, StoredFile, Version, Work
 from .client_requests import ClientRequest
 from .exchange import PutOff
 from .output_files import upload_name
+from .plan_classes import PlanClass, split
 from .recent_credit import Recent
 from .scheduler import Job, Reply
 from .upload_tokens import UploadTokens
@@ -217,11 +218,15 @@ class ReplyWriter:
         estimate alike.
         """
         element = SubElement(root, "app_version")
+        platform, name = split(version.platform)
         add(element, "app_name", version.app)
         add(element, "version_num", version.number)
-        add(element, "platform", version.platform)
-        add(element, "avg_ncpus", 1)
-        add(element, "flops", request.p_fpops)
+        add(element, "platform", platform)
+        if name:
+            self._add_plan_class(element, self.catalogue.plan_classes[name], request)
+        else:
+            add(element, "avg_ncpus", 1)
+            add(element, "flops", request.p_fpops)
         for item in version.files:
             reference = SubElement(element, "file_ref")
             add(reference, "file_name", item.file.name)
@@ -230,6 +235,18 @@ class ReplyWriter:
                 add(reference, "copy_file", 1)
             if item.is_main_program:
                 add(reference, "main_program", 1)
+
+    def _add_plan_class(self, element: Element, one: PlanClass, request: ClientRequest) -> None:
+        """Adds what a plan class says about a version on the client's host."""
+        add(element, "plan_class", one.name)
+        add(element, "avg_ncpus", f"{one.ncpus(request):g}")
+        add(element, "flops", f"{one.flops(request):.0f}")
+        if one.command_line:
+            add(element, "cmdline", one.words(request))
+        if one.coproc is not None:
+            coproc = SubElement(element, "coproc")
+            add(coproc, "type", one.coproc)
+            add(coproc, "count", f"{one.coproc_count:g}")
 
     def _add_workunit(self, root: Element, job: Job, app: App, work: Work, request: ClientRequest) -> None:
         """Adds a workunit. Its operations give bsched's estimate on this client, to the second."""
@@ -266,7 +283,10 @@ class ReplyWriter:
         element = SubElement(root, "result")
         add(element, "name", job.name)
         add(element, "wu_name", job.wu_name)
-        add(element, "platform", job.platform)
+        platform, plan_class = split(job.platform)
+        add(element, "platform", platform)
+        if plan_class:
+            add(element, "plan_class", plan_class)
         add(element, "version_num", job.version_num)
         add(element, "report_deadline", job.report_deadline)
         if app.is_reported_at_once:

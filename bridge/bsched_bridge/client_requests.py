@@ -23,6 +23,9 @@ MOST_TAG = 65_536  # bytes of a start tag with its attributes, or of a comment
 MOST_NUMBER = 10**18
 MOST_SECONDS = 10**9
 MOST_PLATFORMS = 7
+MOST_COPROCS = 16  # types of coprocessors of a host
+# the elements of graphics cards, with the types by which versions name them
+COPROC_TYPES = {"coproc_cuda": "NVIDIA", "coproc_ati": "ATI", "coproc_intel_gpu": "intel_gpu"}
 MOST_NAME = 254
 FINISHED = 5  # the client's state of a result that ended well (RESULT_FILES_UPLOADED)
 LEAST_STATUS, MOST_STATUS = -(2**31), 2**31 - 1
@@ -50,6 +53,15 @@ class Report:
 
 
 @dataclass(frozen=True, slots=True)
+class Coproc:
+    """A type of coprocessor of a host."""
+
+    type: str
+    count: int
+    req_secs: int  # for how many seconds of it the client asks
+
+
+@dataclass(frozen=True, slots=True)
 class ClientRequest:
     """A request, within the ranges of the profile."""
 
@@ -68,6 +80,9 @@ class ClientRequest:
     # the key that the client has, without blanks and line ends; empty if it has none
     code_sign_key: str
     has_messages: bool  # of programs; a reply acknowledges them, else they come again
+    p_ncpus: int = 1
+    cpu_req_secs: int = 0  # the part of work_req_seconds that is for processors
+    coprocs: tuple[Coproc, ...] = ()
 
 
 # ---- Elements
@@ -167,6 +182,20 @@ def report_of(result: Element) -> Report | None:
     return Report(name, status, output_of(result), reported_files(result))
 
 
+# ---- Coprocessors
+
+
+def coprocs_of(root: Element) -> tuple[Coproc, ...]:
+    """Returns the coprocessors of a host. Those of graphics cards have elements with names of their own."""
+    found = []
+    for element in root.findall("coprocs/*")[:MOST_COPROCS]:
+        kind = COPROC_TYPES.get(element.tag) or text_of(element, "type")
+        if kind is not None and (element.tag == "coproc" or element.tag in COPROC_TYPES):
+            count = whole_of(element, "count", 0, 1000, 0)
+            found.append(Coproc(kind, count, whole_of(element, "req_secs", 0, MOST_SECONDS, 0, up=True)))
+    return tuple(found)
+
+
 # ---- The request
 
 
@@ -216,6 +245,7 @@ def read_request(blocks: Iterable[bytes]) -> ClientRequest:
     """Reads the request from the blocks of a body. Raises RequestFault if it is none."""
     parts = Parts(blocks)
     root = element_of(parts)
+    seconds = whole_of(root, "work_req_seconds", 0, MOST_SECONDS, 0, up=True)
     has = root.find("other_results")
     other: tuple[str, ...] | None = None
     if has is not None:
@@ -233,9 +263,12 @@ def read_request(blocks: Iterable[bytes]) -> ClientRequest:
         d_free=whole_of(root, "host_info/d_free", 0, MOST_NUMBER, 0),
         platform_name=word_of(root, "platform_name"),
         alt_platforms=tuple(alternatives)[:MOST_PLATFORMS],
-        work_req_seconds=whole_of(root, "work_req_seconds", 0, MOST_SECONDS, 0, up=True),
+        work_req_seconds=seconds,
         other_results=other,
         results=tuple(filter(None, map(report_of, root.findall("result")))),
         code_sign_key="".join((text_of(root, "code_sign_key") or "").split()),
         has_messages=parts.has_messages,
+        p_ncpus=whole_of(root, "host_info/p_ncpus", 1, 10_000, 1),
+        cpu_req_secs=whole_of(root, "cpu_req_secs", 0, MOST_SECONDS, seconds, up=True),
+        coprocs=coprocs_of(root),
     )

@@ -27,16 +27,7 @@ class HandedJob:
     files: tuple[OutputFile, ...]  # as the catalogue had them when it went out
     deadline: int
     is_stored: bool = False  # its files are stored: a report of a success came
-    outcome: Outcome | None = None  # of that report, once it is known
-
-
-def set_outcome(connection: sqlite3.Connection, result: str, outcome: Outcome | None, now: int) -> None:
-    """Notes that the files of a result are stored, and the outcome of its report if it is known."""
-    exit_status, output = (None, None) if outcome is None else (outcome.exit_status, outcome.output)
-    connection.execute(
-        "UPDATE job SET stored_at = ?, exit_status = ?, output = ? WHERE result = ?",
-        (now, exit_status, output, result),
-    )
+    outcome: Outcome | None = None  # of that report, by a digest program
 
 
 class HandedOut:
@@ -57,6 +48,14 @@ class HandedOut:
                     (job.result, job.key.authenticator, job.key.host_cpid, listing_of(connection, job),
                      job.deadline),
                 )
+
+    def set_outcome(self, result: str, outcome: Outcome) -> None:
+        """Notes what a digest program said of a report, whose files are stored."""
+        with self.tables.transaction() as connection:
+            connection.execute(
+                "UPDATE job SET exit_status = ?, output = ? WHERE result = ? AND stored_at IS NOT NULL",
+                (outcome.exit_status, outcome.output, result),
+            )
 
     def job(self, result: str) -> HandedJob | None:
         """Returns the job with the name of a result."""

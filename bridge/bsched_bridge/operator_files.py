@@ -1,5 +1,6 @@
 """TOML files that an operator writes. Each fault is reported with its line."""
 import difflib
+import math
 import re
 import tomllib
 from bisect import bisect_right
@@ -77,6 +78,15 @@ class Entry:
         if value is not default and not least <= value <= most:
             self.fault(f"{member} is not within {least} to {most}", member)
         return cast(int, value)
+
+    def number(self, member: str, least: float, most: float, default: Any = ...) -> float:
+        """Returns a number within a range."""
+        if isinstance(self.members.get(member), int):
+            return float(self.whole(member, math.ceil(least), int(most)))
+        value = self.taken(member, float, "a number", default)
+        if value is not default and not least <= value <= most:
+            self.fault(f"{member} is not within {least} to {most}", member)
+        return cast(float, value)
 
     def flag(self, member: str, default: bool = False) -> bool:
         """Returns true or false."""

@@ -11,17 +11,41 @@ import sqlite3
 import time
 from collections.abc import Iterable
 from dataclasses import dataclass, replace
+from functools import cached_property
 
 from .catalogue import Catalogue
 from .client_requests import UPLOAD_STATUS, ClientRequest, Report, ReportedFile
+from .digest_programs import BadFiles, DigestFault, DigestProgram, compared_files, digest_of
 from .handed_out import HandedJob, HandedOut, Outcome
 from .hosts import Hosts, Key
-from .output_files import MOST_OUTPUT, OutputFile, StoredOutput, compared_text, upload_name
+from .output_files import MOST_OUTPUT, OutputFile, compared_text, upload_name
 from .scheduler import Job, Scheduler
 from .upload_store import Upload, UploadStore
 from .words import cut_to_bytes
 
+DIGEST_SECONDS = 20.0  # after which no further digest program begins for a request
+BAD_FILES_STATUS = 1  # the exit status of a result whose files a digest program refuses
+
 log = logging.getLogger(__name__)
+
+
+class HostStatement:
+    """The results of a host and their applications, as bsched says. It is asked once at most for a
+    request.
+    """
+
+    def __init__(self, checks: "ReportChecks", key: Key) -> None:
+        self.checks, self.key = checks, key
+
+    @cached_property
+    def apps(self) -> dict[str, str]:
+        """The application of each result that the host has or had. Raises NoAnswer."""
+        scheduler, hostid = self.checks.scheduler, self.checks.hosts.scheduler_hostid(self.key)
+        if hostid is None or not scheduler.has_host(self.key.authenticator, self.key.host_cpid, hostid):
+            return {}
+        statement = scheduler.statement(hostid, self.checks.operator_key)
+        lines = csv.reader((statement or "").splitlines())
+        return {line[0]: line[1] for line in lines if len(line) > 1}
 
 
 class Incomplete(Exception):
@@ -54,58 +78,74 @@ class ReportChecks:
         listed as results that the client has, so they don't count as lost.
         """
         reports, put_off = [], []
+        ends, statement = time.monotonic() + DIGEST_SECONDS, HostStatement(self, key)
         for report in request.results:
             try:
-                reports.append(self._checked(key, report))
-            except (OSError, sqlite3.Error) as fault:
+                reports.append(self._checked(statement, report, ends))
+            except (OSError, sqlite3.Error, DigestFault) as fault:
                 log.error("the report of %s is put off: %s", report.name, fault)
                 put_off.append(report.name)
         other = None if request.other_results is None else (*request.other_results, *put_off)
         return replace(request, results=tuple(reports), other_results=other)
 
-    def _checked(self, key: Key, report: Report) -> Report:
-        """Returns what bsched gets of a report."""
+    def _checked(self, statement: "HostStatement", report: Report, ends: float) -> Report:
+        """Returns what bsched gets of a report. Raises DigestFault if a digest program fails, or if it would
+        begin after a moment.
+        """
         if report.exit_status != 0:
             return report
-        job = self._job(key, report.name)
+        job = self._job(statement, report.name)
         if job is None or not job.files:
             return report
-        outcome = job.outcome or self._outcome(job, report)
+        outcome = job.outcome or self._outcome(job, report, ends)
         return Report(report.name, outcome.exit_status, outcome.output)
 
-    def _job(self, key: Key, result: str) -> HandedJob | None:
-        """Returns the job of a host, or None if the host does not have it; bsched ignores such a report."""
+    def _job(self, statement: "HostStatement", result: str) -> HandedJob | None:
+        """Returns the job of a host, or None if the host does not have it; bsched ignores such a report. If
+        the bridge does not know that the host got the job, for example after the folder of uploads was
+        restored, it asks bsched.
+        """
         job = self.jobs.job(result)
-        if job is not None:
-            return job if job.key == key else None
-        app = self._app_by_statement(key, result)
-        if app is None or app not in self.catalogue.apps:
+        if job is not None and job.key == statement.key:
+            return job
+        app = self.catalogue.apps.get(statement.apps.get(result, ""))
+        if app is None:
             return None
-        job = HandedJob(result, key, app, self.catalogue.apps[app].output_files, int(time.time()))
+        job = HandedJob(result, statement.key, app.name, app.output_files, int(time.time()))
         self.jobs.add([job])
         return job
 
-    def _app_by_statement(self, key: Key, result: str) -> str | None:
-        """Returns the application of a host's result, as bsched says. The bridge asks so if it does not know
-        that the result went out, for example after its folder of uploads was restored.
-        """
-        hostid = self.hosts.scheduler_hostid(key)
-        if hostid is None or not self.scheduler.has_host(key.authenticator, key.host_cpid, hostid):
-            return None
-        statement = self.scheduler.statement(hostid, self.operator_key)
-        lines = csv.reader((statement or "").splitlines())
-        return next((line[1] for line in lines if len(line) > 1 and line[0] == result), None)
-
-    def _outcome(self, job: HandedJob, report: Report) -> Outcome:
+    def _outcome(self, job: HandedJob, report: Report, ends: float) -> Outcome:
         """Stores the files of a report, and returns what bsched gets of it."""
+        if not job.is_stored:
+            try:
+                files = self._complete(job, {file.name: file for file in report.files})
+            except Incomplete as fault:
+                log.warning("the report of %s says success, and is an error: %s", job.result, fault)
+                return Outcome(UPLOAD_STATUS, cut_to_bytes(str(fault), MOST_OUTPUT))
+            try:
+                self.store.store_files(job.result, files)
+            except FileNotFoundError as fault:
+                log.error("a file of %s was removed: %s", job.result, fault)
+                return Outcome(UPLOAD_STATUS, "an output file was lost")
+        app = self.catalogue.apps.get(job.app)
+        if app is None or app.digest is None:
+            return Outcome(0, compared_text(job.files, self.store.stored_files(job.result)))
+        return self._digested(job, app.digest, ends)
+
+    def _digested(self, job: HandedJob, program: DigestProgram, ends: float) -> Outcome:
+        """Returns what bsched gets of a result whose files are stored, by the digest program."""
+        if time.monotonic() > ends:
+            raise DigestFault("the digest programs of earlier reports took long")
+        files = compared_files(job.files, self.store.stored_paths(job.result))
         try:
-            files = self._complete(job, {file.name: file for file in report.files})
-        except Incomplete as fault:
-            log.warning("the report of %s says success, and is an error: %s", job.result, fault)
-            return Outcome(UPLOAD_STATUS, cut_to_bytes(str(fault), MOST_OUTPUT))
-        stored = {file.open_name: StoredOutput(one.nbytes, one.sha256) for file, one in files}
-        outcome = Outcome(0, compared_text(job.files, stored))
-        self.store.store_files(job.result, files, outcome)
+            outcome = Outcome(0, digest_of(program, files))
+        except BadFiles as fault:
+            log.warning("the files of %s are bad: %s", job.result, fault)
+            outcome = Outcome(BAD_FILES_STATUS, str(fault))
+        except DigestFault as fault:
+            raise DigestFault(f"{program.path}: {fault}") from None
+        self.jobs.set_outcome(job.result, outcome)
         return outcome
 
     def _complete(self, job: HandedJob, told: dict[str, ReportedFile]) -> list[tuple[OutputFile, Upload]]:

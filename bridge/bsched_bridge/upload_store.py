@@ -23,9 +23,8 @@ from pathlib import Path
 from uuid import uuid4
 
 from .catalogue import Catalogue
-from .handed_out import Outcome, set_outcome
 from .operator_files import OperatorFault
-from .output_files import OutputFile
+from .output_files import OutputFile, StoredOutput
 from .settings import Settings, UploadSettings
 from .upload_tables import UploadTables
 from .upload_tokens import read_secret, write_secret
@@ -185,11 +184,9 @@ class UploadStore:
 
     # ---- Reports
 
-    def store_files(
-        self, result: str, files: list[tuple[OutputFile, Upload]], outcome: Outcome | None
-    ) -> None:
-        """Stores the files of a reported result, and what bsched gets of it if that is known. When it
-        returns, all is on the disk. Raises FileNotFoundError if somebody else removed a file.
+    def store_files(self, result: str, files: list[tuple[OutputFile, Upload]]) -> None:
+        """Stores the files of a reported result. When it returns, all is on the disk. Raises
+        FileNotFoundError if somebody else removed a file.
         """
         with self.tables.turn():
             for _, upload in files:
@@ -209,15 +206,20 @@ class UploadStore:
                         (result, place, file.open_name, upload.nbytes, upload.sha256),
                     )
                     connection.execute("DELETE FROM upload WHERE name = ?", (upload.name,))
-                set_outcome(connection, result, outcome, int(time.time()))
+                moment = int(time.time())
+                connection.execute("UPDATE job SET stored_at = ? WHERE result = ?", (moment, result))
             for _, upload in files:
                 self.path_of(upload).unlink(missing_ok=True)
 
-    def stored_files(self, result: str) -> dict[str, tuple[int, str]]:
-        """Returns size and SHA-256 of each stored file of a result, by its open_name."""
+    def stored_files(self, result: str) -> dict[str, StoredOutput]:
+        """Returns the stored files of a result, by their open_names."""
         query = "SELECT open_name, nbytes, sha256 FROM file WHERE result = ? ORDER BY place"
         rows = self.tables.rows(query, result)
-        return {str(row[0]): (int(str(row[1])), str(row[2])) for row in rows}
+        return {str(row[0]): StoredOutput(int(str(row[1])), str(row[2])) for row in rows}
+
+    def stored_paths(self, result: str) -> dict[str, Path]:
+        """Returns the path of each stored file of a result, by its open_name."""
+        return {name: self.store / one.sha256 for name, one in self.stored_files(result).items()}
 
 
 def check_uploads(settings: Settings, catalogue: Catalogue) -> None:

@@ -71,13 +71,13 @@ def sweep(store: UploadStore, now: int, decisions: Decisions | None) -> Swept:
 def sweep_uploads(store: UploadStore, now: int, swept: Swept) -> None:
     """Deletes uploads that came after the report of their result, or whose result was never reported."""
     recent, late = now - LEAST_KEPT_DAYS * DAY, now - LEFT_DAYS * DAY
-    query = (
-        "SELECT name, nbytes, md5, sha256, received_at < ? OR EXISTS (SELECT 1 FROM job WHERE "
-        "result = replace(substr(name, 1, length(rtrim(name, '0123456789')) - 1), '+', '') "
-        "AND stored_at < ?) FROM upload WHERE received_at < ?"
+    rows = store.tables.rows(
+        "SELECT name, nbytes, md5, sha256 FROM upload WHERE received_at < ? AND (received_at < ? OR EXISTS "
+        "(SELECT 1 FROM job WHERE stored_at < ? AND "
+        "result = replace(substr(name, 1, length(rtrim(name, '0123456789')) - 1), '+', '')))",
+        recent, late, recent,
     )
-    rows = store.tables.rows(query, late, recent, recent)
-    old = [Upload(*cast("tuple[str, int, str, str]", row[:4])) for row in rows if row[4]]
+    old = [Upload(*cast("tuple[str, int, str, str]", row)) for row in rows]
     for part in parts_of(old, PART):
         with store.tables.transaction() as connection:
             for upload in part:

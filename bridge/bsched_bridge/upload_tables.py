@@ -9,6 +9,7 @@ import fcntl
 import os
 import sqlite3
 import threading
+import time
 from collections.abc import Iterator
 from contextlib import contextmanager
 from pathlib import Path
@@ -16,7 +17,8 @@ from pathlib import Path
 from .state_file import StateFault, make_private
 
 APPLICATION_ID, SCHEMA_VERSION = 0x62736375, 1  # "bscu"
-SECONDS = 30.0  # that a thread waits for a transaction of the sweep, which takes turns of a part of a second
+SECONDS = 30.0  # that a process waits for another one, whose turns take a part of a second
+PAUSE_SECONDS = 0.005
 TABLES = """
 CREATE TABLE listing (            -- a list of the output files of an application
   id INTEGER PRIMARY KEY, app TEXT NOT NULL, files TEXT NOT NULL, UNIQUE (app, files)
@@ -27,7 +29,7 @@ CREATE TABLE job (                -- a result that went out
   listing INTEGER NOT NULL REFERENCES listing,  -- as the catalogue had it when the job went out
   deadline INTEGER NOT NULL,
   stored_at INTEGER,              -- when its files were stored, which a report of a success does
-  exit_status INTEGER, output TEXT  -- what bsched gets of that report, once it is known
+  exit_status INTEGER, output TEXT  -- what bsched gets of that report, by a digest program
 ) STRICT;
 CREATE TABLE upload (             -- a file in pending/, whose result is not reported yet
   name TEXT PRIMARY KEY, nbytes INTEGER NOT NULL, md5 TEXT NOT NULL, sha256 TEXT NOT NULL,
@@ -98,7 +100,7 @@ class UploadTables:
         """Holds the turn for the block: no other thread or process gives a file its name or deletes one."""
         with self._lock:
             if self._depth == 0:
-                fcntl.flock(self._turns, fcntl.LOCK_EX)
+                self._take_turn()
             self._depth += 1
             try:
                 yield
@@ -106,6 +108,17 @@ class UploadTables:
                 self._depth -= 1
                 if self._depth == 0:
                     fcntl.flock(self._turns, fcntl.LOCK_UN)
+
+    def _take_turn(self) -> None:
+        """Waits until no other process has the turn. Raises TimeoutError if one does not end it."""
+        ends = time.monotonic() + SECONDS
+        while True:
+            try:
+                return fcntl.flock(self._turns, fcntl.LOCK_EX | fcntl.LOCK_NB)
+            except BlockingIOError:
+                if time.monotonic() > ends:
+                    raise TimeoutError("another process does not end its turn at the uploads") from None
+            time.sleep(PAUSE_SECONDS)
 
     @contextmanager
     def _transaction(self) -> Iterator[sqlite3.Connection]:

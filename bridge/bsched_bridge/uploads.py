@@ -84,7 +84,8 @@ def is_question(begin: bytes) -> bool:
     """Returns whether a message asks how much of a file the project has. The bytes of an uploaded file may
     look like the question, so a message that has `<data>` is none.
     """
-    return DATA not in begin and bool(PATTERNS["get_file_size"].search(begin.decode("ascii", errors="replace")))
+    text = begin.decode("ascii", errors="replace")
+    return DATA not in begin and PATTERNS["get_file_size"].search(text) is not None
 
 
 def answer_of(status: int, said: str, file_size: int | None = None) -> Answer:

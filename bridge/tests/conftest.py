@@ -210,6 +210,7 @@ def file_project(project):
 def file_bridge(file_project, twin, monkeypatch):
     """A bridge of an application with output files."""
     monkeypatch.setattr("bsched_bridge.scheduler.PAUSE_SECONDS", 0.0)
+    twin.statement = None
     made = Bridge(file_project, twin)
     yield made
     made.close()

@@ -50,7 +50,7 @@ def test_the_files_of_a_good_report_are_stored(file_bridge):
     assert reported(file_bridge, report("u1_0", infos)) == (0, TEXT)
     assert on_disk(file_bridge.folder) == {f"store/{sha256_of(OUT)}": OUT, f"store/{sha256_of(LOG)}": LOG}
     assert file_bridge.store.stored_files("u1_0") == {
-        "out": (11, sha256_of(OUT)), "log": (11, sha256_of(LOG))
+        "out": StoredOutput(11, sha256_of(OUT)), "log": StoredOutput(11, sha256_of(LOG))
     }
     assert file_bridge.store.tables.used() == 22
 
@@ -191,3 +191,32 @@ def test_a_file_that_is_not_compared_is_stored_and_left_out():
     stored = {"out": StoredOutput(7, "a" * 64), "log": StoredOutput(9, "b" * 64)}
     assert compared_text(files, stored) == "out sha256:" + "a" * 64 + " 7"
     assert json.dumps(compared_text(files, {"out": stored["out"]}))
+
+
+def test_bsched_is_asked_once_for_results_that_did_not_go_out(file_bridge, monkeypatch):
+    file_bridge.call(request())
+    asked, statement = [], file_bridge.application.scheduler.statement
+    monkeypatch.setattr(
+        file_bridge.application.scheduler, "statement",
+        lambda *words: asked.append(words) or statement(*words),
+    )
+    reports = [(f"x{number}_0", "1") for number in range(50)]
+    file_bridge.call(request(hostid=FIRST, seconds=0, reports=reports))
+    assert len(asked) == 1
+
+
+def test_a_job_that_another_host_had_in_other_tables_is_checked(file_bridge):
+    """The rows of the jobs are of another time than bsched's tables."""
+    infos = worked(file_bridge)
+    with file_bridge.store.tables.transaction() as connection:
+        connection.execute("UPDATE job SET authenticator = 'bob-key'")
+    assert reported(file_bridge, report("u1_0", []))[0] == -187
+    with file_bridge.store.tables.transaction() as connection:
+        connection.execute("UPDATE job SET authenticator = 'bob-key'")
+    assert reported(file_bridge, report("u1_0", infos))[0] == 0
+
+
+def test_a_file_that_somebody_removed_is_an_error(file_bridge):
+    infos = worked(file_bridge)
+    (file_bridge.folder / "uploads" / "pending" / f"u1_0_0.{sha256_of(OUT)}").unlink()
+    assert reported(file_bridge, report("u1_0", infos)) == (-187, "an output file was lost")

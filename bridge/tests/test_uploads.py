@@ -333,3 +333,15 @@ def test_a_secret_that_is_lost_is_not_replaced(file_bridge):
         UploadStore(settings)
     secret.write_bytes(kept)
     UploadStore(settings).close()
+
+
+def test_a_process_that_keeps_its_turn_puts_uploads_off(file_bridge, monkeypatch):
+    monkeypatch.setattr("bsched_bridge.upload_tables.SECONDS", 0.05)
+    tokens = given(file_bridge)
+    message = upload("u1_0_0", DATA, tokens["u1_0_0"])
+    sweeping = UploadStore(file_bridge.application.settings.uploads)  # as another process has it
+    with sweeping.tables.turn():
+        assert sent(file_bridge, message) == AGAIN
+        assert on_disk(file_bridge.folder) == {}
+    assert sent(file_bridge, message) == DONE
+    sweeping.close()
