@@ -1,4 +1,4 @@
-"""An HTTP proxy between two programs of a trial. It can lose or hold answers."""
+"""An HTTP proxy between two programs of a trial. It can lose, hold or replace answers, and cut messages."""
 import http.client
 import threading
 from collections.abc import Callable
@@ -22,11 +22,14 @@ class Message:
 @dataclass
 class Fault:
     """A fault for the first message that fits: its answer is lost. If is_held is true, the connection stays
-    open until let_go is set.
+    open until let_go is set. With is_cut the other program gets a half of the message, before let_go is set. With
+    another answer the other program gets nothing.
     """
 
     fits: Callable[[Message], bool]
     is_held: bool = False
+    is_cut: bool = False
+    another: bytes | None = None
     # set when the other program has answered such a message
     met: threading.Event = field(default_factory=threading.Event)
     let_go: threading.Event = field(default_factory=threading.Event)
@@ -46,6 +49,8 @@ class Handler(BaseHTTPRequestHandler):
         proxy.messages.append(message)
         fields = {name: value for name, value in self.headers.items() if name.lower() not in HOP_FIELDS}
         connection = http.client.HTTPConnection("127.0.0.1", proxy.target, timeout=ANSWER_SECONDS)
+        if fault := proxy.fault_of(message, is_before=True):
+            return self.cut(connection, message, fields, fault) if fault.is_cut else self.give(fault.another)
         try:
             connection.request(
                 self.command, self.path, message.body if self.command == "POST" else None, fields
@@ -74,6 +79,27 @@ class Handler(BaseHTTPRequestHandler):
         except OSError:
             pass
 
+    def cut(
+        self, connection: http.client.HTTPConnection, message: Message, fields: dict[str, str], fault: Fault
+    ) -> None:
+        """Passes a half of a message on, and waits."""
+        connection.putrequest(self.command, self.path)
+        for name, value in fields.items():
+            connection.putheader(name, value)
+        connection.putheader("content-length", str(len(message.body)))
+        connection.endheaders()
+        connection.send(message.body[: len(message.body) // 2])
+        fault.met.set()
+        fault.let_go.wait(ANSWER_SECONDS)
+        connection.close()
+
+    def give(self, answer: bytes) -> None:
+        """Gives an answer of the proxy's own."""
+        self.send_response(200)
+        self.send_header("content-length", str(len(answer)))
+        self.end_headers()
+        self.wfile.write(answer)
+
     do_GET = do_POST = pass_on
 
     def log_message(self, *_words) -> None:
@@ -99,11 +125,15 @@ class Proxy:
             self._faults.append(fault)
         return fault
 
-    def fault_of(self, message: Message) -> Fault | None:
-        """Takes and returns the first planned fault that a message fits."""
+    def fault_of(self, message: Message, is_before: bool = False) -> Fault | None:
+        """Takes and returns the first planned fault that a message fits, of those for messages or for answers.
+        """
         with self._lock:
-            fault = next((fault for fault in self._faults if fault.fits(message)), None)
+            planned = [one for one in self._faults if is_before == (one.is_cut or one.another is not None)]
+            fault = next((one for one in planned if one.fits(message)), None)
             if fault is not None:
                 self._faults.remove(fault)
                 fault.message = message
+                if fault.another is not None:
+                    fault.met.set()
             return fault
