@@ -14,6 +14,7 @@ from test_results import lines_of, rows_of
 
 from bsched_tools import uploaded
 from bsched_tools.faults import Fault
+from bsched_tools.projects import Project
 
 sys.path.append(str(TOOLS.parent / "bridge"))
 from bsched_bridge.upload_tables import UploadTables  # noqa: E402
@@ -142,3 +143,16 @@ def test_faults(tables: Path, uploads: Path, tmp_path: Path) -> None:
     sqlite3.connect(other / "uploads.db").execute("CREATE TABLE x (y)")
     with pytest.raises(Fault, match="is not a bridge's file of uploads"):
         lines_of(tables, uploads=other)
+
+
+def test_a_project_has_the_uploads_of_its_bridge(uploads: Path, tmp_path: Path) -> None:
+    project = Project(tmp_path / "sums")
+    assert project.uploads is None
+    (project.folder / "bridge").mkdir(parents=True)
+    for text, folder in (
+        ('name = "Sums"\n', None), (f'[uploads]\nfolder = "{uploads}"\n', uploads),
+        ('[uploads]\nfolder = "../../uploads"\n', project.folder / "bridge" / ".." / ".." / "uploads"),
+        ('[uploads]\nfolder = "none"\n', None), ('uploads = "x"\n', None),
+    ):
+        project.bridge_file.write_text(text)
+        assert project.uploads == folder
