@@ -223,7 +223,11 @@ class UploadStore:
 
 
 def check_uploads(settings: Settings, catalogue: Catalogue) -> None:
-    """Checks that the settings of uploads fit the output files in the catalogue."""
+    """Checks that the settings of uploads fit the output files in the catalogue, and that the secret of an
+    existing folder is there. It makes nothing.
+    """
+    if settings.uploads is not None and (settings.uploads.folder / "uploads.db").exists():
+        secret_in(settings.uploads.folder)
     for app in catalogue.apps.values():
         nbytes = sum(file.max_nbytes for file in app.output_files)
         if app.output_files and settings.uploads is None:

@@ -11,9 +11,10 @@ from messages import FIRST, jobs, request
 from uploading import ASKS_SIZE, on_disk, sent, sha256_of, tokens_of, upload
 
 from bsched_bridge import uploads
+from bsched_bridge.catalogue import read_catalogue
 from bsched_bridge.operator_files import OperatorFault
 from bsched_bridge.settings import read_settings
-from bsched_bridge.upload_store import UploadStore
+from bsched_bridge.upload_store import UploadStore, check_uploads
 
 DATA = bytes(range(256)) * 40  # more than the 8,192 bytes that are read with the head
 DONE, AGAIN, NEVER = 0, 1, -1
@@ -328,6 +329,9 @@ def test_a_secret_that_is_lost_is_not_replaced(file_bridge):
     secret.unlink()
     with pytest.raises(OperatorFault, match="secret: is missing: restore it"):
         UploadStore(settings)
+    with pytest.raises(OperatorFault, match="secret: is missing: restore it"):
+        check_uploads(file_bridge.application.settings, file_bridge.application.catalogue)
+    assert not secret.exists()
     secret.write_bytes(kept[1:])
     with pytest.raises(OperatorFault, match="has 31 bytes"):
         UploadStore(settings)
@@ -345,3 +349,47 @@ def test_a_process_that_keeps_its_turn_puts_uploads_off(file_bridge, monkeypatch
         assert on_disk(file_bridge.folder) == {}
     assert sent(file_bridge, message) == DONE
     sweeping.close()
+
+
+@pytest.mark.parametrize("old, new, fault", [
+    ("max_nbytes = 20_000", "max_nbytes = 2_000_000_000", "have up to 2000001000 bytes, and most_result_bytes"),
+    ("[uploads]", "[other]", "sum has output files, and the settings have no \\[uploads\\]|other is not known"),
+])
+def test_settings_that_do_not_fit_the_catalogue(file_bridge, old, new, fault):
+    for name in ("catalogue.toml", "bridge.toml"):
+        path = file_bridge.folder / name
+        path.write_text(path.read_text().replace(old, new))
+    with pytest.raises(OperatorFault, match=fault):
+        settings = read_settings(file_bridge.folder / "bridge.toml")
+        check_uploads(settings, read_catalogue(settings.catalogue))
+
+
+@pytest.mark.parametrize("old, new, fault", [
+    ('open_name = "log"', 'open_name = "out"', "two output files have the open_name out"),
+    ('open_name = "log"', 'open_name = "../log"', "open_name is not a file name"),
+    ("max_nbytes = 1000", "max_nbytes = 0", "max_nbytes is not within 1"),
+    ("max_nbytes = 1000", "size = 1000", "max_nbytes is missing"),
+    ("optional = true", 'optional = "yes"', "optional is not true or false"),
+    ("optional = true", "other = true", "other is not known here"),
+    ("max_nbytes = 20_000", "max_nbytes = 20_000, compare = false", None),
+    ('name = "two.txt"', 'name = "two_1_2"', "name ends like that of an output file"),
+])
+def test_faulty_output_files(file_project, old, new, fault):
+    path = file_project / "catalogue.toml"
+    path.write_text(path.read_text().replace(old, new, 1))
+    if fault is None:
+        assert read_catalogue(path).apps["sum"].output_files[0].is_compared is False
+        return
+    with pytest.raises(OperatorFault, match=fault):
+        read_catalogue(path)
+
+
+def test_too_many_output_files_and_none_that_is_compared(file_project):
+    path = file_project / "catalogue.toml"
+    text, entry = path.read_text(), '{ open_name = "f%d", max_nbytes = 1, compare = %s }'
+    head, tail = text.partition("output_files = [")[0], text.partition("optional = true },\n]\n")[2]
+    for count, compare, fault in ((21, "true", "has more than 20 files"), (2, "false", "no file is compared")):
+        entries = ", ".join(entry % (number, compare) for number in range(count))
+        path.write_text(f"{head}output_files = [{entries}]\n{tail}")
+        with pytest.raises(OperatorFault, match=fault):
+            read_catalogue(path)
