@@ -6,7 +6,9 @@ import threading
 import xml.etree.ElementTree as ElementTree
 from dataclasses import replace
 
+import hypothesis
 import pytest
+from hypothesis import strategies as st
 from messages import FIRST, jobs, request
 from uploading import ASKS_SIZE, on_disk, sent, sha256_of, tokens_of, upload
 
@@ -170,6 +172,22 @@ def test_odd_and_forged_messages_store_nothing(file_bridge):
         seen += 1
     assert seen >= 26
     assert sent(file_bridge, upload("u1_0_0", DATA, tokens["u1_0_0"])) == DONE  # the good one still comes
+
+
+PIECES = [
+    b"<name>", b"</name>", b"u1_0_0", b"<nbytes>", b"</nbytes>", b"5", b"<md5_cksum>", b"</md5_cksum>", b"0" * 32,
+    b"<offset>0</offset>", b"<data>\n", b"<max_nbytes>20000</max_nbytes>", b"<xml_signature>", b"</xml_signature>",
+    b"\xff", b"\x00", b"\n", b" " * 4096, b"<get_file_size", b"a",
+]
+
+
+@hypothesis.settings(
+    max_examples=200, suppress_health_check=[hypothesis.HealthCheck.function_scoped_fixture], deadline=None, database=None
+)
+@hypothesis.given(st.lists(st.sampled_from(PIECES), max_size=20).map(b"".join))
+def test_any_message_gets_an_answer_and_stores_nothing(file_bridge, message):
+    assert sent(file_bridge, message) in (AGAIN, NEVER)
+    assert on_disk(file_bridge.folder) == {}
 
 
 @pytest.mark.parametrize("end", [0, 10, 600, 640, 700, 8191, 8192, 8193, 9000, -1])
