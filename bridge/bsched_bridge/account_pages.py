@@ -1,13 +1,14 @@
 """The account pages for people: an account with its hosts, its name and password, and the terms.
 
 There are no cookies. Each form sends the key or the password that it needs, so another web page can't act
-through its visitors.
+with its visitors' accounts. Nor can it try passwords by its visitors: what browsers say comes from another
+site is refused.
 """
 from dataclasses import dataclass, field, replace
 
 from .account_messages import LEAST_PASSWORD, client_of
 from .accounts import AccountFault, Accounts, Fault, at_work, clean_name, is_email
-from .http_messages import Answer, Environ, form_of, has_method, query_of
+from .http_messages import Answer, Environ, form_of, has_method, is_of_no_other_page, query_of
 from .limits import Places
 from .markup import Markup, Number, element, joined, page, paragraphs, table
 from .members import Member
@@ -120,6 +121,7 @@ class AccountPages:
         page posts back to it, with the key.
         """
         has_method(environ, "GET", "HEAD", "POST")
+        is_of_no_other_page(environ, self.settings.url)
         if environ["REQUEST_METHOD"] == "POST":
             return self._changed(environ)
         key, client = query_of(environ).get("auth", ""), client_of(environ, self._field)
@@ -135,6 +137,7 @@ class AccountPages:
         has_method(environ, "GET", "HEAD", "POST")
         if environ["REQUEST_METHOD"] != "POST":
             return self._entrance(Form())
+        is_of_no_other_page(environ, self.settings.url)
         sent, client = Form(form_of(environ)), client_of(environ, self._field)
         try:
             with at_work(self.places):
@@ -280,6 +283,7 @@ class AccountPages:
         has_method(environ, "GET", "HEAD", "POST")
         if environ["REQUEST_METHOD"] != "POST":
             return self._password_form(Form())
+        is_of_no_other_page(environ, self.settings.url)
         sent, client = Form(form_of(environ)), client_of(environ, self._field)
         email, password = in_small_letters(sent.text("email")), sent.told.get("password", "")
         if not is_email(email):

@@ -5,7 +5,7 @@ import traceback
 from collections.abc import Iterator
 from dataclasses import dataclass, field
 from typing import Any
-from urllib.parse import parse_qs
+from urllib.parse import parse_qs, urlsplit
 
 XML, HTML, TEXT = "text/xml; charset=utf-8", "text/html; charset=utf-8", "text/plain; charset=utf-8"
 BYTES = "application/octet-stream"
@@ -69,6 +69,21 @@ def is_of_no_browser(environ: Environ) -> None:
     out all of these fields.
     """
     if any(name in environ for name in BROWSER_FIELDS):
+        raise HttpFault(403)
+
+
+def is_of_no_other_page(environ: Environ, url: str) -> None:
+    """Raises HttpFault 403 if a page of another site made its visitor send the message. A browser says so by
+    Sec-Fetch-Site, and an older one by Origin. It may send `null` as the origin of a page at the master URL,
+    since the pages have no referrer.
+    """
+    site = environ.get("HTTP_SEC_FETCH_SITE")
+    if site is None:
+        parts = urlsplit(url)
+        is_own = environ.get("HTTP_ORIGIN", "null") in ("null", f"{parts.scheme}://{parts.netloc}")
+    else:
+        is_own = site in ("same-origin", "none")
+    if not is_own:
         raise HttpFault(403)
 
 

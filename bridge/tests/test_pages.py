@@ -395,3 +395,39 @@ def test_workunits_of_a_copy(project, bridge, text, is_shown):
     if is_shown:
         assert "open12" in page.text and "all43" in page.text
         assert "Counted at 1970-01-02 00:00:00 UTC." in page.text
+
+
+# ---- Pages of other sites
+
+ELSEWHERE = [
+    {"HTTP_SEC_FETCH_SITE": "cross-site"}, {"HTTP_SEC_FETCH_SITE": "same-site", "HTTP_ORIGIN": "null"},
+    {"HTTP_ORIGIN": "https://other.example"}, {"HTTP_ORIGIN": "http://127.0.0.1:8082"},
+]
+FROM_HERE = [
+    {}, {"HTTP_SEC_FETCH_SITE": "same-origin", "HTTP_ORIGIN": "null"}, {"HTTP_SEC_FETCH_SITE": "none"},
+    {"HTTP_ORIGIN": "http://127.0.0.1:8081"}, {"HTTP_ORIGIN": "null"},
+]
+
+
+@pytest.mark.parametrize("fields", ELSEWHERE)
+def test_pages_of_other_sites_can_neither_try_passwords_nor_lock_people_out(open_bridge, fields):
+    key = create(open_bridge)
+    body, kind = b"email=ann@sums.example&password=wrong&key=x", {"CONTENT_TYPE": "application/x-www-form-urlencoded"}
+    for _ in range(12):
+        for page in ("account", "account_finish.php", "get_passwd.php"):
+            answer = open_bridge.got(f"/p/{page}", "POST", body, REMOTE_ADDR=CLIENT, **kind, **fields)
+            assert answer[0].startswith("403")
+        image = open_bridge.got("/p/account_finish.php?auth=x", REMOTE_ADDR=CLIENT, **fields)
+        assert image[0].startswith("403")
+    assert look_up(open_bridge) == key
+    # links to the forms may come from anywhere
+    assert open_bridge.got("/p/account", **fields)[0].startswith("200")
+
+
+@pytest.mark.parametrize("fields", FROM_HERE)
+def test_the_pages_own_forms_are_taken(open_bridge, fields):
+    key = create(open_bridge)
+    assert open_bridge.got(f"/p/account_finish.php?auth={key}", **fields)[0].startswith("200")
+    kind = {"CONTENT_TYPE": "application/x-www-form-urlencoded"}
+    page = open_bridge.got("/p/account", "POST", f"key={key}".encode(), **kind, **fields)
+    assert key in page[2].decode()
