@@ -37,7 +37,7 @@ from .http_messages import (
     log_fault,
 )
 from .key_locks import Busy, KeyLocks
-from .limits import Places
+from .limits import NoPlace, Places
 from .members import Members
 from .passwords import Passwords
 from .recent_credit import Recent, RecentCredit
@@ -54,6 +54,9 @@ from .upload_tokens import UploadTokens
 REST_OF_FILE = re.compile(r"bytes=([0-9]{1,18})-")
 # Reading the XML of a request takes many times its bytes. A large one waits for its turn before it is read.
 LARGE_BYTES, LARGE_SECONDS = 256 * 1024, 5.0
+# Threads that are kept for pages and files, which need nothing of bsched. A call that finds no other thread
+# free waits for so long, but not if bsched gives no answer.
+KEPT_THREADS, PLACE_SECONDS = 2, 0.5
 
 log = logging.getLogger(__name__)
 StartResponse = Callable[[str, list[tuple[str, str]]], Any]
@@ -70,7 +73,8 @@ class Application:
     ):
         self.settings, self.catalogue, self.scheduler, self.store = settings, catalogue, scheduler, store
         hosts, self.members, archives = Hosts(file), Members(file), read_archives(settings.archives)
-        self.account_places = Places(max(1, settings.threads // 2))
+        self.places = Places(max(1, settings.threads - KEPT_THREADS))
+        self.account_places = Places(max(1, settings.threads // 2), self.places)
         self.accounts: Accounts | None = None
         if settings.accounts is not None and settings.operator_key is not None:
             self.accounts = Accounts(
@@ -116,7 +120,7 @@ class Application:
             "get_passwd.php": self._no_passwords,
         }
         if self.store is not None:
-            places = Places(max(1, self.settings.threads // 2))
+            places = Places(max(1, self.settings.threads // 2), self.places)
             handlers[uploads.PATH] = uploads.Uploads(self.store, places).answer
         if self.accounts is not None:
             people = AccountPages(self.settings, self.accounts, self.statements, self.account_places)
@@ -177,15 +181,22 @@ class Application:
         return pages.no_passwords_page(self.settings)
 
     def _scheduler(self, environ: Environ) -> Answer:
-        """Answers a scheduler_request. The client always gets a scheduler_reply."""
+        """Answers a scheduler_request. The client always gets a scheduler_reply. Of a request that is refused
+        the rest is read, too: a proxy may not read the answer before.
+        """
         has_method(environ, "POST")
+        length = length_of(environ, MOST_BYTES)
+        blocks = blocks_of(environ, length)
         try:
-            request = self.catalogue.by_resource(self._request(environ))
+            with self.places.taken(0.0 if self.scheduler.is_slow else PLACE_SECONDS):
+                request = self.catalogue.by_resource(self._request(blocks, length))
+                answered = self.exchange.answer(request)
         except RequestFault as fault:
-            return Answer(XML, self.writer.put_off(PutOff(f"Error in request message: {fault}", HOUR)))
-        except Busy:
-            return Answer(XML, self.writer.put_off(PutOff(TOO_BUSY, self.settings.retry_delay)))
-        answered = self.exchange.answer(request)
+            answered = PutOff(f"Error in request message: {fault}", HOUR)
+        except (Busy, NoPlace):
+            answered = PutOff(TOO_BUSY, self.settings.retry_delay)
+        for _ in blocks:
+            pass
         if isinstance(answered, PutOff):
             return Answer(XML, self.writer.put_off(answered))
         member = self.members.of_key(request.authenticator)  # the user may have chosen another name
@@ -204,21 +215,14 @@ class Application:
             0.0 if own is None else self.recent.of_host(authenticator, own),
         )
 
-    def _request(self, environ: Environ) -> ClientRequest:
+    def _request(self, blocks: Iterable[bytes], length: int) -> ClientRequest:
         """Reads a request. Large ones are read one after the other, since anybody can send them, and several
-        at once could use up the memory. Of one that is refused the rest is read, too: a proxy may not read
-        the answer before.
+        at once could use up the memory.
         """
-        length = length_of(environ, MOST_BYTES)
-        blocks = blocks_of(environ, length)
-        try:
-            if length <= LARGE_BYTES:
-                return read_request(blocks)
-            with self._large.held("large"):
-                return read_request(blocks)
-        finally:
-            for _ in blocks:
-                pass
+        if length <= LARGE_BYTES:
+            return read_request(blocks)
+        with self._large.held("large"):
+            return read_request(blocks)
 
     def _download(self, environ: Environ, start_response: StartResponse, name: str) -> Iterable[bytes]:
         """Sends a file, or the rest of it from a byte on."""

@@ -4,7 +4,7 @@ import threading
 import time
 from collections import OrderedDict
 from collections.abc import Callable, Hashable, Iterator
-from contextlib import contextmanager
+from contextlib import contextmanager, nullcontext
 
 MOST_KEYS = 100_000
 
@@ -14,10 +14,10 @@ class NoPlace(Exception):
 
 
 class Places:
-    """A few places, for what only so many may do at once."""
+    """A few places, for what only so many may do at once. They may be some of the places of others."""
 
-    def __init__(self, most: int) -> None:
-        self._places = threading.BoundedSemaphore(most)
+    def __init__(self, most: int, of: "Places | None" = None) -> None:
+        self._places, self._of = threading.BoundedSemaphore(most), of
 
     @contextmanager
     def taken(self, wait_seconds: float = 0) -> Iterator[None]:
@@ -25,7 +25,8 @@ class Places:
         if not self._places.acquire(timeout=wait_seconds):
             raise NoPlace
         try:
-            yield
+            with self._of.taken(wait_seconds) if self._of is not None else nullcontext():
+                yield
         finally:
             self._places.release()
 

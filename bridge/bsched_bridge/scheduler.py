@@ -4,7 +4,10 @@ messages").
 import http.client
 import json
 import logging
+import threading
 import time
+from collections.abc import Iterator
+from contextlib import contextmanager
 from dataclasses import dataclass, field, fields
 from typing import Any, NoReturn
 
@@ -15,6 +18,8 @@ PAUSE_SECONDS = 0.5  # between attempts
 UNAVAILABLE, NO_SUCH_HOST, NOT_OPERATOR = "unavailable", "no_such_host", "not_operator"
 STATEMENT_BEGINS = b"result,"
 WRONG_KEY = "refuses operator_key: it is that of another project, or the key is another one"
+HUNG_SECONDS = 5.0  # during which no message is sent, after one had no answer in time
+SLOW_SECONDS = 1.0  # after which a message has waited for long; an answer takes milliseconds
 NO_HOST = 2**31 - 1  # no host has this number: there are at most 100,000
 MOST_ANSWER = 16 * 1024 * 1024  # bytes
 
@@ -25,6 +30,10 @@ class NoAnswer(Exception):
     """Raised if bsched gave no answer, or was unavailable. bsched may have acted on the message, so the same
     bytes are sent again.
     """
+
+
+class Hung(NoAnswer):
+    """Raised at once, without a message to bsched, since it let an earlier one wait for too long."""
 
 
 @dataclass(frozen=True, slots=True)
@@ -96,6 +105,9 @@ def read_refusal(status: int, said: object) -> Refusal:
 class Scheduler:
     """Sends messages to bsched. Each message has a connection of its own, as bsched requires.
 
+    If bsched lets a message wait for answer_seconds, the next ones would do so, too, and hold all threads of
+    the bridge. So for HUNG_SECONDS they fail at once. Then one message shows whether bsched answers again.
+
     With the operator's key it first asks whether what has the port knows that key. Otherwise it may be the
     scheduler of another project, whose jobs would go to this one's computers. It asks again after each
     message without an answer, since another program may have the port then.
@@ -105,6 +117,35 @@ class Scheduler:
         self.address, self.answer_seconds = address, answer_seconds
         self.silent_since: float | None = None  # since when bsched gives no answer; None after an answer
         self._key_to_check, self._is_checked = operator_key, operator_key is None
+        self._lock = threading.Lock()
+        self._hung_until: float | None = None  # a moment of the monotonic clock; None after an answer
+        self._is_probed = False  # whether the message that shows whether bsched answers again is on its way
+        self._began: dict[int, float] = {}  # when each message was sent that waits for its answer
+
+    @property
+    def is_slow(self) -> bool:
+        """Whether bsched gives no answer, or a message has waited for an answer for some time."""
+        with self._lock:
+            oldest = min(self._began.values(), default=None)
+        is_old = oldest is not None and time.monotonic() - oldest > SLOW_SECONDS
+        return is_old or self.silent_since is not None
+
+    @contextmanager
+    def _waiting(self) -> Iterator[None]:
+        """Counts a message that waits for its answer. Raises Hung if no message is to be sent now."""
+        with self._lock:
+            now, is_probe = time.monotonic(), self._hung_until is not None
+            if self._hung_until is not None and (self._is_probed or now < self._hung_until):
+                raise Hung("an earlier message had no answer in time")
+            self._is_probed = is_probe
+            number = max(self._began, default=0) + 1
+            self._began[number] = now
+        try:
+            yield
+        finally:
+            with self._lock:
+                del self._began[number]
+                self._is_probed = self._is_probed and not is_probe
 
     def message(
         self, method: str, path: str, body: bytes | None = None, fields: dict[str, str] | None = None
@@ -113,9 +154,10 @@ class Scheduler:
         has none.
         """
         try:
-            if not self._is_checked:
-                self._check_key()
-            status, told = self._exchange(method, path, body, fields or {})
+            with self._waiting():
+                if not self._is_checked:
+                    self._check_key()
+                status, told = self._exchange(method, path, body, fields or {})
             if len(told) > MOST_ANSWER:
                 self._is_too_long(method, path)
             if status >= 500:
@@ -161,8 +203,14 @@ class Scheduler:
         try:
             connection.request(method, path, body, fields)
             response = connection.getresponse()
-            return response.status, response.read(MOST_ANSWER + 1)
+            answer = response.status, response.read(MOST_ANSWER + 1)
+            self._hung_until = None
+            return answer
+        except TimeoutError:
+            self._hung_until = time.monotonic() + HUNG_SECONDS
+            raise NoAnswer("no answer in time") from None
         except (OSError, http.client.HTTPException) as error:
+            self._hung_until = None
             raise NoAnswer(str(error) or type(error).__name__) from None
         finally:
             connection.close()
@@ -196,9 +244,11 @@ class Scheduler:
         for attempt in range(1, ATTEMPTS + 1):
             try:
                 return self.call_once(body)
+            except Hung:
+                raise
             except NoAnswer as failure:
                 log.warning("no answer of bsched at %s:%d: %s", self.address.host, self.address.port, failure)
-                if attempt == ATTEMPTS or time.monotonic() > ends:
+                if attempt == ATTEMPTS or time.monotonic() > ends or self._hung_until is not None:
                     raise
             time.sleep(PAUSE_SECONDS)
         raise AssertionError("the last attempt returns or raises")

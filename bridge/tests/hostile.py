@@ -18,6 +18,7 @@ sys.path[:0] = [str(Path(__file__).resolve().parent.parent)]
 from bsched_bridge.application import LARGE_BYTES, LARGE_SECONDS, Application  # noqa: E402
 from bsched_bridge.calls import call_text  # noqa: E402
 from bsched_bridge.client_requests import MOST_BYTES  # noqa: E402
+from bsched_bridge.http_messages import blocks_of  # noqa: E402
 from bsched_bridge.key_locks import Busy, KeyLocks  # noqa: E402
 from bsched_bridge.request_parts import RequestFault  # noqa: E402
 
@@ -98,7 +99,7 @@ def read(reader: Reader, shape: str) -> str:
     """Reads a request, and writes its call. Returns what came of it."""
     body = Body(shape)
     try:
-        request = Application._request(reader, {"CONTENT_LENGTH": str(body.length), "wsgi.input": body})
+        request = Application._request(reader, blocks_of({"wsgi.input": body}, body.length), body.length)
     except (RequestFault, Busy) as fault:
         return type(fault).__name__
     call_text(request, "c", 1, [], 0)

@@ -1,0 +1,94 @@
+"""A bsched that hangs: it takes connections and gives no answer."""
+import http.client
+import socket
+import threading
+import time
+
+import pytest
+import waitress
+from joining import wait_until
+from messages import request
+
+from bsched_bridge import scheduler
+from bsched_bridge.scheduler import Hung, NoAnswer, Scheduler
+from bsched_bridge.settings import Address
+
+
+@pytest.fixture
+def silent():
+    """A port that takes connections and answers none."""
+    with socket.create_server(("127.0.0.1", 0), backlog=100) as listener:
+        yield Address(*listener.getsockname())
+
+
+def seconds(action):
+    """Returns how long an action takes that gets no answer, and the fault."""
+    began = time.monotonic()
+    with pytest.raises(NoAnswer) as told:
+        action()
+    return time.monotonic() - began, told.type
+
+
+def test_after_a_time_out_messages_fail_at_once(silent):
+    asked = Scheduler(silent, 1)
+    took, fault = seconds(lambda: asked.call(b"{}"))
+    assert 1 <= took < 2 and fault is NoAnswer  # one attempt
+    for _ in range(20):
+        took, fault = seconds(lambda: asked.call(b"{}"))
+        assert took < 0.5 and fault is Hung
+    assert asked.silent_since is not None and asked.is_slow
+
+
+def test_one_message_shows_whether_there_are_answers_again(silent, twin, monkeypatch):
+    monkeypatch.setattr("bsched_bridge.scheduler.HUNG_SECONDS", 0.1)
+    asked = Scheduler(silent, 1)
+    seconds(lambda: asked.has_account("ann-key"))
+    time.sleep(0.2)
+    probe = threading.Thread(target=seconds, args=(lambda: asked.has_account("ann-key"),))
+    probe.start()
+    wait_until(lambda: asked._is_probed)
+    assert seconds(lambda: asked.has_account("ann-key"))[1] is Hung
+    probe.join()
+    time.sleep(0.2)
+    asked.address = twin.address
+    assert asked.has_account("ann-key") and asked.has_account("ann-key")
+    assert asked.silent_since is None and not asked.is_slow
+
+
+def test_a_bsched_that_is_not_there_is_asked_each_time(silent):
+    with socket.create_server(("127.0.0.1", 0)) as listener:
+        address = Address(*listener.getsockname())
+    asked = Scheduler(address, 1)
+    assert {seconds(lambda: asked.has_account("ann-key"))[1] for _ in range(3)} == {NoAnswer}
+    assert asked._began == {}
+
+
+def test_pages_and_files_are_answered_while_bsched_hangs(bridge, silent, monkeypatch):
+    monkeypatch.setattr(bridge.application.scheduler, "address", silent)
+    threads = bridge.application.settings.threads
+    server = waitress.create_server(bridge.application, host="127.0.0.1", port=0, threads=threads)
+    threading.Thread(target=server.run, daemon=True).start()
+    port = server.effective_port
+
+    def got(method, path, body=None):
+        connection = http.client.HTTPConnection("127.0.0.1", port, timeout=30)
+        connection.request(method, path, body)
+        told = connection.getresponse().read()
+        connection.close()
+        return told
+
+    callers = [
+        threading.Thread(target=got, args=("POST", "/p/cgi", request(cpid=f"c{number}"))) for number in range(24)
+    ]
+    for caller in callers:
+        caller.start()
+    wait_until(lambda: len(bridge.application.scheduler._began) == threads - 2)
+    began = time.monotonic()
+    assert b"How to join" in got("GET", "/p/") and got("GET", "/p/download/two.txt") == b"2\n"
+    took = time.monotonic() - began
+    for caller in callers:
+        caller.join()
+    server.close()
+    # without free threads it would take until the first time-out, and longer with more clients
+    assert took < bridge.application.scheduler.answer_seconds
+    assert scheduler.SLOW_SECONDS < 2
