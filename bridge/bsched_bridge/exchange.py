@@ -11,7 +11,6 @@ client that sends no list can't say what it lacks, so none of its jobs goes out 
 """
 import logging
 import threading
-from collections import Counter
 from collections.abc import Callable, Iterable
 from dataclasses import dataclass, replace
 
@@ -103,7 +102,8 @@ def not_taken(names: list[str]) -> str:
     )
 
 
-Found = tuple[Key, dict[str, Key]]  # the key of a client, and for each result the host that has it
+# the key of a client, or None if it is a new host under another key, and the host that has each result
+Found = tuple[Key | None, dict[str, Key]]
 
 
 class Exchange:
@@ -165,8 +165,8 @@ class Exchange:
         """Returns the reply to a client that has no number, one that the bridge does not know, or that of the
         host of which it is a copy.
 
-        A client without results is the host that its host_cpid names. One with results is the host that has
-        them. A copy is a new host, as in BOINC. Results that another host of the account has are reported for
+        A client is the host that its host_cpid names, unless another one has its results. Then it is a new
+        host, and so is a copy, as in BOINC. Results that another host of the account has are reported for
         that host. Results that no host is known to have are not reported. As long as there are any, the
         client is told no number, since with a number its reports would be acknowledged, and it gets no job.
         """
@@ -176,11 +176,17 @@ class Exchange:
         else:
             log.warning("a client of host %d is a copy, and gets a number of its own", request.hostid)
             found = self._host_of_copy(request, original)
-            client = ClientState(copy_of=request.hostid)
-            request = replace(request, work_req_seconds=0)  # the reply may be lost, and its jobs with it
         if isinstance(found, PutOff):
             return found
         key, holders = found
+        if key is None:
+            key = self.hosts.key_for_copy(request.authenticator, request.hostid)
+            client = ClientState(copy_of=request.hostid)
+            request = replace(request, work_req_seconds=0)  # the reply may be lost, and its jobs with it
+            if original is not None:
+                # Of results that the original does not have, bsched does not know that it gave them out, for
+                # example after a restore. Nobody can report them, so the copy forgets them, too.
+                holders = {name: holders.get(name, key) for name in names_of(request.results)}
         unheld = [name for name in names_of(request.results) if name not in holders]
         aside = self._reported_aside(request, holders, None if unheld else key)
         if isinstance(aside, PutOff):
@@ -221,22 +227,17 @@ class Exchange:
         return None if last is None else Answered(last)
 
     def _host_of_copy(self, request: ClientRequest, original: KnownHost) -> "Found | PutOff":
-        """Returns the key of a copy, and which host has each of its reported results.
-
-        Those that the original had when it was copied are the original's. If bsched does not know that it
-        gave them out, for example after a restore, nobody can report them. The copy may forget them then, as
-        the original may.
+        """Returns that a copy is a new host, and which host has each of its reported results. Those that the
+        original had when it was copied are the original's.
         """
         reported = names_of(request.results)
         if reported and self.search.operator_key is not None and not self._has_host(original.key):
             asked = self._called_aside(original.key, request, ())
             if isinstance(asked, PutOff):
                 return asked
-        key = self.hosts.key_for_copy(request.authenticator, request.hostid)
-        holders = self.search.holders(original.key, reported)
         if self.search.operator_key is None:
-            holders = dict.fromkeys(reported, original.key)
-        return key, {name: holders.get(name, key) for name in reported}
+            return None, dict.fromkeys(reported, original.key)
+        return None, self.search.holders(original.key, reported)
 
     def _host_of(self, request: ClientRequest) -> "Found | PutOff":
         """Returns the key of a client whose number is not known, and which host has each of its results, as
@@ -257,11 +258,13 @@ class Exchange:
             if isinstance(asked, PutOff):
                 return asked
             holders |= dict.fromkeys(self.search.held(key, reported - holders.keys()), key)
-        counted = Counter(holders.values())
-        most = max(counted.values(), default=0)
-        if counted[key] < most:
-            key = next(other for other in counted if counted[other] == most)
-        return key, holders
+        owners = set(holders.values())
+        if not owners or key in owners:
+            return key, holders
+        former = [owner for owner in owners if self.hosts.has_former_number(owner)]
+        if former:  # its host_cpid has changed, and it was told no number since the upgrade
+            return former[0], holders
+        return (key if self.hosts.scheduler_hostid(key) is None else None), holders
 
     def _has_host(self, key: Key) -> bool:
         """Returns whether bsched has a host under the number that the bridge knows."""

@@ -94,8 +94,8 @@ class Hosts:
         return None if row is None else KnownHost(Key(authenticator, cast(str, row[0])), cast(int, row[1]))
 
     def key_for_copy(self, authenticator: str, hostid: int) -> Key:
-        """Returns the key for a copy of a host. It is a new one, unless no client was told the number of an
-        earlier copy: then the call of that copy had no answer.
+        """Returns the key for a client that sends the number of another host, or an unknown one. It is a new
+        one, unless no client was told the number of an earlier such host: then its call had no answer.
         """
         row = self.file.row(
             "SELECT host_cpid FROM host WHERE authenticator = ? AND copy_of = ? AND hostid IS NULL",
@@ -110,6 +110,16 @@ class Hosts:
             key.authenticator, key.host_cpid,
         )
         return None if row is None else cast("int | None", row[0])
+
+    def has_former_number(self, key: Key) -> bool:
+        """Returns whether the client of a host was told a number by a bridge of an earlier version, and none
+        since.
+        """
+        row = self.file.row(
+            "SELECT has_former_number FROM host WHERE authenticator = ? AND host_cpid = ? AND hostid IS NULL",
+            key.authenticator, key.host_cpid,
+        )
+        return row == (1,)
 
     def latest_keys(self, authenticator: str, most: int) -> list[Key]:
         """Returns the keys of the account's hosts that had a reply, the latest reply first."""

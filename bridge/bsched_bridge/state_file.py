@@ -24,6 +24,7 @@ CREATE TABLE host (
   -- the client's rpc_seqno in its last request with that number; NULL before the first one
   client_seqno INTEGER,
   copy_of INTEGER,            -- the hostid of the computer of which the host is a copy
+  has_former_number INTEGER NOT NULL DEFAULT 0,  -- 1: a former version told a number, which is not known
   scheduler_hostid INTEGER,   -- bsched's number of the host in its tables, by the last reply
   last_number INTEGER NOT NULL,  -- the rpc_seqno of the last call
   open_call BLOB,             -- its bytes, where no answer came yet
@@ -90,9 +91,9 @@ DROP INDEX host_with_open_call;
 DROP INDEX host_heard;
 ALTER TABLE host RENAME TO host_of_version_2;
 """ + HOSTS + """
-INSERT INTO host (authenticator, host_cpid, scheduler_hostid, last_number, open_call, jobs_in_hand, user_name,
-    user_credit, host_credit, heard_at)
-  SELECT authenticator, host_cpid, hostid, last_number, open_call, jobs_in_hand, user_name, user_credit,
+INSERT INTO host (authenticator, host_cpid, has_former_number, scheduler_hostid, last_number, open_call,
+    jobs_in_hand, user_name, user_credit, host_credit, heard_at)
+  SELECT authenticator, host_cpid, 1, hostid, last_number, open_call, jobs_in_hand, user_name, user_credit,
     host_credit, heard_at FROM host_of_version_2;
 DROP TABLE host_of_version_2;
 """

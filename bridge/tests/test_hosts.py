@@ -128,13 +128,30 @@ def test_an_older_state_file_and_a_changed_host_cpid(two, twin, monkeypatch):
     two.start()
     reply = two.call(request(hostid=200_000, cpid="new", reports=[("u2_0", "42")], seconds=0))
     assert names(reply, "result_ack") == ["u2_0"] and recorded(twin, "u2_0") == "b"
-    assert value(reply, "hostid") == str(B)
-    assert len(twin.service.machine.hosts) == 2
+    assert value(reply, "hostid") == str(FIRST + 2)  # a new host
+    assert len(twin.service.machine.hosts) == 3
 
 
-def test_a_client_that_lists_a_job_is_the_host_that_has_it(two, twin, monkeypatch):
-    reply = two.call(request(hostid=77, cpid="new", listed=["u2_0"], seconds=0))
-    assert value(reply, "hostid") == str(B) and names(reply, "result_abort") == []
+def test_a_client_of_an_unknown_number_gets_no_jobs_of_another(two, twin):
+    """Its results say that it is another computer than its host_cpid says, as after a restore of the tables."""
+    reply = two.call(request(hostid=77, cpid="a", listed=["u2_0"]))
+    assert value(reply, "hostid") == str(FIRST + 2)
+    assert names(reply, "result_abort") == ["u2_0"] and jobs(reply) == []
+    reply = two.call(request(hostid=78, cpid="a", reports=[("u2_0", "42")]))
+    assert names(reply, "result_ack") == ["u2_0"] and recorded(twin, "u2_0") == "b" and jobs(reply) == []
+    assert value(reply, "hostid") == str(FIRST + 3)
+    # a client with results of its own host is that host
+    reply = two.call(request(hostid=79, cpid="a", listed=["u1_0"], reports=[("u2_0", "42")], seconds=0))
+    assert value(reply, "hostid") == str(A) and names(reply, "result_ack") == ["u2_0"]
+
+
+def test_a_client_of_an_upgraded_bridge_with_another_host_cpid(two, twin):
+    with two.file.transaction() as connection:
+        connection.execute("UPDATE host SET hostid = NULL, client_seqno = NULL, has_former_number = 1")
+    reply = two.call(request(hostid=1, cpid="new", seqno=9, listed=["u2_0"], seconds=0))
+    assert value(reply, "hostid") == str(FIRST + 2) and names(reply, "result_abort") == []
+    reply = two.call(request(hostid=FIRST + 2, cpid="newer", seqno=1, reports=[("u2_0", "42")], seconds=0))
+    assert names(reply, "result_ack") == ["u2_0"] and recorded(twin, "u2_0") == "b"
     assert len(twin.service.machine.hosts) == 2
 
 
