@@ -39,6 +39,20 @@ def test_credit_is_summed_over_archives(tmp_path):
     assert read_archives([]) == Archives()
 
 
+def test_an_archive_that_is_named_twice(tmp_path):
+    first = archive(tmp_path / "1.db", {("k1", "a"): 1000})
+    connection = sqlite3.connect(first)
+    columns = "unit_id, num, host_id, sent, lapse, queued"
+    connection.execute(f"INSERT INTO instance ({columns}) VALUES (1, 0, 1, 1000, 0, 0)")
+    connection.commit()
+    connection.close()
+    (tmp_path / "link.db").symlink_to(first)
+    (tmp_path / "copy.db").write_bytes(first.read_bytes())
+    for name in ("1.db", "link.db", "copy.db"):
+        with pytest.raises(OperatorFault, match=f"{name}: has the same tables as .*1.db: name one of them"):
+            read_archives([first, tmp_path / name])
+
+
 def test_a_file_that_is_no_archive(tmp_path):
     path = tmp_path / "1.db"
     for told in (b"", b"text" * 1000):

@@ -1,7 +1,7 @@
 """Whose host a client is: numbers that clients were told, changed host_cpids, copies, and lost state files."""
 import pytest
-from lives import further_file
 from messages import FIRST, jobs, names, request, value
+from random_lives import further_file
 
 from bsched_bridge.host_search import MOST_SEARCHES
 from bsched_bridge.hosts import FIRST_SECOND, LAST_BY_CLOCK, Hosts, Key

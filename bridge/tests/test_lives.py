@@ -7,8 +7,8 @@ import threading
 import time
 
 import pytest
-from lives import LIFE_SETTINGS, Life, SimulatedClock, life_twin
 from messages import jobs, names, request, value
+from random_lives import LIFE_SETTINGS, Life, SimulatedClock, life_twin
 
 from trial.programs import Bridge
 

@@ -8,7 +8,7 @@ from pathlib import Path
 
 from .faults import Fault
 from .schemas import SCHEMA_NUMBER
-from .tables import COPY_NAME, Tables, copies_in, moment_of, opened
+from .tables import COPY_NAME, Tables, all_opened, copies_in, moment_of, opened
 
 DAY = 86400
 STATUSES = {0: "open", 1: "done", 2: "failed by errors", 3: "failed by successes", 4: "failed by the total"}
@@ -141,7 +141,7 @@ def counted(paths: Iterable[Path]) -> Counts:
     """Returns the counts over files of tables."""
     counts = Counts(workunits=Counter(dict.fromkeys(STATUSES.values(), 0)))
     with ExitStack() as stack:
-        all_tables = [stack.enter_context(opened(path)) for path in paths]
+        all_tables = stack.enter_context(all_opened(paths))
         counts.moment = max(tables.moment for tables in all_tables)
         for tables in all_tables:
             count_rows(tables, counts)

@@ -6,6 +6,7 @@ For other workunits it has the place of the last result that was given out.
 import fcntl
 import hashlib
 import json
+import sys
 from collections.abc import Iterator
 from contextlib import contextmanager
 from dataclasses import dataclass, field
@@ -14,9 +15,9 @@ from typing import Any
 
 from .faults import Fault
 from .files import replace_file
-from .tables import Tables
+from .tables import Tables, project_mark
 
-FORMAT = 1
+FORMAT, FORMER = 2, 1
 
 
 @dataclass(slots=True)
@@ -25,6 +26,8 @@ class Given:
 
     closed: set[int] = field(default_factory=set)
     places: dict[int, int] = field(default_factory=dict)
+    printed: int = 0  # workunits with new results in this run
+    left_out: int = 0  # decided workunits of which all results were given out before
 
 
 def ranges_of(numbers: set[int]) -> list[list[int]]:
@@ -43,14 +46,21 @@ def numbers_of(ranges: list[list[int]]) -> set[int]:
     return {number for first, last in ranges for number in range(first, last + 1)}
 
 
-def project_mark(tables: Tables) -> str:
-    """Returns what distinguishes tables from those of other projects and stays the same while a project
-    lives. It is made of the first workunit and the settings without the operator's key."""
+def former_mark(tables: Tables) -> str:
+    """Returns the mark that cursors of format 1 have. A project that is made anew from the same files has the
+    same one."""
     unit = next(tables.rows("SELECT * FROM unit WHERE id = 1"), None)
     left_out = ("schema", "operator_key")
     settings = sorted(item for item in tables.settings.items() if item[0] not in left_out)
     said = json.dumps([settings, unit[:-1] if unit else None])
     return hashlib.sha256(said.encode()).hexdigest()[:32]
+
+
+def written(projects: dict[str, Given]) -> dict[str, object]:
+    """Returns what was given out as the file has it."""
+    return {
+        mark: {"closed": ranges_of(given.closed), "places": given.places} for mark, given in projects.items()
+    }
 
 
 class Cursor:
@@ -59,6 +69,7 @@ class Cursor:
     def __init__(self, path: Path) -> None:
         self.path = path
         self.projects: dict[str, Given] = {}
+        self.former: dict[str, Given] = {}  # those of a cursor of format 1, by their former marks
         if path.exists():
             self._read()
 
@@ -66,27 +77,42 @@ class Cursor:
         """Reads the file."""
         try:
             told: dict[str, Any] = json.loads(self.path.read_text())
-            if told["format"] != FORMAT:
+            if told["format"] not in (FORMAT, FORMER):
                 raise ValueError
+            given = self.projects if told["format"] == FORMAT else self.former
             for mark, said in told["given"].items():
                 places = {int(unit): int(place) for unit, place in said["places"].items()}
-                self.projects[mark] = Given(numbers_of(said["closed"]), places)
+                given[mark] = Given(numbers_of(said["closed"]), places)
+            for mark, said in told.get("former", {}).items():
+                places = {int(unit): int(place) for unit, place in said["places"].items()}
+                self.former[mark] = Given(numbers_of(said["closed"]), places)
         except OSError as error:
             raise Fault(f"{self.path}: {error.strerror}") from None
         except (ValueError, KeyError, TypeError, AttributeError):
             raise Fault(f"{self.path}: it is not a cursor: name another file, or a new one") from None
 
     def given(self, tables: Tables) -> Given:
-        """Returns what was given out from some tables."""
-        return self.projects.setdefault(project_mark(tables), Given())
+        """Returns what was given out from some tables. The first tables that fit a former mark have what a
+        cursor of format 1 says."""
+        mark = project_mark(tables)
+        if mark not in self.projects:
+            self.projects[mark] = self.former.pop(former_mark(tables), Given())
+        return self.projects[mark]
 
     def write(self) -> None:
         """Writes the file, whole or not at all."""
-        told = {
-            mark: {"closed": ranges_of(given.closed), "places": given.places}
-            for mark, given in self.projects.items()
-        }
-        replace_file(self.path, [json.dumps({"format": FORMAT, "given": told}).encode()])
+        told = {"format": FORMAT, "given": written(self.projects), "former": written(self.former)}
+        replace_file(self.path, [json.dumps(told).encode()])
+
+    def tell(self) -> None:
+        """Says on standard error why a run printed nothing, if it left results out."""
+        given = self.projects.values()
+        left_out = sum(one.left_out for one in given)
+        if left_out and not any(one.printed for one in given):
+            print(
+                f"bsched-tools: nothing is new: {self.path} says that the results of all {left_out} decided "
+                "workunits were given out before", file=sys.stderr,
+            )
 
 
 @contextmanager

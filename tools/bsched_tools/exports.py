@@ -13,7 +13,7 @@ from .copies import turn
 from .faults import Fault
 from .files import replace_file
 from .members import Host, User, users_of
-from .tables import opened
+from .tables import all_opened
 
 TURN_SECONDS = 60.0
 # the characters that XML 1.0 does not allow
@@ -140,7 +140,7 @@ def export(
     if not folder.is_dir():
         raise Fault(f"{folder}: no such folder: make it first")
     with ExitStack() as stack:
-        all_tables = [stack.enter_context(opened(path, names=names)) for path in paths]
+        all_tables = stack.enter_context(all_opened(paths, names))
         stack.enter_context(turn(folder, TURN_SECONDS))
         averages = Averages(averages_file or state_of(folder))
         moment = max(tables.moment for tables in all_tables)

@@ -14,7 +14,7 @@ from typing import TextIO
 from .cursors import Cursor, Given, cursor_at
 from .faults import Fault
 from .files import replace_file, sync
-from .tables import Tables, opened
+from .tables import Tables, all_opened
 from .uploaded import UploadedFile, Uploads, place, uploads_in
 from .workunits import Result, Workunit, decided
 
@@ -87,6 +87,7 @@ def lines_of(tables: Tables, after: int, given: Given | None) -> Iterator[Line]:
             yield Line(unit, False)
             continue
         if unit.id in given.closed:
+            given.left_out += 1
             continue
         last = given.places.pop(unit.id, None)
         fresh = tuple(one for one in unit.results if last is None or one.place > last)
@@ -95,7 +96,10 @@ def lines_of(tables: Tables, after: int, given: Given | None) -> Iterator[Line]:
         else:
             given.places[unit.id] = max([last or 0, *(one.place for one in fresh)])
         if fresh or last is None:
+            given.printed += 1
             yield Line(replace(unit, results=fresh), last is not None)
+        else:
+            given.left_out += 1
 
 
 def places_after(all_tables: list[Tables], name: str) -> dict[Path, int]:
@@ -175,7 +179,7 @@ def write_results(
             raise Fault(f"{target}: it exists: process what it has, and remove it")
         if files_to is not None and not files_to.is_dir():
             raise Fault(f"{files_to}: it is not a folder: make it first")
-        all_tables = [stack.enter_context(opened(path, names=names)) for path in paths]
+        all_tables = stack.enter_context(all_opened(paths, names))
         opened_uploads = stack.enter_context(uploads_in(uploads)) if uploads is not None else None
         parts = texts(all_tables, Output(as_lines, opened_uploads, files_to), after, kept)
         if target is not None:
@@ -188,3 +192,4 @@ def write_results(
             sync(files_to)
         if kept is not None:
             kept.write()
+            kept.tell()

@@ -1,9 +1,11 @@
 """The tables in a copy, opened read-only. `docs/STORED.md` has their columns."""
+import hashlib
+import json
 import os
 import re
 import sqlite3
-from collections.abc import Iterator, Mapping
-from contextlib import closing, contextmanager
+from collections.abc import Iterable, Iterator, Mapping
+from contextlib import ExitStack, closing, contextmanager
 from dataclasses import dataclass, field
 from datetime import datetime, timezone
 from pathlib import Path
@@ -20,6 +22,12 @@ MOMENT = "%Y%m%dT%H%M%S.%fZ"
 BUSY_SECONDS = 1.0
 TAKE_ANOTHER = ": take another copy"
 EMPTY = "it has no tables: a log (-wal) that has them is missing, or nothing was stored yet"
+FIRST_HOST = "SELECT auth, cpid FROM host JOIN account ON account.id = account_id WHERE host.id = 1"
+# by the index of each host's jobs, so it takes no time with many jobs
+FIRST_SENT = (
+    "SELECT min(first) FROM "
+    "(SELECT (SELECT min(sent) FROM instance WHERE host_id = host.id) AS first FROM host)"
+)
 
 
 @dataclass(slots=True)
@@ -171,3 +179,34 @@ def opened(
             raise Fault(f"{path}: {fault}")
         settings = dict(connection.execute("SELECT name, value FROM setting"))
         yield Tables(path, connection, moment_of(path), settings)
+
+
+def project_mark(tables: Tables) -> str:
+    """Returns what distinguishes tables from all others and stays the same while a project lives.
+
+    It is made of the settings without the operator's key, the first workunit, the first host, and the moment
+    at which the first job was sent. A project that is made anew from the same files has another such moment.
+    Before that moment the tables have no results.
+    """
+    left_out = ("schema", "operator_key")
+    settings = sorted(item for item in tables.settings.items() if item[0] not in left_out)
+    unit = next(tables.rows("SELECT * FROM unit WHERE id = 1"), None)
+    host = next(tables.rows(FIRST_HOST), None)
+    said = json.dumps([settings, unit[:-1] if unit else None, host, tables.number(FIRST_SENT)])
+    return hashlib.sha256(said.encode()).hexdigest()[:32]
+
+
+@contextmanager
+def all_opened(paths: Iterable[Path], names: Mapping[str, str] | None = None) -> Iterator[list[Tables]]:
+    """Yields the tables of several copies, which must be of different files. Rows of a file that is named
+    twice, or by two copies, would count twice."""
+    with ExitStack() as stack:
+        all_tables = [stack.enter_context(opened(path, names=names)) for path in paths]
+        files: dict[object, Path] = {}
+        for tables in all_tables:
+            status = tables.path.stat()
+            for sign in ((status.st_dev, status.st_ino), project_mark(tables)):
+                if sign in files:
+                    raise Fault(f"{tables.path}: it has the same tables as {files[sign]}: name one of them")
+            files |= {(status.st_dev, status.st_ino): tables.path, project_mark(tables): tables.path}
+        yield all_tables

@@ -38,6 +38,15 @@ def make_tables(path: Path, units: int = 20, users: int = 4, settings: dict[str,
     return path
 
 
+def made_anew(path: Path) -> Path:
+    """Changes a copy as if the project had been made anew from the same files: all jobs went out later."""
+    connection = sqlite3.connect(path)
+    connection.execute("UPDATE instance SET sent = sent + 1, deadline = deadline + 1 WHERE sent IS NOT NULL")
+    connection.commit()
+    connection.close()
+    return path
+
+
 def request(user: int, seqno: int, host: str = "h", **more: Any) -> bytes:
     """Returns the body of a call."""
     return json.dumps({

@@ -9,7 +9,7 @@ import plain_tables
 import pytest
 from hypothesis import given, settings, strategies
 from lives import Stored, life_of, stored_life
-from small_project import Twin, make_tables, rows_of, tools
+from small_project import Twin, made_anew, make_tables, rows_of, tools
 
 from bsched_tools import copying, counts
 
@@ -112,7 +112,7 @@ def test_several_files_have_each_user_and_host_once(tmp_path: Path) -> None:
     first = Stored(tmp_path / "1.db")
     first.answer(life_of(5).lines)
     second = tmp_path / "2.db"
-    first.copy(second)
+    made_anew(first.copy(second))
     first = first.close()
     alone, both = counts.counted([first]), counts.counted([first, second])
     assert both.people == alone.people

@@ -2,17 +2,20 @@
 import csv
 import io
 import json
+import sqlite3
 from pathlib import Path
 from typing import Any
 
 import pytest
 from hypothesis import given, settings, strategies
 from lives import Stored, decided_by, life_of, stored_life
-from small_project import TOOLS, WORKUNITS, tools
+from small_project import TOOLS, WORKUNITS, made_anew, tools
 from small_project import rows_of as stored_rows
 
 from bsched_tools import results, tables, workunits
+from bsched_tools.cursors import cursor_at, former_mark
 from bsched_tools.faults import Fault
+from bsched_tools.tables import opened
 
 NOW, NEXT = "1970-01-01T00:16:40Z", "\n"
 REASONS = {"errors": "errors", "success": "successes", "total": "total"}
@@ -194,6 +197,70 @@ def test_several_files(tmp_path: Path) -> None:
     assert rows_of(second, first, cursor=cursor) == []
 
 
+@pytest.mark.parametrize("kind", ["file", "link", "copy"])
+@pytest.mark.parametrize("order", ["results", "counts", "statistics"])
+def test_tables_that_are_named_twice_are_refused(tmp_path: Path, kind: str, order: str) -> None:
+    first = stored_life(life_of(3), tmp_path / "2025.db")
+    second = {"file": first, "link": tmp_path / "link.db", "copy": tmp_path / "copy.db"}[kind]
+    if kind == "link":
+        second.symlink_to(first)
+    if kind == "copy":
+        second.write_bytes(first.read_bytes())
+    (tmp_path / "out").mkdir()
+    target = ["--to", tmp_path / "out", "--everybody"] if order == "statistics" else []
+    status, told, fault = tools(order, "--tables", first, second, *target)
+    assert (status, told) == (1, "")
+    assert fault == f"bsched-tools: {second}: it has the same tables as {first}: name one of them\n"
+
+
+def test_a_cursor_swallows_no_results_of_a_project_that_is_made_anew(tmp_path: Path) -> None:
+    first = stored_life(life_of(3), tmp_path / "2025.db")
+    cursor = tmp_path / "cursor"
+    alone = rows_of(first, cursor=cursor)
+    second = tmp_path / "2026.db"
+    second.write_bytes(first.read_bytes())
+    assert rows_of(second, cursor=cursor) == []  # a copy of the same project
+    assert rows_of(made_anew(second), cursor=cursor) == alone != []
+    assert rows_of(first, cursor=cursor) == [] == rows_of(second, cursor=cursor)
+
+
+def test_another_operators_key_keeps_the_cursor(tmp_path: Path) -> None:
+    path = stored_life(life_of(3), tmp_path / "project.db")
+    cursor = tmp_path / "cursor"
+    assert rows_of(path, cursor=cursor) != []
+    connection = sqlite3.connect(path)
+    connection.execute("UPDATE setting SET value = 'another-key' WHERE name = 'operator_key'")
+    connection.commit()
+    connection.close()
+    assert rows_of(path, cursor=cursor) == []
+
+
+def test_a_cursor_of_format_1_is_kept(tmp_path: Path) -> None:
+    path = stored_life(life_of(3), tmp_path / "project.db")
+    cursor = tmp_path / "cursor"
+    assert rows_of(path, cursor=cursor) != []
+    told = json.loads(cursor.read_text())
+    with opened(path) as tables:
+        former = {former_mark(tables): said for said in told["given"].values()}
+    other = stored_life(life_of(4), tmp_path / "other.db")
+    cursor.write_text(json.dumps({"format": 1, "given": former}))
+    assert rows_of(other, cursor=cursor) != []  # what is not used yet stays
+    assert rows_of(path, cursor=cursor) == []
+    copy = tmp_path / "copy.db"
+    copy.write_bytes(path.read_bytes())
+    assert rows_of(made_anew(copy), cursor=cursor) != []  # it counts for one project only
+
+
+def test_one_run_at_a_time_has_a_cursor(tmp_path: Path) -> None:
+    path = stored_life(life_of(3), tmp_path / "project.db")
+    cursor = tmp_path / "cursor"
+    with cursor_at(cursor):
+        with pytest.raises(Fault, match="another run has this cursor"):
+            rows_of(path, cursor=cursor)
+        assert tools("results", "--tables", path, "--cursor", cursor)[0] == 1
+    assert rows_of(path, cursor=cursor) != []
+
+
 def test_a_cursor_is_written_only_after_the_output(tmp_path: Path) -> None:
     path = stored_life(life_of(3), tmp_path / "project.db")
     cursor = tmp_path / "cursor"
@@ -244,7 +311,7 @@ def test_a_stop_before_the_cursor_is_written(tmp_path: Path, monkeypatch: pytest
 def test_what_is_no_cursor(tmp_path: Path) -> None:
     path = stored_life(life_of(3, calls=50), tmp_path / "project.db")
     cursor = tmp_path / "cursor"
-    for text in ("", "[]", "{}", '{"format": 2, "given": {}}', '{"format": 1, "given": {"x": 1}}'):
+    for text in ("", "[]", "{}", '{"format": 3, "given": {}}', '{"format": 1, "given": {"x": 1}}'):
         cursor.write_text(text)
         with pytest.raises(Fault, match="it is not a cursor"):
             rows_of(path, cursor=cursor)
@@ -258,6 +325,11 @@ def test_the_command_line(tmp_path: Path) -> None:
     assert list(csv.DictReader(io.StringIO(told))) == rows_of(path)
     status, told, fault = tools("results", "--tables", path, "--json", "--cursor", tmp_path / "cursor")
     assert (status, fault) == (0, "") and len(told.splitlines()) == len(lines_of(path))
-    assert tools("results", "--tables", path, "--json", "--cursor", tmp_path / "cursor") == (0, "", "")
+    status, told, said = tools("results", "--tables", path, "--json", "--cursor", tmp_path / "cursor")
+    decided = len(lines_of(path))
+    assert (status, told) == (0, "") and said == (
+        f"bsched-tools: nothing is new: {tmp_path / 'cursor'} says that the results of all {decided} decided "
+        "workunits were given out before\n"
+    )
     assert tools("results", "--tables", path, "--cursor", "x", "--after", "y")[0] == 64
     assert tools("results")[0] == 64

@@ -10,7 +10,7 @@ from xml.etree import ElementTree
 import plain_tables
 import pytest
 from lives import Stored, life_of, stored_life
-from small_project import SETTINGS, make_tables, tools
+from small_project import SETTINGS, made_anew, make_tables, tools
 
 from bsched_tools import averages, exports, files
 from bsched_tools.faults import Fault
@@ -112,7 +112,7 @@ def test_nobody_is_named_who_did_not_agree(tmp_path: Path, folder: Path) -> None
 def test_several_files_are_summed_by_authenticator(tmp_path: Path, folder: Path) -> None:
     first = Stored(tmp_path / "2025.db")
     first.answer(life_of(11).lines)
-    second = first.copy(tmp_path / "2026.db")
+    second = made_anew(first.copy(tmp_path / "2026.db"))
     first = first.close()
     exports.export([first], folder, None)
     alone = {user["id"]: float(user["total_credit"]) for user in read(folder, "user.gz")}
