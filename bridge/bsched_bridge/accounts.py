@@ -9,6 +9,7 @@ import logging
 import re
 import secrets
 import time
+import unicodedata
 from collections.abc import Iterator
 from contextlib import contextmanager
 from dataclasses import dataclass
@@ -92,8 +93,11 @@ def is_email(email: str) -> bool:
 
 
 def clean_name(name: str) -> str:
-    """Returns a name in the form that bsched accepts, on one line. It may be empty."""
-    return cut_to_bytes(NO_NAME.sub(" ", name).strip(), MOST_NAME).strip()
+    """Returns a name in the form that bsched accepts, on one line. It may be empty. Characters that can't be
+    seen, or that turn the text around them, are left out (category Cf of Unicode).
+    """
+    seen = "".join(one for one in name if unicodedata.category(one) != "Cf")
+    return cut_to_bytes(NO_NAME.sub(" ", seen).strip(), MOST_NAME).strip()
 
 
 def made_name() -> str:

@@ -189,10 +189,10 @@ class Hosts:
 
     def user_credits(self) -> list[tuple[str, int]]:
         """Returns each account that has had a reply, with its credit from the latest reply to one of its
-        hosts.
+        hosts. A reply of which the clock said that it was in the future is older than all others.
         """
         rows = self.file.rows(
-            "SELECT authenticator, user_credit, max(heard_at) FROM host WHERE scheduler_hostid IS NOT NULL "
-            "GROUP BY authenticator"
+            "SELECT authenticator, user_credit, max(CASE WHEN heard_at <= ? THEN heard_at ELSE 0 END) "
+            "FROM host WHERE scheduler_hostid IS NOT NULL GROUP BY authenticator", int(time.time()),
         )
         return [(cast(str, row[0]), cast(int, row[1])) for row in rows]

@@ -20,8 +20,8 @@ INSERT = (
     "INSERT INTO member (authenticator, email, salt, secret, cost, name, batch, cpid, consent_at, "
     "created_at, is_imported) VALUES (?, ?, ?, ?, ?, ?, ?, ?, ?, ?, 0)"
 )
-# rows of the operator's accounts have no batch
-MADE_SINCE = "SELECT count(*) FROM member WHERE batch IS NOT NULL AND created_at > ?"
+# Rows of the operator's accounts have no batch. Accounts that a clock made which was ahead don't count later.
+MADE_BETWEEN = "SELECT count(*) FROM member WHERE batch IS NOT NULL AND created_at > ? AND created_at <= ?"
 DAY = 86400
 ROWS_AT_ONCE = 1000
 
@@ -155,7 +155,7 @@ class Members:
         """Returns whether the limit of new accounts in 24 hours is reached. The operator's accounts don't
         count.
         """
-        row = self.file.row(MADE_SINCE, now - DAY)
+        row = self.file.row(MADE_BETWEEN, now - DAY, now)
         return row is not None and cast(int, row[0]) >= most_a_day
 
     def insert(
@@ -190,7 +190,7 @@ class Members:
             now,
         )
         with self.file.transaction() as connection:
-            if connection.execute(MADE_SINCE, (now - DAY,)).fetchone()[0] >= most_a_day:
+            if connection.execute(MADE_BETWEEN, (now - DAY, now)).fetchone()[0] >= most_a_day:
                 raise DayIsFull
             cursor = connection.execute(INSERT, values)
         return replace(member, id=cast(int, cursor.lastrowid))

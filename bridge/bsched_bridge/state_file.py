@@ -103,6 +103,9 @@ UPGRADES = {1: MEMBERS + HEARD_MEMBERS, 2: HOSTS_OF_VERSION_2 + NUMBERS, 3: BARR
 BUSY_SECONDS = 10.0  # for a transaction of another process
 
 
+SPOILED = "it is spoiled or no state file: see bridge/README.md, \"The state file\""
+
+
 class StateFault(Exception):
     """Raised if the state file can't be used."""
 
@@ -157,12 +160,17 @@ class StateFile:
             if is_guest:
                 check_version(self._connection)
             else:
+                check(self._connection)
                 with self.transaction() as connection:
                     prepare(connection)
-        except (sqlite3.Error, StateFault) as fault:
+        except StateFault as fault:
             self.close()
-            advice = "; no other bridge may have it" if isinstance(fault, sqlite3.Error) else ""
-            raise StateFault(f"{path}: {fault}{advice}") from None
+            raise StateFault(f"{path}: {fault}") from None
+        except sqlite3.Error as error:
+            self.close()
+            is_busy = isinstance(error, sqlite3.OperationalError)
+            advice = "no other bridge may have it" if is_busy else SPOILED
+            raise StateFault(f"{path}: {error}; {advice}") from None
 
     def _release(self) -> None:
         """Gives up the lock of a bridge."""
@@ -230,6 +238,15 @@ def check_version(connection: sqlite3.Connection) -> None:
         raise StateFault("is not the state file of a bridge")
     if version != SCHEMA_VERSION:
         raise StateFault(f"has format {version}, and this command knows {SCHEMA_VERSION}: restart the bridge")
+
+
+def check(connection: sqlite3.Connection) -> None:
+    """Raises StateFault if a page of the file is spoiled. Without this, calls that need the page would fail
+    for good, and nothing would say so at the start.
+    """
+    found = connection.execute("PRAGMA quick_check(1)").fetchone()[0]
+    if found != "ok":
+        raise StateFault(f"{str(found).strip().splitlines()[-1]}; {SPOILED}")
 
 
 def prepare(connection: sqlite3.Connection) -> None:

@@ -12,7 +12,7 @@ import threading
 import time
 
 import pytest
-from conftest import ACCOUNTS, BRIDGE, Bridge
+from bridges import ACCOUNTS, BRIDGE, Bridge
 from joining import Stopped, Stops, account_query, create, look_up, made_accounts, rows, told, works
 from twin import Twin
 

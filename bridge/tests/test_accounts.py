@@ -165,6 +165,8 @@ def test_a_creation_is_for_no_head_and_no_browser(open_bridge, twin):
         ("x" * 63 + " y", "x" * 63),
         ('"', '"'),
         ("<b>", "<b>"),
+        ("\u200b\ufeff", ""),
+        ("An\u202en", "Ann"),
     ],
 )
 def test_names(sent, name):
@@ -228,6 +230,14 @@ def test_creations_that_say_that_an_address_is_free_are_counted(project, open_br
     answers = [create(open_bridge, f"u{number}@sums.example") for number in range(12)]
     assert answers == [-242] * 10 + [-183] * 2
     assert isinstance(create(open_bridge, client="192.0.2.1", consent_flag="1"), str)
+
+
+def test_a_clock_that_was_ahead_stops_no_accounts(open_bridge, monkeypatch):
+    monkeypatch.setattr("bsched_bridge.accounts.time.time", lambda: 4e9)
+    for number in range(50):
+        assert isinstance(create(open_bridge, f"u{number}@sums.example", client=f"192.0.2.{number}"), str)
+    monkeypatch.undo()
+    assert isinstance(create(open_bridge, client="198.51.100.9"), str)
 
 
 def test_addresses_of_one_network_are_one(open_bridge):

@@ -121,7 +121,7 @@ def test_bsched_that_is_not_there(bridge, twin):
 @pytest.mark.parametrize("resend", [True, False])
 @pytest.mark.parametrize("listed", [(), None])
 def test_jobs_of_an_answer_that_came_too_late_are_kept(project, monkeypatch, resend, listed):
-    from conftest import Bridge
+    from bridges import Bridge
 
     monkeypatch.setattr("bsched_bridge.scheduler.PAUSE_SECONDS", 0.0)
     twin = Twin(resend_lost_results=resend)
@@ -141,7 +141,7 @@ def test_jobs_of_an_answer_that_came_too_late_are_kept(project, monkeypatch, res
 
 @pytest.mark.parametrize("is_restarted", [True, False])
 def test_jobs_of_a_reply_that_the_client_lost_go_out_once_more(project, monkeypatch, is_restarted):
-    from conftest import Bridge
+    from bridges import Bridge
 
     twin = Twin(resend_lost_results=False)
     bridge = Bridge(project, twin)

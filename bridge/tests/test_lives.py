@@ -127,7 +127,7 @@ def test_a_life_of_a_client_that_lists_nothing(bridge, twin, seed):
 @pytest.mark.parametrize("seed", range(4))
 def test_each_acknowledged_report_is_recorded_and_no_job_is_given_twice(project, monkeypatch, seed):
     """bridge/try_lives has many more steps."""
-    from conftest import Bridge
+    from bridges import Bridge
 
     clock, twin = SimulatedClock(), life_twin()
     clock.replaces(monkeypatch.setattr)

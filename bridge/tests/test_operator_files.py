@@ -5,7 +5,7 @@ import subprocess
 import sys
 
 import pytest
-from conftest import BRIDGE
+from bridges import BRIDGE
 
 from bsched_bridge.catalogue import read_catalogue
 from bsched_bridge.code_signing import new_key, signature_text

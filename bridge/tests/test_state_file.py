@@ -84,6 +84,29 @@ def test_one_bridge_has_the_file(tmp_path):
     file.close()
 
 
+def test_a_spoiled_file_is_told_at_the_start(tmp_path):
+    path = tmp_path / "state.db"
+    file = StateFile(path)
+    numbers = CallNumbers(file)
+    for number in range(60):
+        numbers.opened(Key("ann-key", f"c{number}"), lambda number: b"x" * 2000)
+    file.close()
+    good = path.read_bytes()
+    size = int.from_bytes(good[16:18], "big")
+    told = []
+    for page in range(1, len(good) // size):
+        path.write_bytes(good[: page * size] + bytes(size) + good[(page + 1) * size:])
+        try:
+            StateFile(path).close()
+        except StateFault as fault:
+            told.append(str(fault))
+    # pages that only have parts of calls may look good
+    assert len(told) > 20 and all("it is spoiled or no state file: see bridge/README.md" in one for one in told)
+    assert not any("no other bridge" in one for one in told)
+    path.write_bytes(good)
+    StateFile(path).close()
+
+
 def test_only_the_owner_can_read_a_new_file(tmp_path):
     mask = os.umask(0)
     try:

@@ -1,6 +1,6 @@
 """A bridge that is stopped while it receives files and reports: no file of an acknowledged report is lost."""
 import pytest
-from conftest import Bridge
+from bridges import Bridge
 from messages import FIRST, jobs, names, request
 from stopping import Steps, Stopped
 from twin import Twin

@@ -285,7 +285,7 @@ def test_a_disk_with_too_little_room(file_bridge, monkeypatch):
 
 @pytest.mark.skipif(os.geteuid() != 0, reason="only root can mount a small disk")
 def test_a_full_disk_refuses_for_a_while_and_loses_nothing(file_project, twin, monkeypatch):
-    from conftest import Bridge
+    from bridges import Bridge
 
     disk = file_project / "uploads"
     disk.mkdir()

@@ -75,13 +75,26 @@ def place(taken: Taken, source: Source, target: Path) -> None:
     for path in (target, *beside(target)):
         if path.exists():
             raise Fault(f"{path}: it exists, and a copy is never written over another: name a new file")
-    owner = source.path.stat()
-    with suppress(PermissionError):
-        os.chown(taken.path, owner.st_uid, owner.st_gid)
-    os.utime(taken.path, (taken.moment, taken.moment))
+    give_to(taken.path, source.path.stat())
+    os.utime(taken.path, (taken.moment, taken.moment), follow_symlinks=False)
     sync(taken.path)
     os.rename(taken.path, target)
     sync(target.parent)
+
+
+def give_to(path: Path, owner: os.stat_result) -> None:
+    """Gives a file that this process made to the owner of another one. The folder may belong to that owner,
+    who could have put a link in the file's place: a link is not followed, and a file of somebody else stays.
+    """
+    file = os.open(path, os.O_RDONLY | os.O_NOFOLLOW)
+    try:
+        status = os.fstat(file)
+        if status.st_uid != os.geteuid() or status.st_nlink != 1:
+            raise Fault(f"{path}: somebody else put this file there: take the copy in another folder")
+        with suppress(PermissionError):
+            os.fchown(file, owner.st_uid, owner.st_gid)
+    finally:
+        os.close(file)
 
 
 def project_of(path: Path) -> tuple[frozenset[object], frozenset[object]]:

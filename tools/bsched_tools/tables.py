@@ -4,6 +4,8 @@ import json
 import os
 import re
 import sqlite3
+import sys
+import time
 from collections.abc import Iterable, Iterator, Mapping
 from contextlib import ExitStack, closing, contextmanager
 from dataclasses import dataclass, field
@@ -20,6 +22,7 @@ HEAD = b"SQLite format 3\0"
 COPY_NAME = re.compile(r"(?P<stem>.+)-(?P<moment>\d{8}T\d{6}\.\d{3}Z)\.db")
 MOMENT = "%Y%m%dT%H%M%S.%fZ"
 BUSY_SECONDS = 1.0
+CLOCK_SECONDS = 60  # clocks of two machines may differ by so much
 TAKE_ANOTHER = ": take another copy"
 EMPTY = "it has no tables: a log (-wal) that has them is missing, or nothing was stored yet"
 FIRST_HOST = "SELECT auth, cpid FROM host JOIN account ON account.id = account_id WHERE host.id = 1"
@@ -94,6 +97,11 @@ def found_copy(path: Path) -> Path:
     stems = {match["stem"] for copy in copies if (match := COPY_NAME.fullmatch(copy.name))}
     if len(stems) > 1:
         raise Fault(f"{path}: there are copies of several projects in this folder: name one of the files")
+    if moment_of(copies[0]) > time.time() + CLOCK_SECONDS:
+        print(
+            f"bsched-tools: {copies[0]}: its name lies in the future, so no newer copy is read: remove it if the "
+            "clock was ahead", file=sys.stderr,
+        )
     return copies[0]
 
 

@@ -1,0 +1,119 @@
+"""A bridge before the twin, with the files of a project: what tests and `bridge/try_lives` work on."""
+import io
+import sys
+from pathlib import Path
+
+BRIDGE = Path(__file__).resolve().parent.parent
+sys.path[:0] = [str(BRIDGE), str(BRIDGE.parent / "bench"), str(BRIDGE / "tests")]
+
+from twin import Twin  # noqa: E402
+
+from bsched_bridge.application import Application, opened_store  # noqa: E402
+from bsched_bridge.catalogue import read_catalogue  # noqa: E402
+from bsched_bridge.code_signing import file_md5, public_key_text, signature_text  # noqa: E402
+from bsched_bridge.host_rules import HostRuleReader  # noqa: E402
+from bsched_bridge.passwords import Cost, Passwords  # noqa: E402
+from bsched_bridge.scheduler import Scheduler  # noqa: E402
+from bsched_bridge.settings import read_settings  # noqa: E402
+from bsched_bridge.state_file import StateFile  # noqa: E402
+
+MEMORY = "/dev/shm"
+CATALOGUE = """\
+code_sign_key = "key"
+files = "files"
+
+[[app]]
+name = "sum"
+title = "Sums & more"
+command_line = "--name {workunit}"
+
+[[version]]
+app = "sum"
+platform = "x86_64-pc-linux-gnu"
+version_num = 1
+files = [{ name = "sum_1", signature = "sum_1.signature", main_program = true }]
+
+[[workunit]]
+name = "u2"
+command_line = "--two <2>"
+input_files = [{ name = "two.txt", open_name = "numbers" }]
+"""
+ACCOUNTS = "\n[accounts]\nmost_a_day = 50\n"
+
+
+def new_project(folder, key):
+    """Writes the files of a bridge into a folder, and returns it."""
+    (folder / "files").mkdir()
+    (folder / "files" / "sum_1").write_text("#!/bin/sh\n")
+    (folder / "files" / "two.txt").write_text("2\n")
+    (folder / "key").write_text(public_key_text(key.public_key()))
+    (folder / "sum_1.signature").write_text(signature_text(file_md5(folder / "files" / "sum_1"), key))
+    (folder / "catalogue.toml").write_text(CATALOGUE)
+    (folder / "bridge.toml").write_text(
+        'name = "Sums"\nurl = "http://127.0.0.1:8081/p/"\nlisten = "127.0.0.1:8081"\nscheduler = '
+        '"127.0.0.1:8080"\n'
+        'operator_key = "change-this-key"\ncatalogue = "catalogue.toml"\nstate = "bridge.db"\n'
+    )
+    return folder
+
+
+class Bridge:
+    """A bridge that can be stopped and started again."""
+
+    def __init__(self, folder: Path, twin: Twin):
+        self.folder, self.twin = folder, twin
+        self.start()
+
+    def start(self) -> None:
+        """Starts the bridge with what its file has."""
+        path = self.folder / "bridge.toml"
+        settings = read_settings(path)
+        self.file, catalogue = StateFile(settings.state), read_catalogue(settings.catalogue)
+        self.store = opened_store(settings, catalogue)
+        self.application = Application(
+            settings,
+            catalogue,
+            self.file,
+            Scheduler(self.twin.address, answer_seconds=2),
+            HostRuleReader(path, settings.host_rules).rules,
+            Passwords(Cost(2**4, 8, 1)),
+            self.store,
+        )
+        self.hosts, self.numbers = self.application.exchange.hosts, self.application.exchange.numbers
+        self.members = self.application.members
+
+    def restart(self) -> None:
+        """Starts the bridge again from what is on the disk."""
+        self.close()
+        self.start()
+
+    def close(self) -> None:
+        """Closes the files of the bridge."""
+        self.file.close()
+        if self.store is not None:
+            self.store.close()
+
+    def got(
+        self, path: str, method: str = "GET", body: bytes = b"", **more: str
+    ) -> tuple[str, dict[str, str], bytes]:
+        """Sends a message, and returns the status, the fields and the body of the answer."""
+        path, _, query = path.partition("?")
+        environ = {
+            "REQUEST_METHOD": method,
+            "PATH_INFO": path,
+            "QUERY_STRING": query,
+            "wsgi.input": io.BytesIO(body),
+            "CONTENT_LENGTH": str(len(body)) if method == "POST" else "",
+            **more,
+        }
+        told = []
+        blocks = self.application(environ, lambda status, fields: told.append((status, dict(fields))))
+        body = b"".join(blocks)
+        return *told[0], body
+
+    def call(self, body: bytes | str) -> bytes:
+        """Returns the reply to a scheduler_request."""
+        status, _, told = self.got("/p/cgi", "POST", body.encode() if isinstance(body, str) else body)
+        assert status == "200 OK"
+        return told
+
