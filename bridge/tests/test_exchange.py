@@ -8,8 +8,9 @@ from messages import FIRST, jobs, names, request, value
 from twin import Twin
 
 from bsched_bridge.hosts import FIRST_KEY, Key
+from bsched_bridge.scheduler import Job, NoAnswer, Reply
 from bsched_bridge.call_numbers import MOST_OF_STRANGERS
-from bsched_bridge.exchange import Resending
+from bsched_bridge.exchange import Resending, jobs_with
 
 
 def test_a_first_call(bridge, twin):
@@ -231,6 +232,42 @@ def test_late_answers_are_not_handed_on_twice(bridge, twin):
     bridge.call(request())
     bridge.application.exchange.resend(Key("ann-key", "c1"))
     assert jobs(bridge.call(request(listed=["u1_0"], seconds=0))) == []  # the client has it by now
+
+
+def test_jobs_in_hand_that_bsched_aborts_or_acknowledges_are_not_handed_on():
+    a, b, c, d = (Job(f"{name}_0", name, "sum", "linux", 1, 60, 1000, False) for name in "abcd")
+    reply = Reply(1, "Ann", 0, 0, 60, "enough", ["b_0"], ["a_0"], [c], 1)
+    assert [job.name for job in jobs_with(reply, [a, b, c, d])] == ["d_0", "c_0"]
+
+
+@pytest.mark.parametrize("status", [500, 502, 503])
+def test_a_server_error_is_no_answer(bridge, twin, monkeypatch, status):
+    bridge.call(request())
+    told = '{"error":"hosts_full","number":12}'.encode()
+    monkeypatch.setattr(bridge.application.scheduler, "_exchange", lambda *_words: (status, told))
+    assert value(bridge.call(request(hostid=FIRST)), "project_is_down") == "1"
+
+
+def test_a_computer_that_used_all_its_numbers(bridge):
+    bridge.call(request())
+    with bridge.file.transaction() as connection:
+        connection.execute("UPDATE host SET last_number = 2147483647")
+    reply = bridge.call(request(hostid=FIRST, reports=[("u1_0", "42")]))
+    assert "This computer has called so often" in value(reply, "message") and names(reply, "result_ack") == []
+    assert value(reply, "request_delay") == "86400.000000"
+
+
+def test_imports_that_get_no_answer_keep_no_calls_from_theirs(bridge, twin):
+    twin.faults = ["unheard"] * 3
+    bridge.call(request())
+
+    def imports():
+        raise NoAnswer("no answer")
+
+    resending = Resending(bridge.application.exchange, 0.01, imports)
+    resending.start()
+    wait_until(lambda: bridge.numbers.open_call(Key("ann-key", "c1")) is None)
+    resending.end()
 
 
 def test_two_requests_of_a_client_at_once_share_no_number(bridge, twin):

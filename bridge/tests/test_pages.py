@@ -431,3 +431,20 @@ def test_the_pages_own_forms_are_taken(open_bridge, fields):
     kind = {"CONTENT_TYPE": "application/x-www-form-urlencoded"}
     page = open_bridge.got("/p/account", "POST", f"key={key}".encode(), **kind, **fields)
     assert key in page[2].decode()
+
+
+@pytest.mark.parametrize("page", ["account", "get_passwd.php", "account_finish.php?auth=nobody"])
+def test_browsers_store_no_page_that_may_have_a_key(open_bridge, page):
+    assert open_bridge.got(f"/p/{page}")[1]["Cache-Control"] == "no-store"
+    form = urlencode({"key": "some-key", "email": "x", "password": "y"}).encode()
+    kind = {"CONTENT_TYPE": "application/x-www-form-urlencoded"}
+    answer = open_bridge.got(f"/p/{page.partition('?')[0]}", "POST", form, **kind)
+    assert answer[1]["Cache-Control"] == "no-store"
+
+
+@pytest.mark.parametrize("statement", ["", "result\n", "a,b\n1\n", "result,app,credit\ntotal,,x\n"])
+def test_a_statement_that_cant_be_read(open_bridge, twin, statement):
+    open_bridge.call(request())
+    twin.statement = statement
+    page = page_of(open_bridge.got("/p/status"))
+    assert "Computers that called: 1." in page.text and "out" not in page.text.split("called last")[1][:40]
