@@ -197,8 +197,8 @@ def free_port():
 
 def asked(port, query):
     """Returns the answer of a bridge in another process, or None if the bridge is killed first."""
-    for _ in range(100):
-        connection = http.client.HTTPConnection("127.0.0.1", port, timeout=20)
+    for _ in range(600):  # a busy machine may need long to start it
+        connection = http.client.HTTPConnection("127.0.0.1", port, timeout=60)
         try:
             connection.request("GET", query)
             response = connection.getresponse()
@@ -233,7 +233,7 @@ def test_a_bridge_that_is_killed(project, twin, at, is_after):
     )
     try:
         answer = asked(port, account_query("create_account.php", EMAIL, "secret1", user_name="ann"))
-        assert process.wait(20) == -signal.SIGKILL
+        assert process.wait(60) == -signal.SIGKILL
     finally:
         process.kill()
     assert answer is None

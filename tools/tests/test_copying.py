@@ -14,10 +14,10 @@ from typing import Any
 
 import plain_tables
 import pytest
-from small_project import END, TOOLS, Twin, make_tables, rows_of, tools
+from small_project import END, SETTINGS, TOOLS, Twin, make_tables, rows_of, tools
 
 from bsched_tools import copies as copies_module
-from bsched_tools import copying, holders, stopping, taking
+from bsched_tools import copying, holders, stopping, tables, taking
 from bsched_tools.faults import Fault
 
 SEQNOS = """
@@ -33,8 +33,8 @@ def state_of(pid: int) -> str:
 
 
 def goes_on(twin: Twin) -> bool:
-    """Returns whether a process runs, after at most a second."""
-    ends = time.monotonic() + 1
+    """Returns whether a process runs. It does within a second; a busy machine may need longer."""
+    ends = time.monotonic() + END
     while state_of(twin.process.pid) == "T" and time.monotonic() < ends:
         time.sleep(0.005)
     return state_of(twin.process.pid) != "T"
@@ -350,6 +350,59 @@ def test_keep_removes_older_copies_of_the_project_alone(project: Path, copies: P
     copied = copying.copy_tables(project, copies, keep=2)
     assert copied.removed == paths[2::-1]
     assert sorted(copies.iterdir()) == sorted([spoiled, of_other, paths[3], copied.path])
+
+
+def test_keep_leaves_copies_of_a_project_with_other_settings_alone(
+    project: Path, copies: Path, tmp_path: Path,
+) -> None:
+    (tmp_path / "else").mkdir()
+    # the same imports, and another key
+    settings = {**SETTINGS, "operator_key": "another-key"}
+    other = make_tables(tmp_path / "else" / "project.db", settings=settings)
+    of_other = copying.copy_tables(other, copies).path
+    first = copying.copy_tables(project, copies).path
+    copied = copying.copy_tables(project, copies, keep=1)
+    assert copied.removed == [first] and of_other.exists()
+
+
+def test_the_holder_is_looked_at_again_while_it_stands_still(
+    project: Path, twin: Twin, copies: Path, monkeypatch: pytest.MonkeyPatch,
+) -> None:
+    source = taking.Source(project, holders.identity_of(project))
+    holder, = [one for one in holders.open_files_of(twin.process.pid, source.identity) if one.lock == "WRITE"]
+    taking.check_holder(source, holder, 3)
+    with pytest.raises(taking.Retry, match="was made meanwhile"):
+        taking.check_holder(source, holder, None)
+    with monkeypatch.context() as patched:
+        patched.setattr(holders, "lock_of", lambda *_words: "READ")
+        with pytest.raises(taking.Retry, match="gave up the file"):
+            taking.check_holder(source, holder, 3)
+    os.rename(project, project.with_name("moved.db"))
+    project.write_bytes(b"another")
+    with pytest.raises(taking.Retry, match="gave up the file"):
+        taking.check_holder(taking.Source(project, holders.identity_of(project)), holder, 3)
+
+
+def test_a_link_in_the_place_of_a_copy_is_not_followed(tmp_path: Path) -> None:
+    target, link = tmp_path / "target", tmp_path / "link"
+    target.write_text("x")
+    link.symlink_to(target)
+    with pytest.raises(OSError):
+        copies_module.give_to(link, target.stat())
+    os.link(target, tmp_path / "hard")
+    with pytest.raises(Fault, match="somebody else put this file there"):
+        copies_module.give_to(tmp_path / "hard", target.stat())
+
+
+def test_a_copy_whose_name_lies_in_the_future_is_told(
+    project: Path, copies: Path, capsys: pytest.CaptureFixture[str],
+) -> None:
+    first = copying.copy_tables(project, copies).path
+    assert tables.found_copy(copies) == first and capsys.readouterr().err == ""
+    later = copies / "project-29990101T000000.000Z.db"
+    os.rename(first, later)
+    assert tables.found_copy(copies) == later
+    assert "its name lies in the future" in capsys.readouterr().err
 
 
 def test_keep_removes_copies_of_an_older_schema(project: Path, copies: Path) -> None:

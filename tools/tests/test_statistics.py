@@ -91,6 +91,7 @@ def test_averages_over_runs(tmp_path: Path, folder: Path) -> None:
     assert run(10 * DAY, 10_000, 1) == (10, 10 * DAY, 10 * DAY)
     assert run(11 * DAY, 15_000, 2) == (9.52862, 10 * DAY, 11 * DAY)
     assert run(11 * DAY, 15_000, 2) == (9.52862, 10 * DAY, 11 * DAY)
+    assert run(11 * DAY, 25_000, 2) == (9.52862, 10 * DAY, 11 * DAY)  # of the same moment, so it is left alone
     assert run(18 * DAY, 15_000, 2) == (4.76431, 10 * DAY, 11 * DAY)
 
 
