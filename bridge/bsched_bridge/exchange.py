@@ -163,12 +163,8 @@ class Exchange:
 
     def _of_unknown(self, request: ClientRequest, original: KnownHost | None) -> Answered | PutOff:
         """Returns the reply to a client that has no number, one that the bridge does not know, or that of the
-        host of which it is a copy.
-
-        A client is the host that its host_cpid names, unless another one has its results. Then it is a new
-        host, and so is a copy, as in BOINC. Results that another host of the account has are reported for
-        that host. Results that no host is known to have are not reported. As long as there are any, the
-        client is told no number, since with a number its reports would be acknowledged, and it gets no job.
+        host of which it is a copy. A client is the host that its host_cpid names, unless another one has its
+        results. Then it is a new host, and so is a copy, as in BOINC.
         """
         client = ClientState()
         if original is None:
@@ -187,6 +183,17 @@ class Exchange:
                 # Of results that the original does not have, bsched does not know that it gave them out, for
                 # example after a restore. Nobody can report them, so the copy forgets them, too.
                 holders = {name: holders.get(name, key) for name in names_of(request.results)}
+        return self._told(request, key, holders, client)
+
+    def _told(
+        self, request: ClientRequest, key: Key, holders: dict[str, Key], client: ClientState
+    ) -> Answered | PutOff:
+        """Returns the reply to a client that is told the number of a host.
+
+        Results that another host of the account has are reported for that host. Results that no host is known
+        to have are not reported. As long as there are any, the client is told no number, since with a number
+        its reports would be acknowledged, and it gets no job.
+        """
         unheld = [name for name in names_of(request.results) if name not in holders]
         aside = self._reported_aside(request, holders, None if unheld else key)
         if isinstance(aside, PutOff):
