@@ -99,8 +99,8 @@ def found_copy(path: Path) -> Path:
         raise Fault(f"{path}: there are copies of several projects in this folder: name one of the files")
     if moment_of(copies[0]) > time.time() + CLOCK_SECONDS:
         print(
-            f"bsched-tools: {copies[0]}: its name lies in the future, so no newer copy is read: remove it if the "
-            "clock was ahead", file=sys.stderr,
+            f"bsched-tools: {copies[0]}: its name lies in the future, so no newer copy is read: remove it if "
+            "the clock was ahead", file=sys.stderr,
         )
     return copies[0]
 
