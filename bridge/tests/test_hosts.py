@@ -218,6 +218,30 @@ def test_what_a_copy_finished_is_reported_for_the_original(two, twin):
     assert names(reply, "result_abort") == ["u1_0"]
 
 
+def test_a_copy_of_a_host_that_bsched_knows_by_another_number(two, twin):
+    """As after a restore of an older state file: the statement of that number is another host's."""
+    two.call(request(hostid=A, cpid="a", seqno=3, listed=["u1_0"], seconds=0))
+    with two.file.transaction() as connection:
+        connection.execute("UPDATE host SET scheduler_hostid = 77 WHERE host_cpid = 'a'")
+    reply = two.call(request(hostid=A, cpid="a", seqno=2, reports=[("u1_0", "42")], seconds=0))
+    assert names(reply, "result_ack") == ["u1_0"] and recorded(twin, "u1_0") == "a"
+
+
+def test_results_of_a_copy_that_bsched_does_not_know_are_forgotten(two, twin):
+    """As after a restore of older tables: the original may forget them, too."""
+    two.call(request(hostid=A, cpid="a", seqno=3, listed=["u1_0"], seconds=0))
+    reply = two.call(request(hostid=A, cpid="a", seqno=2, reports=[("u8_0", "42")], seconds=0))
+    assert names(reply, "result_ack") == ["u8_0"] and value(reply, "hostid") == str(FIRST + 2)
+    assert recorded(twin, "u8_0") is None
+
+
+def test_jobs_in_hand_of_the_original_stay_for_it(two, twin, project):
+    two.call(request(hostid=A, cpid="a", seqno=3, listed=["u1_0"], seconds=60))  # the reply is lost
+    reply = two.call(request(hostid=A, cpid="a", seqno=2, reports=[("u1_0", "42")], seconds=0))
+    assert names(reply, "result_ack") == ["u1_0"] and jobs(reply) == []
+    assert jobs(two.call(request(hostid=A, cpid="a", seqno=3, listed=["u1_0"], seconds=0))) == ["u3_0"]
+
+
 def test_a_request_that_is_sent_again_is_no_copy(two):
     for seqno in (3, 3, 4):
         reply = two.call(request(hostid=A, cpid="a", seqno=seqno, listed=["u1_0"], seconds=0))

@@ -136,7 +136,8 @@ def test_settings_without_a_key(tmp_path: Path) -> None:
 
 
 @pytest.mark.parametrize("words", [
-    [], ["one", "two"], ["--port"], ["--nothing", "x"], [""], [".x"], ["a/b"], ["a b"], ["-x"], ["x" * 65], ["sums.service"], ["x.timer"],
+    [], ["one", "two"], ["--port"], ["--nothing", "x"], [""], [".x"], ["a/b"], ["a b"], ["-x"], ["x" * 65],
+    ["sums.service"], ["x.timer"],
 ])
 def test_a_bad_command_line(words: list[str]) -> None:
     told = done(PACKAGING / "bsched-project", *words)
