@@ -2,9 +2,10 @@
 import logging
 import re
 from collections.abc import Callable, Iterable
+from contextlib import ExitStack
 from dataclasses import replace
 from pathlib import Path
-from typing import Any, cast
+from typing import Any, BinaryIO, cast
 from wsgiref.util import FileWrapper
 
 from . import pages, uploads
@@ -58,9 +59,28 @@ LARGE_BYTES, LARGE_SECONDS = 256 * 1024, 5.0
 # free waits for so long, but not if bsched gives no answer.
 KEPT_THREADS, PLACE_SECONDS = 2, 0.5
 
+# gunicorn keeps a thread for each file that it sends, until the client has read it; waitress does not
+ONE_THREAD_FOR_A_FILE = "gunicorn"
+
 log = logging.getLogger(__name__)
 StartResponse = Callable[[str, list[tuple[str, str]]], Any]
 Handler = Callable[[Environ], Answer]
+
+
+class SentFile:
+    """A file that tells when the server has closed it."""
+
+    def __init__(self, file: BinaryIO, is_closed: Callable[[], None]) -> None:
+        self._file, self._is_closed = file, is_closed
+
+    def __getattr__(self, name: str) -> Any:
+        """Returns what the file has."""
+        return getattr(self._file, name)
+
+    def close(self) -> None:
+        """Closes the file."""
+        self._file.close()
+        self._is_closed()
 
 
 class Application:
@@ -74,6 +94,7 @@ class Application:
         self.settings, self.catalogue, self.scheduler, self.store = settings, catalogue, scheduler, store
         hosts, self.members, archives = Hosts(file), Members(file), read_archives(settings.archives)
         self.places = Places(max(1, settings.threads - KEPT_THREADS))
+        self.download_places = Places(max(1, settings.threads // 2), self.places)
         self.account_places = Places(max(1, settings.threads // 2), self.places)
         self.accounts: Accounts | None = None
         if settings.accounts is not None and settings.operator_key is not None:
@@ -225,8 +246,27 @@ class Application:
             return read_request(blocks)
 
     def _download(self, environ: Environ, start_response: StartResponse, name: str) -> Iterable[bytes]:
-        """Sends a file, or the rest of it from a byte on."""
+        """Sends a file, or the rest of it from a byte on. Clients ask later again if too many read slowly."""
         has_method(environ, "GET", "HEAD")
+        if not environ.get("SERVER_SOFTWARE", "").startswith(ONE_THREAD_FOR_A_FILE):
+            return self._file(environ, start_response, name, lambda: None)
+        place = ExitStack()
+        try:
+            place.enter_context(self.download_places.taken())
+            blocks = self._file(environ, start_response, name, place.close)
+        except NoPlace:
+            raise HttpFault(503, **{"Retry-After": str(self.settings.retry_delay)}) from None
+        except BaseException:
+            place.close()
+            raise
+        if environ["REQUEST_METHOD"] == "HEAD":
+            place.close()
+        return blocks
+
+    def _file(
+        self, environ: Environ, start_response: StartResponse, name: str, is_closed: Callable[[], None]
+    ) -> Iterable[bytes]:
+        """Sends a file, and calls a function when the server has closed it."""
         try:
             file = self.catalogue.folder.path_of(name).open("rb")
         except (MissingFile, OSError):
@@ -246,7 +286,8 @@ class Application:
         if environ["REQUEST_METHOD"] == "HEAD":
             file.close()
             return []
-        return cast(Iterable[bytes], environ.get("wsgi.file_wrapper", FileWrapper)(file, BLOCK))
+        sent = SentFile(file, is_closed)
+        return cast(Iterable[bytes], environ.get("wsgi.file_wrapper", FileWrapper)(sent, BLOCK))
 
 
 def opened_store(settings: Settings, catalogue: Catalogue) -> UploadStore | None:

@@ -21,6 +21,7 @@ PHRASES = {
     415: "Unsupported Media Type",
     416: "Range Not Satisfiable",
     500: "Internal Server Error",
+    503: "Service Unavailable",
 }
 LENGTH = re.compile("[0-9]{1,18}")
 BLOCK = 65536  # bytes that are read or sent at once

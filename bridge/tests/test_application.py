@@ -282,3 +282,26 @@ def test_the_manager_gets_a_button_for_the_account(open_bridge):
     ]
     assert all(button.findtext("description") for button in buttons)
     assert open_bridge.got("/p/account")[0] == "200 OK"
+
+
+def test_files_that_are_read_slowly_leave_threads_for_pages_and_calls(bridge):
+    """gunicorn has a thread for each file until its client has read it."""
+    told = []
+
+    def asked(name="two.txt", **more):
+        environ = {
+            "REQUEST_METHOD": "GET", "PATH_INFO": f"/p/download/{name}", "SERVER_SOFTWARE": "gunicorn/20.1.0", **more,
+        }
+        return bridge.application(environ, lambda status, fields: told.append(status[:3]))
+
+    for _ in range(10):  # none of these keeps a place
+        asked("nothing")
+        asked(HTTP_RANGE="bytes=9-")
+        asked(REQUEST_METHOD="HEAD")
+    assert set(told) == {"404", "416", "200"}
+    told.clear()
+    slow = [asked() for _ in range(5)]
+    assert told == ["200"] * 4 + ["503"]
+    assert jobs(bridge.call(request())) == ["u1_0"]
+    slow[0].close()
+    assert b"".join(asked()) == b"2\n" and told[-1] == "200"

@@ -269,3 +269,21 @@ def test_the_command_line(project):
     )
     for words in ([], ["nothing"], ["sign", "files/two.txt"], ["--other"]):
         assert ordered(project, *words).returncode == 64
+
+
+@pytest.mark.parametrize("name, told", [
+    ("key", "code_sign_key: .*key can't be read"), ("sum_1.signature", "the signature .* can't be read"),
+])
+def test_files_of_the_catalogue_that_cant_be_read(project, name, told):
+    (project / name).write_bytes(b"\xff")
+    with pytest.raises(OperatorFault, match=told):
+        read_catalogue(project / "catalogue.toml")
+
+
+def test_a_program_that_cant_be_read(project, monkeypatch):
+    def fails(_path):
+        raise OSError("no such device")
+
+    monkeypatch.setattr("bsched_bridge.catalogue.file_md5", fails)
+    with pytest.raises(OperatorFault, match="sum_1 is not there, or can't be read"):
+        read_catalogue(project / "catalogue.toml")
