@@ -268,9 +268,8 @@ class Exchange:
         owners = set(holders.values())
         if not owners or key in owners:
             return key, holders
-        former = [owner for owner in owners if self.hosts.has_former_number(owner)]
-        if former:  # its host_cpid has changed, and it was told no number since the upgrade
-            return former[0], holders
+        if len(owners) == 1 and self.hosts.has_former_number(owner := owners.pop()):
+            return owner, holders  # its host_cpid has changed, and it was told no number since the upgrade
         return (key if self.hosts.scheduler_hostid(key) is None else None), holders
 
     def _has_host(self, key: Key) -> bool:
