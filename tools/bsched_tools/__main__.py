@@ -88,10 +88,12 @@ def results(args: Arguments) -> None:
     uploads = args.uploads or (project.uploads if project else None)
     if args.files is not None and uploads is None:
         new_parser().error("results: --files needs --uploads FOLDER, or a project whose bridge has uploads")
-    write_results(
+    why = write_results(
         copies_of(args, project), args.json, args.after, args.cursor, args.to, names=names,
         uploads=uploads, files_to=args.files,
     )
+    if why is not None:
+        print(f"bsched-tools: {why}", file=sys.stderr)
 
 
 def process(args: Arguments) -> None:

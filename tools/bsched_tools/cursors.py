@@ -6,7 +6,6 @@ For other workunits it has the place of the last result that was given out.
 import fcntl
 import hashlib
 import json
-import sys
 from collections.abc import Iterator
 from contextlib import contextmanager
 from dataclasses import dataclass, field
@@ -104,15 +103,16 @@ class Cursor:
         told = {"format": FORMAT, "given": written(self.projects), "former": written(self.former)}
         replace_file(self.path, [json.dumps(told).encode()])
 
-    def tell(self) -> None:
-        """Says on standard error why a run printed nothing, if it left results out."""
+    def why_nothing(self) -> str | None:
+        """Returns why a run printed nothing, if it left results out."""
         given = self.projects.values()
         left_out = sum(one.left_out for one in given)
-        if left_out and not any(one.printed for one in given):
-            print(
-                f"bsched-tools: nothing is new: {self.path} says that the results of all {left_out} decided "
-                "workunits were given out before", file=sys.stderr,
-            )
+        if not left_out or any(one.printed for one in given):
+            return None
+        return (
+            f"nothing is new: {self.path} says that the results of all {left_out} decided workunits were "
+            "given out before"
+        )
 
 
 @contextmanager

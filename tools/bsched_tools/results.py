@@ -168,10 +168,11 @@ def write_results(
     names: Mapping[str, str] | None = None,
     uploads: Path | None = None,
     files_to: Path | None = None,
-) -> None:
+) -> str | None:
     """Writes the results of tables to standard output or to a new file, as comma-separated values or as lines
     of JSON. With a folder of uploads they name the files of canonical results, and files_to gets these files.
-    The cursor is written last. If a stop comes before that, the same results come again.
+    The cursor is written last. If a stop comes before that, the same results come again. Returns why there are
+    none, if the cursor left all out.
     """
     with ExitStack() as stack:
         kept = stack.enter_context(cursor_at(cursor)) if cursor is not None else None
@@ -192,4 +193,4 @@ def write_results(
             sync(files_to)
         if kept is not None:
             kept.write()
-            kept.tell()
+    return kept.why_nothing() if kept is not None else None
