@@ -1,5 +1,5 @@
-"""Tests `bsched-project export` and `import` between two folders of projects, with this clone's tools and the twin
-as bsched."""
+"""Tests `bsched-project export` and `import` between two folders of projects, with the tools of this clone.
+The twin stands for bsched."""
 import os
 import re
 import shutil

@@ -25,7 +25,7 @@ from .members import agreed_in
 from .projects import PROGRAM, Project, project_of
 from .results import write_results
 from .tables import opened
-from .volunteers import Volunteers, volunteers_of
+from .volunteers import Volunteers, asked_of_bridge, volunteers_of
 
 FAULT = 1
 Arguments = argparse.Namespace
@@ -40,10 +40,10 @@ def project_named(args: Arguments) -> Project | None:
     return project
 
 
-def copies_of(args: Arguments, project: Project | None) -> list[Path]:
-    """Returns the copies that are read."""
+def copies_of(args: Arguments, project: Project | None, is_several: bool = True) -> list[Path]:
+    """Returns the copies that are read: of a project its earlier files, too, unless one copy is read."""
     if project is not None:
-        return [project.units().copies]
+        return [*(project.archives if is_several else []), project.units().copies]
     return list(args.tables) if isinstance(args.tables, list) else [args.tables]
 
 
@@ -72,13 +72,24 @@ def copy(args: Arguments) -> None:
         keep = keep or (None if to else units.copies_kept)
         check = check or (PROGRAM if units.is_checked and PROGRAM.exists() else None)
         to = to or project.made(units.copies, 0o700)
-    copied = copy_tables(tables, needed(args, "to", to), keep, check)
+    to = needed(args, "to", to)
+    copied = copy_tables(tables, to, keep, check)
     still = "nobody had the tables"
     if copied.still_seconds is not None:
         still = f"serving stood still for {copied.still_seconds * 1000:.0f} milliseconds"
     print(f"{copied.path}: {copied.size} bytes, {still}")
     for path in copied.removed:
         print(f"removed {path}")
+    if args.project is not None and to.is_dir():
+        copy_state(project_of(args.project), to, keep)
+
+
+def copy_state(project: Project, folder: Path, keep: int | None) -> None:
+    """Copies the state of the project's bridge, too, if there is one."""
+    state = project.bridge_state
+    if state is not None and state.exists():
+        words = ["copy", "--config", str(project.bridge_file), "--to", str(folder)]
+        print(asked_of_bridge([*words, *([] if keep is None else ["--keep", str(keep)])]), end="")
 
 
 def results(args: Arguments) -> None:
@@ -115,14 +126,14 @@ def counts(args: Arguments) -> None:
 def job(args: Arguments) -> None:
     """Prints what happened to a workunit."""
     project = project_named(args)
-    with opened(copies_of(args, project)[0], names=chosen(project).names) as tables:
+    with opened(copies_of(args, project, False)[0], names=chosen(project).names) as tables:
         print_lines(workunit_lines(tables, args.name))
 
 
 def host(args: Arguments) -> None:
     """Prints what a computer did."""
     project = project_named(args)
-    with opened(copies_of(args, project)[0], names=chosen(project).names) as tables:
+    with opened(copies_of(args, project, False)[0], names=chosen(project).names) as tables:
         print_lines(host_lines(tables, args.number))
 
 
@@ -162,11 +173,11 @@ def statistics(args: Arguments) -> None:
 def report(args: Arguments) -> None:
     """Writes the page. For a project it first writes the counts that the bridge shows on its own page."""
     project = project_named(args)
-    to, title, kept, copies = args.to, args.title, None, copies_of(args, project)
+    to, title, kept, copies = args.to, args.title, None, copies_of(args, project, False)
     if project is not None:
         kept, to = project.made(project.work, 0o700), to or project.made(project.units().page, 0o755)
-        title = title or project.title
-        replace_file(kept / "counts.json", (f"{line}\n".encode() for line in as_json(counted(copies))))
+        title, all_copies = title or project.title, copies_of(args, project)
+        replace_file(kept / "counts.json", (f"{line}\n".encode() for line in as_json(counted(all_copies))))
     try:
         from .page import write_report
     except ModuleNotFoundError:

@@ -138,6 +138,18 @@ class Project:
         path = self.bridge_file.parent / folder if isinstance(folder, str) else None
         return path if path is not None and (path / "uploads.db").exists() else None
 
+    @property
+    def bridge_state(self) -> Path | None:
+        """The state file of the bridge, or None if there is no bridge."""
+        said = toml_of(self.bridge_file).get("state") if self.bridge_file.exists() else None
+        return self.bridge_file.parent / said if isinstance(said, str) else None
+
+    @property
+    def archives(self) -> list[Path]:
+        """The earlier files of the project, which its bridge names."""
+        said = toml_of(self.bridge_file).get("archives", []) if self.bridge_file.exists() else []
+        return [self.bridge_file.parent / name for name in said if isinstance(name, str)]
+
     def port(self, name: str = "PORT") -> int:
         """Returns a port: PORT is that of the scheduler, BRIDGE_PORT that of the bridge."""
         path = self.folder / "environment"

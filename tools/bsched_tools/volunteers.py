@@ -26,20 +26,27 @@ def command_of_bridge() -> list[str]:
     return [installed] if installed else [sys.executable, "-m", "bsched_bridge"]
 
 
-def volunteers_of(project: Project) -> Volunteers:
-    """Returns what the volunteers of a project chose. A project without a bridge has none."""
-    if not project.bridge_file.exists():
-        return Volunteers()
-    words = [*command_of_bridge(), "consented", "--config", str(project.bridge_file), "--json"]
+def asked_of_bridge(words: list[str]) -> str:
+    """Returns what a command of the bridge prints."""
+    command = [*command_of_bridge(), *words]
     try:
         told = subprocess.run(
-            words, capture_output=True, text=True, timeout=SECONDS, stdin=subprocess.DEVNULL
+            command, capture_output=True, text=True, timeout=SECONDS, stdin=subprocess.DEVNULL
         )
     except (OSError, subprocess.TimeoutExpired) as error:
-        raise Fault(f"{words[0]}: {getattr(error, 'strerror', None) or error}") from None
+        raise Fault(f"{command[0]}: {getattr(error, 'strerror', None) or error}") from None
     if told.returncode:
-        raise Fault(f"the names of volunteers can't be read: {told.stderr.strip()}")
-    rows = [json.loads(line) for line in told.stdout.splitlines()]
+        raise Fault(f"{command[0]} {words[0]}: {told.stderr.strip()}")
+    return told.stdout
+
+
+def volunteers_of(project: Project) -> Volunteers:
+    """Returns what the volunteers of a project chose. A project without a bridge has none."""
+    state = project.bridge_state
+    if state is None or not state.exists():
+        return Volunteers()
+    told = asked_of_bridge(["consented", "--config", str(project.bridge_file), "--json"])
+    rows = [json.loads(line) for line in told.splitlines()]
     return Volunteers(
         frozenset(row["authenticator"] for row in rows if not row["is_deleted"]),
         {row["authenticator"]: row["name"] for row in rows},

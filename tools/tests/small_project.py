@@ -79,7 +79,7 @@ class Twin:
 def tools(*words: object, seconds: float = 60) -> tuple[int, str, str]:
     """Runs the tools, and returns their status and what they print."""
     command = [sys.executable, "-m", "bsched_tools", *map(str, words)]
-    own = {"PYTHONPATH": str(TOOLS), "PYTHONDONTWRITEBYTECODE": "1"}
+    own = {"PYTHONPATH": f"{TOOLS}:{TOOLS.parent / 'bridge'}", "PYTHONDONTWRITEBYTECODE": "1"}
     told = subprocess.run(command, capture_output=True, text=True, timeout=seconds, env={**os.environ, **own})
     return told.returncode, told.stdout, told.stderr
 

@@ -1,17 +1,24 @@
 """Tests the commands that take a project's folder: imports, jobs, new results, copies and faults."""
+import gzip
 import json
 import os
+import sys
 import re
 from collections.abc import Iterator
 from pathlib import Path
 
 import pytest
 from made_project import SETTINGS, TWIN, MadeProject
-from small_project import LIMITS, WORKUNITS, rows_of, tools
+from small_project import LIMITS, TOOLS, WORKUNITS, rows_of, tools
 
-from bsched_tools import imports, projects
-from bsched_tools.faults import Fault
-from bsched_tools.import_files import read_import
+sys.path.insert(0, str(TOOLS.parent / "bridge"))
+
+from bsched_bridge.barring import Barring  # noqa: E402
+from bsched_bridge.members import Members, first_heard  # noqa: E402
+from bsched_bridge.state_file import StateFile  # noqa: E402
+from bsched_tools import imports, projects  # noqa: E402
+from bsched_tools.faults import Fault  # noqa: E402
+from bsched_tools.import_files import read_import  # noqa: E402
 
 
 @pytest.fixture
@@ -206,6 +213,41 @@ def test_page_and_statistics_of_a_project(project: MadeProject, tmp_path: Path) 
         "averages.json", "counts.json", "held.json", "history.jsonl"]
     assert (project.folder / "units").stat().st_mode & 0o777 == 0o700
     assert "<h1>sums: status</h1>" in (tmp_path / "report" / "index.html").read_text()
+
+
+def test_names_that_volunteers_chose(project: MadeProject, tmp_path: Path) -> None:
+    """The bridge's file says who agreed to be named and who left. Its copy comes with that of the tables."""
+    bridge = project.folder / "bridge"
+    (bridge / "files").mkdir(parents=True)
+    bridge_toml = 'name = "Sums & more"\nurl = "http://127.0.0.1:8081/"\nlisten = "127.0.0.1:8081"\n'
+    bridge_toml += 'scheduler = "127.0.0.1:8080"\ncatalogue = "c.toml"\nstate = "bridge.db"\n'
+    (bridge / "bridge.toml").write_text(bridge_toml)
+    (bridge / "c.toml").write_text("")
+    file = StateFile(bridge / "bridge.db")
+    members = Members(file)
+    for user in (1, 2, 3):
+        with file.transaction() as connection:
+            first_heard(connection, f"k{user}", f"User {user}", 1000)
+        members.changed(members.of_key(f"k{user}"), f"Chosen {user}", user == 1)
+    Barring(file).delete("k3", 2000)
+    project.serve()
+    for user in (1, 2):
+        project.call(user, 1, work_req_seconds=1)
+        project.call(user, 2, results=[{"name": f"w1_{user - 1}", "exit_status": 0, "output": "7"}])
+    project.call(3, 1, work_req_seconds=1)
+    status, told, fault = project.tools("copy")
+    assert (status, fault) == (0, "") and ".state: " in told
+    rows = [line.split(",")[-2] for line in project.tools("results")[1].splitlines()[1:]]
+    assert rows == ["Chosen 1", "User 2"]
+    assert "of deleted, sent" in project.tools("job", "w2")[1]
+    units = f'[copy]\nfolder = "copies"\ncheck = false\n[statistics]\nfolder = "{tmp_path}/stats"\n'
+    (project.folder / "units.toml").write_text(f'{units}[page]\nfolder = "{tmp_path}/report"\n')
+    assert "4 users, 1 of them named, and 3 computers" in project.tools("statistics")[1]
+    assert "Chosen 1" in gzip.decompress((tmp_path / "stats" / "user.gz").read_bytes()).decode()
+    assert project.tools("report")[0] == 0
+    page = (tmp_path / "report" / "index.html").read_text()
+    assert "<h1>Sums &amp; more: status</h1>" in page and "Chosen 2" not in page
+    file.close()
 
 
 def test_a_page_with_a_title(project: MadeProject, tmp_path: Path) -> None:
