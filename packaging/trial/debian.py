@@ -40,13 +40,10 @@ def finished(words: list[str], seconds: int = 60, environment: dict[str, str] | 
 
 
 class Root:
-    """The folder of a clean Debian. Packages are installed into it before its machine starts."""
+    """The folder of a Debian. Packages are installed into it before its machine starts."""
 
-    def __init__(self, folder: Path, mirror: str, extra: str):
-        self.path = folder / "root"
-        options = ["--quiet", "--variant=apt", f"--include={extra}"]
-        run(["mmdebstrap", *options, SUITE, str(self.path), mirror], 900)
-        shutil.copy("/etc/resolv.conf", self.path / "etc" / "resolv.conf")
+    def __init__(self, path: Path):
+        self.path = path
 
     def run(self, command: str, seconds: int = 60) -> str:
         """Returns what a shell command in the folder prints. Nothing is booted for it."""
@@ -55,6 +52,20 @@ class Root:
     def packages(self) -> set[str]:
         """Returns the names of the installed packages."""
         return set(self.run("dpkg-query --show --showformat='${Package}\\n'").split())
+
+
+def new_root(path: Path, mirror: str, extra: str) -> Root:
+    """Makes the folder of a clean Debian."""
+    options = ["--quiet", "--variant=apt", f"--include={extra}"]
+    run(["mmdebstrap", *options, SUITE, str(path), mirror], 900)
+    shutil.copy("/etc/resolv.conf", path / "etc" / "resolv.conf")
+    return Root(path)
+
+
+def copied_root(root: Root, path: Path) -> Root:
+    """Makes the folder of a Debian that is as another one is now."""
+    run(["cp", "--archive", str(root.path), str(path)], 600)
+    return Root(path)
 
 
 class Machine:

@@ -1,0 +1,35 @@
+"""Tests the page of the first volunteer, and how packaging/try reads it."""
+import subprocess
+import sys
+from pathlib import Path
+
+import pytest
+
+TOP = Path(__file__).resolve().parent.parent.parent
+PAGE = TOP / "docs" / "FIRST_VOLUNTEER.md"
+sys.path.insert(0, str(TOP / "packaging"))
+
+from trial.path import Block, steps_of  # noqa: E402
+
+
+def test_the_page_has_twelve_steps_with_commands() -> None:
+    steps = steps_of(PAGE)
+    assert [step.number for step in steps] == list(range(1, 13))
+    assert all(step.blocks for step in steps)
+    blocks = [block for step in steps for block in step.blocks]
+    assert [block.commands.split()[0] for block in blocks if not block.is_run] == ["certbot"]
+    assert [block.commands.split()[0] for block in blocks if block.is_repeated] == ["systemctl"]
+
+
+def test_each_block_is_a_script() -> None:
+    for step in steps_of(PAGE):
+        for block in step.blocks:
+            told = subprocess.run(["bash", "-n"], input=block.commands, text=True, capture_output=True)
+            assert (told.returncode, told.stderr) == (0, ""), step.title
+
+
+@pytest.mark.parametrize("output, missing", [
+    ("a 1\nmore\nb\n", None), ("b\na 1\n", "b"), ("a 1\n", "b"), ("a\nb\n", "a .."), ("", "a .."),
+])
+def test_what_a_block_prints(output: str, missing: str | None) -> None:
+    assert Block("", printed=["a ..", "..", "b"]).missing_line(output) == missing
