@@ -9,6 +9,12 @@ from .statements import Status, UnitCounts
 from .texts import credits_text, moment_text
 
 USERS_ON_A_PAGE = 100
+# how volunteers read why workunits failed, by the names of `bsched-tools counts`
+FAILED = {
+    "failed by errors": "failed: too many errors",
+    "failed by successes": "failed: results that do not agree",
+    "failed by the total": "failed: too many results in all",
+}
 PAGE_NUMBER = re.compile("[1-9][0-9]{0,5}")
 
 
@@ -114,7 +120,7 @@ def status_page(settings: Settings, status: Status, environ: Environ) -> Answer:
 
 def units_markup(units: UnitCounts) -> list[Markup]:
     """Returns the workunits by their status."""
-    rows: list[list[object]] = [[name, count] for name, count in units.by_status.items()]
+    rows: list[list[object]] = [[FAILED.get(name, name), count] for name, count in units.by_status.items()]
     rows.append(["all", sum(units.by_status.values())])
     return [
         element("h2", "Workunits"), table(["status", "workunits"], rows),
