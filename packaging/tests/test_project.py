@@ -234,8 +234,9 @@ def test_a_real_project_has_no_accounts(machine: Machine) -> None:
         header = (EXAMPLE / f"{kind}.csv").read_text().splitlines()[0]
         assert (machine.projects / "sums" / f"{kind}.csv").read_text() == f"{header}\n"
     bridge = tomllib.loads((machine.projects / "sums" / "bridge" / "bridge.toml").read_text())
-    ports = (machine.projects / "sums" / "environment").read_text().split()
-    port, bridge_port = (line.partition("=")[2] for line in ports)
+    ports = (machine.projects / "sums" / "environment").read_text().splitlines()
+    port, bridge_port = (line.partition("=")[2] for line in ports[:2])
+    assert ports[2:] == ['SWEEP="--tables /var/backups/bsched/sums"']
     units = tomllib.loads((machine.projects / "sums" / "units.toml").read_text())
     assert units["copy"]["folder"] == "/var/backups/bsched/sums"
     assert bridge == {

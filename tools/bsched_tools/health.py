@@ -28,6 +28,8 @@ DAY, HOUR = 86_400, 3_600
 CERTIFICATE_DAYS = 14, 3  # fewer days are a warning, and critical
 FREE_SHARE = 0.1, 0.03  # of a disk: less is a warning, and critical
 USED_SHARE = 0.9, 1.0  # of a limit: more is a warning, and critical
+STAMPS = Path("/var/lib/systemd/timers")
+TICK_MINUTES = 12, 30  # since the last tick: more is a warning, and critical; one is sent each five minutes
 COPIES_LATE = 8  # times the hours of the settings: an older copy is critical
 SENDMAIL = Path("/usr/sbin/sendmail")
 
@@ -148,12 +150,13 @@ def certificate(project: Project, _settings: UnitSettings) -> Iterator[Finding]:
 
 
 def tick(project: Project, _settings: UnitSettings) -> Iterator[Finding]:
-    """Asks systemd whether the timer of the tick waits, and whether the last tick was answered."""
+    """Asks systemd whether the timer of the tick waits, and whether the last tick was answered. A user whom
+    systemd does not answer looks when the timer last sent one."""
     name = f"bsched-tick@{project.name}"
     timer = shown_by_systemd(f"{name}.timer", "ActiveState")
     result = shown_by_systemd(f"{name}.service", "Result")
     if timer is None or result is None:
-        yield Finding("tick", Level.UNKNOWN, "systemd is not asked: it does not run here")
+        yield last_tick(name)
     elif timer != "active":
         text = f"{name}.timer is {timer}, so deadlines don't pass: `systemctl enable --now {name}.timer`"
         yield Finding("tick", Level.CRITICAL, text)
@@ -162,6 +165,17 @@ def tick(project: Project, _settings: UnitSettings) -> Iterator[Finding]:
         yield Finding("tick", Level.WARNING, text)
     else:
         yield Finding("tick", Level.GOOD, "the timer waits, and the last tick was answered")
+
+
+def last_tick(name: str) -> Finding:
+    """Looks when the timer of the tick last sent one, by the file that systemd keeps of the timer."""
+    try:
+        minutes = (time.time() - (STAMPS / f"stamp-{name}.timer").stat().st_mtime) / 60
+    except OSError:
+        return Finding("tick", Level.UNKNOWN, f"systemd does not say whether {name}.timer runs: ask as root")
+    level = level_of(minutes, *TICK_MINUTES)
+    ends = "" if level is Level.GOOD else f": `systemctl enable --now {name}.timer`"
+    return Finding("tick", level, f"the last one was sent {minutes:.0f} minutes ago{ends}")
 
 
 def shown_by_systemd(unit: str, key: str) -> str | None:

@@ -207,7 +207,10 @@ class Project:
         """Makes a folder if it does not exist, and the ones above it. As root it gets the project's owner."""
         if not folder.is_dir():
             try:
-                folder.parent.mkdir(parents=True, exist_ok=True)
+                for parent in reversed(folder.parents):
+                    if not parent.is_dir():
+                        parent.mkdir()
+                        parent.chmod(0o755)  # whatever the umask of a unit is
                 folder.mkdir(mode=mode)
                 folder.chmod(mode)
                 if os.geteuid() == 0:

@@ -141,7 +141,7 @@ def test_certificates(made: MadeProject, tmp_path: Path, monkeypatch: pytest.Mon
     ({"ActiveState": "inactive", "Result": "success"}, Level.CRITICAL,
      "systemctl enable --now bsched-tick@sums.timer"),
     ({"ActiveState": "active", "Result": "exit-code"}, Level.WARNING, "journalctl -u bsched-tick@sums"),
-    ({"ActiveState": None, "Result": None}, Level.UNKNOWN, "it does not run here"),
+    ({"ActiveState": None, "Result": None}, Level.UNKNOWN, "ask as root"),
 ])
 def test_ticks(
     made: MadeProject, monkeypatch: pytest.MonkeyPatch, states: dict[str, str], level: Level, text: str
@@ -149,6 +149,19 @@ def test_ticks(
     monkeypatch.setattr(health, "shown_by_systemd", lambda _unit, key: states[key])
     told = found(made)["tick"]
     assert told.level is level and text in told.text
+
+
+@pytest.mark.parametrize("minutes, level", [(3, Level.GOOD), (15, Level.WARNING), (45, Level.CRITICAL)])
+def test_ticks_if_systemd_does_not_answer(
+    made: MadeProject, tmp_path: Path, monkeypatch: pytest.MonkeyPatch, minutes: int, level: Level
+) -> None:
+    monkeypatch.setattr(health, "shown_by_systemd", lambda _unit, _key: None)
+    monkeypatch.setattr(health, "STAMPS", tmp_path)
+    stamp = tmp_path / "stamp-bsched-tick@sums.timer"
+    stamp.touch()
+    os.utime(stamp, (time.time() - 60 * minutes,) * 2)
+    told = found(made)["tick"]
+    assert told.level is level and f"{minutes} minutes ago" in told.text
 
 
 @pytest.mark.parametrize("hours, level", [(2, Level.GOOD), (4, Level.WARNING), (25, Level.CRITICAL)])

@@ -165,6 +165,18 @@ def test_what_happened_to_a_workunit(project: MadeProject) -> None:
 # ---- What the units do
 
 
+def test_the_folder_of_copies_can_be_reached(project: MadeProject, tmp_path: Path) -> None:
+    """As the unit does it, which runs with a strict umask."""
+    target = tmp_path / "backups" / "bsched" / "sums"
+    (project.folder / "units.toml").write_text(f'[copy]\nfolder = "{target}"\ncheck = false\n')
+    before = os.umask(0o077)
+    try:
+        assert project.tools("copy")[0] == 0
+    finally:
+        os.umask(before)
+    assert target.parent.stat().st_mode & 0o777 == 0o755 and target.stat().st_mode & 0o777 == 0o700
+
+
 def test_copies_of_a_project(project: MadeProject) -> None:
     (project.folder / "units.toml").write_text('[copy]\nfolder = "copies"\nkeep = 2\ncheck = false\n')
     for _ in range(3):
