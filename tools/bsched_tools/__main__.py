@@ -32,10 +32,15 @@ Arguments = argparse.Namespace
 
 
 def project_named(args: Arguments) -> Project | None:
-    """Returns the project of the command line, if it names one. As root the command goes on as its owner."""
+    """Returns the project of the command line, if it names one. As root the command goes on as its owner, who
+    may not make the public folders."""
     if args.project is None:
         return None
     project = project_of(args.project)
+    units = project.units()
+    public = {"report": units.page, "statistics": units.statistics}.get(args.command)
+    if public is not None and args.to is None:
+        project.made(public, 0o755)
     project.become_owner()
     return project
 

@@ -315,10 +315,11 @@ def test_as_root_the_files_keep_the_projects_owner(project: MadeProject, tmp_pat
     for path in (project.folder, *project.folder.iterdir()):
         os.chown(path, 65534, 65534)
     assert project.tools("copy")[0] == 0
-    units = '[copy]\nfolder = "copies"\n[page]\nfolder = "report"\n'
-    (project.folder / "units.toml").write_text(f'{units}[statistics]\nfolder = "stats"\n')
+    units = f'[copy]\nfolder = "copies"\n[page]\nfolder = "{tmp_path}/web/report"\n'
+    (project.folder / "units.toml").write_text(f'{units}[statistics]\nfolder = "{tmp_path}/web/stats"\n')
     assert project.tools("report")[0] == 0 and project.tools("statistics")[0] == 0
-    assert {path.stat().st_uid for path in project.folder.rglob("*")} == {65534}
+    made = [*project.folder.rglob("*"), *(tmp_path / "web").rglob("*")]
+    assert {path.stat().st_uid for path in made} == {65534} and tmp_path / "web/stats/user.gz" in made
 
 
 def test_the_version() -> None:
