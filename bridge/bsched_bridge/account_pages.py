@@ -15,7 +15,7 @@ from .members import Member
 from .passwords import client_hash
 from .settings import Settings
 from .statements import MOST_HOSTS, AccountStatus, Statements
-from .texts import credits_text, moment_text
+from .texts import RESULT_WORDS, credits_text, moment_text
 from .words import in_small_letters
 
 BACK = ((".", "The project"), ("status", "Status of the project"))
@@ -344,4 +344,5 @@ def hosts_markup(status: AccountStatus) -> list[Markup]:
         rows = [[*row, one.out, one.waiting, one.done, one.late, one.failed] for row, one in zip(rows, hosts)]
     note = f"The table has the {len(hosts)} computers that called last."
     notes = [element("p", note, class_="note")] if len(hosts) >= MOST_HOSTS else []
+    notes += [element("p", RESULT_WORDS, class_="note")] if status.recent.with_results else []
     return [together, table(header, rows), *notes]

@@ -6,7 +6,7 @@ from .http_messages import Answer, Environ, query_of
 from .markup import Markup, Number, element, joined, linked, page, paragraphs, table
 from .settings import Settings
 from .statements import Status, UnitCounts
-from .texts import credits_text, moment_text
+from .texts import RESULT_WORDS, credits_text, moment_text
 
 USERS_ON_A_PAGE = 100
 # how volunteers read why workunits failed, by the names of `bsched-tools counts`
@@ -172,11 +172,7 @@ def hosts_markup(status: Status) -> list[Markup]:
         rows = [[*row, *count] for row, count in zip(rows, counts)]
         if counts:
             rows.append(["all", "", "", "", *map(sum, zip(*counts))])
-        notes.append(
-            "Results are out until they are reported or their deadline passes; those whose deadline passed "
-            "are late. Those that wait are reported, and their workunit is not decided. Done are those that "
-            "were found valid; failed are errors, and results found invalid."
-        )
+        notes.append(RESULT_WORDS)
     return [
         element("h2", "Computers"),
         element(

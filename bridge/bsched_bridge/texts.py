@@ -2,6 +2,12 @@
 from datetime import datetime, timezone
 
 MILLICREDITS = 1000
+# what the columns of a table of computers count
+RESULT_WORDS = (
+    "Results are out until they are reported or their deadline passes; those whose deadline passed are late. "
+    "Those that wait are reported, and their workunit is not decided. Done are those that were found valid; "
+    "failed are errors, and results found invalid."
+)
 
 
 def credits_text(millicredits: int) -> str:
