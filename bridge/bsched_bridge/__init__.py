@@ -25,6 +25,7 @@ account_messages what a client asks about accounts, and its answers
 accounts         checks, limits, and the import of an account into bsched
 passwords        what is kept of a password
 members          the accounts that the bridge knows
+barring          those whose computers are refused, and how an account is deleted
 
 The files of results go through these:
 
@@ -41,5 +42,6 @@ upload_sweep     what the daily sweep deletes (sweep_command)
 Requests and accounts keep their rows in the state_file, in SQLite. The modules of the pages for people
 are pages, account_pages, statements, markup (HTML, with escaping) and texts. The other modules are
 settings, host_rules (settings that are read again), limits, operator_files (TOML with the lines of its
-faults), http_messages, code_signing, key_locks and words.
+faults), http_messages, code_signing, recent_credit, operator_orders (the operator's commands on accounts),
+key_locks and words.
 """
