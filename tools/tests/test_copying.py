@@ -485,7 +485,7 @@ def test_a_full_disk(project: Path, twin: Twin, small_disk: Path) -> None:
     (lambda whole: whole[:-100], "SQLite finds: "),
     (lambda whole: whole[:50], "it is spoiled or cut off (database disk image is malformed)"),
     (lambda _whole: b"text\n" * 500, "it is spoiled or cut off (file is not a database)"),
-    (lambda _whole: b"", "it has no tables: a log (-wal) that has them is missing, or nothing was stored yet"),
+    (lambda _whole: b"", "it has no tables: a log (-wal) that has them is missing"),
 ])
 def test_tables_that_are_not_whole(
     project: Path, copies: Path, cut: Callable[[bytes], bytes], told: str,
