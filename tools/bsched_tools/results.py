@@ -171,8 +171,8 @@ def write_results(
 ) -> str | None:
     """Writes the results of tables to standard output or to a new file, as comma-separated values or as lines
     of JSON. With a folder of uploads they name the files of canonical results, and files_to gets these files.
-    The cursor is written last. If a stop comes before that, the same results come again. Returns why there are
-    none, if the cursor left all out.
+    The cursor is written last. If a stop comes before that, the same results come again. Returns why there
+    are none, if the cursor left all out.
     """
     with ExitStack() as stack:
         kept = stack.enter_context(cursor_at(cursor)) if cursor is not None else None
