@@ -69,6 +69,7 @@ impl<S: Alter + Drop> Tables<S> {
         ensures sound { IfOk result (λ t. HasCleanDisk (state_of S.Store t) → Sound (world_of S.Store t)) }
         ensures held { IfOk result (λ t. HasCleanDisk (state_of S.Store t) → AreKept S.Store t) }
         ensures same { IfOk result (λ t. HasCleanDisk (state_of S.Store t) → (state_of S.Store t).now ≡ (state S.Store conn).committed) }
+        ensures clean { IfOk result (λ t. HasCleanDisk (state_of S.Store t) → HasCleanDisk (state S.Store conn)) }
         ensures rows { IfOk result (λ t. HasCleanDisk (state_of S.Store t) → ReadFrom (state_of S.Store t).now.trees (world_of S.Store t)) }
         ensures stop { IfOk result (λ t. HasCleanDisk (state_of S.Store t) → (h : Held) → MayBeFound (state_of S.Store t) h → IsLeft (held_of S.Store t) h) }
         ensures reopens { IfOk result (λ t. Reopens (state_of S.Store t)) }
@@ -105,6 +106,7 @@ impl<S: Alter + Drop> Tables<S> {
         ensures sound { IfOk result (λ t. HasCleanDisk (state_of S.Store t) → Sound (world_of S.Store t)) }
         ensures held { IfOk result (λ t. HasCleanDisk (state_of S.Store t) → AreKept S.Store t) }
         ensures same { IfOk result (λ t. HasCleanDisk (state_of S.Store t) → (state_of S.Store t).now ≡ (state S.Store conn).committed) }
+        ensures clean { IfOk result (λ t. HasCleanDisk (state_of S.Store t) → HasCleanDisk (state S.Store conn)) }
         ensures rows { IfOk result (λ t. HasCleanDisk (state_of S.Store t) → ReadFrom (state_of S.Store t).now.trees (world_of S.Store t)) }
         ensures stop { IfOk result (λ t. HasCleanDisk (state_of S.Store t) → (h : Held) → MayBeFound (state_of S.Store t) h → IsLeft (held_of S.Store t) h) }
         ensures reopens { IfOk result (λ t. Reopens (state_of S.Store t)) }

@@ -135,6 +135,7 @@ fn reopened<S: Alter + Drop>(alloc: Global, conn: Connection<S>) -> Option<Conne
     ensures ordered { IfSome result (λ c. HasCleanDisk (state S.Store c)
         → AllByRecursion (λ t. IsShaped TableTree ((state S.Store c).now.trees t.tree)) (state S.Store c).now.schema.tables) }
     ensures same { IfSome result (λ c. HasCleanDisk (state S.Store c) → (state S.Store c).now ≡ (state S.Store conn).committed) }
+    ensures clean { IfSome result (λ c. HasCleanDisk (state S.Store c) → HasCleanDisk (state S.Store conn)) }
 {
     let _schema = conn.schema();
     let store = conn.into_store();
@@ -181,6 +182,7 @@ pub fn known<S: Alter + Drop>(
     ensures known { IfOk result (λ c. HasCleanDisk (state S.Store c) → AreKnown (state S.Store c).now) }
     ensures opens { IfOk result (λ c. HasCleanDisk (state S.Store c) → Opens (state S.Store c)) }
     ensures same { IfOk result (λ c. HasCleanDisk (state S.Store c) → (state S.Store c).now ≡ (state S.Store conn).committed) }
+    ensures clean { IfOk result (λ c. HasCleanDisk (state S.Store c) → HasCleanDisk (state S.Store conn)) }
     ensures old { IfErr result (λ e. (n : ℕ) (c : Held S) → e ≡ refused.OldSchema n c → HasCleanDisk (state S.Store c) → AreEarlier n (state S.Store conn).committed) }
     ensures other { IfErr result (λ e. (c : Held S) → e ≡ refused.NotTables c → HasCleanDisk (state S.Store c) → (state S.Store conn).committed.schema ≢ stored_schema) }
     ensures neither { IfErr result (λ e. (c : Held S) → e ≡ refused.NotTables c → HasCleanDisk (state S.Store c) → (n : ℕ) → ¬ AreEarlier n (state S.Store conn).committed) }

@@ -27,3 +27,6 @@ returns-clause-same g c clean =
     let was_open = (c.into_store-store.ensures.undone.kept early).was_open is_open in
     let trees = c.in-Ok.ensures.trees clean ∙ (c.into_store-store.ensures.undone.undone is_open).0 in
     one_database (state g.S.Store c.in-Ok.conn).now (state g.S.Store c.args.conn).committed trees (opened.1 opened.0.is_open).0 (c.schema-schema.ensures.live was_open).1
+
+pub returns-clause-clean : goal.returns-clause-clean
+returns-clause-clean g c clean = omega (arith, c.into_store-store.ensures.quiet.clean, c.in-Ok.ensures.clean, clean)

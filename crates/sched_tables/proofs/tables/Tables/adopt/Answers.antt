@@ -60,6 +60,16 @@ returns-in-Ok-clause-same g c = λ clean.
     let honest = returns-in-Ok-clause-open g c clean in
     shows_the_same taken after opens known reads honest ∙ c.in_ok-conn.ensures.same (early taken after opens known reads honest)
 
+pub returns-in-Ok-clause-clean : goal.returns-in-Ok-clause-clean
+returns-in-Ok-clause-clean g c = λ clean.
+    let taken = state g.S.Store c.in_ok-conn.conn in
+    let read = state g.S.Store c.stored_world-read.new.conn in
+    let after = state g.S.Store c.test_open.new.conn in
+    let opens = c.in_ok-conn.ensures.opens in
+    let known = c.in_ok-conn.ensures.known in
+    let reads = reads_on taken read after c.stored_world-read.ensures.reads c.test_open.ensures.reads in
+    c.in_ok-conn.ensures.clean (early taken after opens known reads (returns-in-Ok-clause-open g c clean))
+
 pub returns-in-Ok-clause-rows : goal.returns-in-Ok-clause-rows
 returns-in-Ok-clause-rows g c = λ clean.
     let taken = state g.S.Store c.in_ok-conn.conn in
