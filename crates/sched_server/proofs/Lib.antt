@@ -2,11 +2,12 @@ mod Told
 mod Answered
 mod Handled
 mod Followed
-mod Stopped
-mod Served
+pub mod Stopped
+pub mod Served
 mod Begun
 mod Lasting
 mod Owners
 mod Former
 mod Standing
 mod Determined
+mod FirstCalls

@@ -1,7 +1,6 @@
 -- Promise. Laws that join the promises of a store, and the laws of every run, for what is stored before and after messages of bytes. (This
 -- project's own: BOINC's rules are in the machine's step.)
 use Rattle.std.specs.Prelude.{◌≡◌, ◌⊎◌, ℕ, suc, ◌<◌, true, List, [], ◌∷◌, ◌++◌, length, map, Option, Some, None}
-use Rattle.http_responses.specs.Answers.{answer_bytes}
 use Rattle.http_responses.specs.declared.answer.Answer.{Answer}
 use Rattle.http_responses.specs.declared.answer.Answer.TheVariants as answer
 use Rattle.http_responses.specs.declared.response.Response.{Response}
@@ -27,7 +26,7 @@ use Rattle.stores.specs.Held.{Held, IsLeft, IsNew}
 use Rattle.message_engine.specs.Stores.{tables_by}
 use Rattle.sched_server.specs.Arrivals.{Came, Answered, answered, StandsFor, StandsIn, StoreStandsFor, HandledInTurn}
 use Rattle.sched_server.specs.Handled.{is_answered, Handles, HandledAs, IsHandled}
-use Rattle.sched_server.specs.Views.{store_of, key_of}
+use Rattle.sched_server.specs.Serving.{ServesMessage}
 use Rattle.sched_server.specs.declared.arrival.Arrival.{Arrival}
 use Rattle.sched_server.specs.declared.service.Service.{Service}
 
@@ -51,21 +50,12 @@ HandledStands {S} store =
     → (upgrade_points : List ℕ) (before : List Came) → StoreStandsFor store key upgrade_points before old → store.clean new
     → StoreStandsFor store key upgrade_points (record { arrival = record { now = now; bytes = bytes }; answer = a } ∷ before) new
 
--- A service agrees with the arrivals before and a message of these bytes, with an answer of this text. It keeps its key.
-pub record StandsServed {S : Type 0} (store : Parts S) (old : Service S) (now : ℕ) (bytes text upgrade_points : List ℕ) (before : List Came) (new : Service S) : Type 0 where
-  pub answer : Answer
-  pub text_is : text ≡ answer_bytes answer
-  pub key : key_of new ≡ key_of old
-  pub stands : StoreStandsFor store (key_of old) upgrade_points (record { arrival = record { now = now; bytes = bytes }; answer = answer } ∷ before) (store_of new)
-
 -- Suppose that a service was served one message, as the clauses of `serve_one` say it: these bytes were read, and this is the text of the
--- answer. Then it agrees with the arrivals before and that message.
+-- answer. Then it handled that message.
 abbrev pub ServedStands : {S : Type 0} → Parts S → Ghosts (Service S) → Type 0
 ServedStands {S} store handler =
     (old new : Service S) (now : ℕ) (bytes text : List ℕ) (unread : Option (List ℕ))
-    → IsAnswered handler.settled handler.handles unread old now bytes text new
-    → (upgrade_points : List ℕ) (before : List Came) → StoreStandsFor store (key_of old) upgrade_points before (store_of old) → store.clean (store_of new)
-    → StandsServed store old now bytes text upgrade_points before new
+    → IsAnswered handler.settled handler.handles unread old now bytes text new → ServesMessage store now bytes text old new
 
 -- with no open transaction, what a stop leaves of a store agrees with what the store agrees with
 abbrev pub WhatIsLeftStands : {S : Type 0} → Parts S → Type 0

@@ -4,5 +4,7 @@ pub mod Meanings
 pub mod Handled
 pub mod Answering
 pub mod Arrivals
+pub mod Serving
 pub mod Laws
 pub mod Classes
+pub mod FirstCalls

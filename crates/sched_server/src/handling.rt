@@ -8,6 +8,7 @@ ghost use Rattle.http_responses.specs.declared.answer.Answer as given;
 ghost use Rattle.sched_book.specs.Trusted.{Trusted};
 ghost use Rattle.stores.specs.Acting.{Acts};
 ghost use Rattle.sched_server.specs.Arrivals.{Came, StoreStandsFor};
+ghost use Rattle.sched_server.specs.Serving.{ServiceStandsFor};
 ghost use Rattle.sched_server.specs.Handled.{is_answered, HandledAs, IsHandled};
 ghost use Rattle.sched_server.specs.Views.{store_of, key_of};
 
@@ -32,8 +33,9 @@ impl<S: Store + Drop> Service<S> {
         ensures store { IfOk result (λ service. S.reads store (store_of service)) }
         ensures key { IfOk result (λ service. Trusted S.Units store (store_of service) (
             key_of service ≡ (S.world store).settings.operator_key)) }
-        ensures stands { (key upgrade_points : List ℕ) (before : List Came) → StoreStandsFor S.Store key upgrade_points before store → IfOk result (λ service.
-            StoreStandsFor S.Store key upgrade_points before (store_of service) × (S.honest (store_of service) → key ≡ key_of service)) }
+        ensures stands { (key upgrade_points : List ℕ) (before : List Came) → StoreStandsFor S.Store key upgrade_points before store
+            → IfOk result (ServiceStandsFor S.Store key upgrade_points before) }
+        ensures reopens { (S.honest store → S.well_kept store) → S.reopens store → IfOk result (λ service. S.reopens (store_of service)) }
         ensures back { IfErr result (S.reads store) }
     {
         let Ok(settings) = store.settings(alloc) else {
@@ -88,6 +90,7 @@ impl<S: Store> Service<S> {
         ensures shut { S.clean (store_of self.new) → result ≡ Ok false → ¬ S.honest (store_of self.new) }
         ensures stands { (key upgrade_points : List ℕ) (before : List Came) → StoreStandsFor S.Store key upgrade_points before (store_of self.old)
             → StoreStandsFor S.Store key upgrade_points before (store_of self.new) }
+        ensures reopens { (S.honest (store_of self.old) → S.well_kept (store_of self.old)) → S.reopens (store_of self.old) → S.reopens (store_of self.new) }
         ensures key { key_of self.new ≡ key_of self.old }
     {
         self.store.is_open()

@@ -6,6 +6,7 @@ ghost use Rattle.sched_machine.specs.Classes.{ClassesStay};
 ghost use Rattle.sched_machine.specs.Decisions.{CanonicalsStay, VerdictsStay, StatusesStay, CreditsStay, CreditsAddUp};
 ghost use Rattle.sched_machine.specs.Runs.{OwnersStay, ReportsStay, LapsesStay, OneForEachUser};
 ghost use Rattle.sched_server.specs.Classes.{OwnersAreOfClassesAtAMessage, OwnersAreOfClassesOverMessages, OwnersWereGiven};
+ghost use Rattle.sched_server.specs.FirstCalls.{FirstCallsAreSteps};
 ghost use Rattle.sched_server.specs.Laws.{NewStoresStand, HandledStands, ServedStands, ReadsStand, WhatIsLeftStands, StopsAreHandled, ReopenedStands, UpgradedStands, FormerWorldsAreUnclassed, StoresAreDetermined, HoldsOfWhatStands, Lasts, HoldsOverStops, AllStay, DeadlinesMoveByResendsAlone, DeadlinesMoveByResendsOverMessages, NoHeldJobDropsFromSight};
 
 use crate::service::Service;
@@ -23,9 +24,9 @@ pub fn handled_stands<S: Store>()
     ensures { HandledStands S.Store }
 {}
 
-/// A service that [`http_serving::serve_one`] serves, over a reader and a writer, still agrees with all arrivals. The
-/// message is the bytes that were read. Its answer has the text that was written. If the writer failed, it has the text
-/// of which a front was written. If there was no memory for the whole message, it is unavailable.
+/// A service that [`http_serving::serve_one`] served, over a reader and a writer, handled one message. Its bytes are
+/// those that were read. Its answer has the text that was written. If the writer failed, it has the text of which a
+/// front was written. If there was no memory for the whole message, it is unavailable.
 pub fn served_stands<S: Store>()
     ensures { ServedStands S.Store ⟦<Service<S> as Handler>⟧ }
 {}
@@ -149,6 +150,12 @@ pub fn one_for_each_user()
 /// just what it held, lists and did not report, and what the reply names.
 pub fn no_held_job_drops_from_sight()
     ensures { NoHeldJobDropsFromSight }
+{}
+
+/// A first-heard call of a host is a step of the machine. Its reply has one job for each instance that the call sends
+/// again or grants, in order, and the host then holds each of them. A grant alone changes the class of a workunit.
+pub fn first_calls_are_steps()
+    ensures { FirstCallsAreSteps }
 {}
 
 /// A workunit that keeps to a class keeps to it for ever. One that is not marked is never marked.

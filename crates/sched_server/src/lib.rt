@@ -1,7 +1,7 @@
 //! The scheduler as an HTTP server: what the bytes of a message do, and the bytes that answer them.
 //!
 //! A [`Service`] hears a message, does what it means to any store, and answers it. It owns all bytes of its answer
-//! before the store commits. [`serve_one`] serves it over a reader and a writer.
+//! before the store commits. [`Service::serve`] serves one message over a reader and a writer.
 #![tactic(auto)]
 
 mod answers;
@@ -10,6 +10,7 @@ mod handling;
 pub mod laws;
 mod running;
 mod service;
+mod serving;
 mod statements;
 
 pub use arrival::Arrival;
