@@ -1,1 +1,2 @@
 mod Upgraded
+mod Stopped

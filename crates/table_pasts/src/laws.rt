@@ -1,6 +1,7 @@
 //! Laws of tables and of messages. Each function does nothing; its contract is the law.
 
 ghost use Rattle.table_pasts.specs.Laws.{UpgradedTablesStand};
+ghost use Rattle.table_pasts.specs.Stops.{OpenedTablesStand, StoppedTablesStand, StoppedUpgradesStand};
 
 use sched_server::laws::{former_worlds_are_unclassed, reopened_stands, upgraded_stands};
 use sched_tables::Tables;
@@ -18,4 +19,26 @@ pub fn upgraded_tables_stand<S: Alter + Drop>()
     upgraded_stands();
     upgraded_holds::<S>();
     reopened_stands::<Tables<S>>();
+}
+
+/// Tables that were opened agree with all that the rows of their database agree with.
+pub fn opened_tables_stand<S: Alter + Drop>()
+    ensures { OpenedTablesStand S.Store ⟦<Tables<S> as Store>⟧ }
+{
+    reopened_stands::<Tables<S>>();
+}
+
+/// What a stop leaves of tables can be opened again, if the tables could be. What is opened agrees with all that the
+/// tables agree with, or with that and one message in doubt.
+pub fn stopped_tables_stand<S: Alter + Drop>()
+    ensures { StoppedTablesStand S.Store ⟦<Tables<S> as Store>⟧ }
+{}
+
+/// What a stop leaves of an upgrade agrees with all that the tables agreed with: the tables as they were, or those of a
+/// later schema, with one more upgrade point for each step that was made.
+pub fn stopped_upgrades_stand()
+    ensures { StoppedUpgradesStand }
+{
+    former_worlds_are_unclassed();
+    upgraded_stands();
 }
