@@ -9,7 +9,8 @@
 mod tests;
 
 use command_line::{Order, OrderFault, order_of};
-use commands::{Failure, perform};
+use commands::{Failure, Performed, perform};
+use sqlite::Unknown;
 use std::io::Write;
 use std::process::ExitCode;
 use std::{env, io};
@@ -45,8 +46,10 @@ fn ordered(rt: &HostRuntime, order: Result<Order, OrderFault>) -> io::Result<Exi
     }
 }
 
+/// Carries out an order. What the tables' file holds is not known: the contract of [`perform`] holds for anything.
 fn carried_out(rt: &HostRuntime, order: &Order) -> io::Result<ExitCode> {
-    match perform(rt, order) {
+    let Performed { ended, left: _left } = perform(rt, order, Unknown);
+    match ended {
         Ok(outcome) => Ok(ExitCode::from(outcome.status())),
         Err(failure) => failed(rt, failure),
     }

@@ -1,5 +1,7 @@
 //! How an order ends.
 
+ghost use Rattle.std.specs.Prelude.{◌≡◌, Some, None};
+
 use replay_lines::Ended;
 use sched_tables::{OpenFault, Refused};
 use sqlite::{Alter, Error, ErrorCode};
@@ -102,6 +104,36 @@ impl From<OpenFault> for Failure {
 impl<S: Alter + Drop> From<Refused<S>> for Failure {
     fn from(refused: Refused<S>) -> Failure {
         Failure::from(OpenFault::from(refused))
+    }
+}
+
+/// What an order came to.
+#[derive(Drop)]
+pub struct Performed<S> {
+    /// How it ended.
+    pub ended: Result<Outcome, Failure>,
+    /// The store under its tables, if they could be opened. The files are closed when this is dropped.
+    pub left: Option<S>,
+}
+
+impl<S> Performed<S> {
+    /// An order that opened no tables.
+    pub(crate) fn without_tables(ended: Result<Outcome, Failure>) -> Performed<S>
+        ensures ended { result.ended ≡ ended }
+        ensures left { result.left ≡ None }
+    {
+        Performed { ended, left: None }
+    }
+
+    /// An order that leaves a store.
+    pub(crate) fn leaving(ended: Result<Outcome, Failure>, left: S) -> Performed<S>
+        ensures ended { result.ended ≡ ended }
+        ensures left { result.left ≡ Some left }
+    {
+        Performed {
+            ended,
+            left: Some(left),
+        }
     }
 }
 

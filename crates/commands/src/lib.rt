@@ -1,18 +1,20 @@
 //! What the program does at each order of an operator.
 //!
-//! All that is proved here is that it is safe and ends. What is printed, files and sockets are tested. The tables are changed
-//! by [`sched_server::Service::handle`], [`sched_tables::Tables::create`] and [`sched_tables::upgrade`], whose contracts say
-//! what they do.
+//! [`perform`] carries the theorem from a file to a file: what it leaves of the tables' file agrees with the messages
+//! that came before and with those that it handled, even after a stop. What is printed, files and sockets are tested.
 #![tactic(auto)]
 
+mod answering;
 mod connection;
+mod database;
 mod ending;
 mod files;
 mod new_file;
 mod orders;
+mod replaying;
 mod serving;
 
-pub use ending::{Failure, Outcome};
-pub use files::{Visit, visit_file};
-pub use orders::{default_settings, perform};
+pub use ending::{Failure, Outcome, Performed};
+pub use orders::perform;
+pub use replaying::default_settings;
 pub use serving::serve_on;

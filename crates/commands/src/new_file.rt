@@ -41,8 +41,9 @@ fn is_refused(path: &str) -> bool {
     path == ":memory:" || path.starts_with("file:")
 }
 
-/// Makes the file of a new project, if there is none. A stop within it leaves no file, an empty one, or an empty database. In
-/// each case tables can still be made.
+/// Makes the file of a new project, if there is none. If the process is killed within it, it leaves no file, an empty one, or an
+/// empty database, and tables can still be made. A power failure before the sync may leave other bytes, over which no tables are
+/// made: remove the file then.
 pub(crate) fn make_file(rt: &HostRuntime, path: &str) -> Result<(), Failure> {
     if is_refused(path) {
         return Ok(());

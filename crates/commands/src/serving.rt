@@ -1,8 +1,12 @@
 //! Connections, one after the other.
 
+ghost use Rattle.std.specs.Prelude.{◌≡◌, ◌≤◌, List, length, Option, OnOk};
+ghost use Rattle.sched_server.specs.Arrivals.{Came};
+ghost use Rattle.sched_server.specs.Serving.{ServesConnection, ServesInTurn, messages_of};
+
 use crate::connection::{Timed, linger};
 use crate::ending::Failure;
-use http_serving::{FromRead, FromWrite, serve_one};
+use http_serving::{FromRead, FromWrite};
 use sched_server::Service;
 use std::net::{TcpListener, TcpStream};
 use std::time::SystemTime;
@@ -16,6 +20,9 @@ const MOST_SECONDS: u64 = 10;
 /// 10 seconds, or if the client does not take the answer within 10 seconds. If the clock can't be read, the answer is
 /// `unavailable`.
 ///
+/// At most one message of each connection is handled. A store that agreed with some messages agrees afterwards with
+/// these in front of them.
+///
 /// # Errors
 ///
 /// [`Failure::Unavailable`] after the connection at which a fault of the disk shut the store. Opened again, the store has
@@ -25,11 +32,12 @@ pub fn serve_on<S: Store>(
     service: &mut Service<S>,
     listener: &TcpListener,
     count: u32,
-) -> Result<(), Failure> {
+) -> Result<(), Failure>
+    ensures served { (connections : List (Option Came)) × (length connections ≤ count) × OnOk result (length connections ≡ count)
+        × ServesInTurn S.Store (messages_of connections) service.old service.new }
+{
     for _ in 0..count {
-        if let Ok((stream, _)) = listener.accept() {
-            serve_stream(rt, service, &stream);
-        }
+        serve_next(rt, service, listener);
         if let Ok(false) = service.is_open() {
             return Err(Failure::Unavailable);
         }
@@ -37,17 +45,23 @@ pub fn serve_on<S: Store>(
     Ok(())
 }
 
+/// Accepts a connection and serves it.
+fn serve_next<S: Store>(rt: &HostRuntime, service: &mut Service<S>, listener: &TcpListener)
+    ensures { (came : Option Came) × ServesConnection S.Store came service.old service.new }
+{
+    if let Ok((stream, _)) = listener.accept() {
+        serve_stream(rt, service, &stream);
+    }
+}
+
 /// Serves a connection. After an answer it lingers, and a fault in that has no effect.
-fn serve_stream<'a, S: Store>(
-    rt: &'a HostRuntime,
-    service: &mut Service<S>,
-    stream: &'a TcpStream,
-) {
+fn serve_stream<'a, S: Store>(rt: &'a HostRuntime, service: &mut Service<S>, stream: &'a TcpStream)
+    ensures { (came : Option Came) × ServesConnection S.Store came service.old service.new }
+{
     let mut reader = Timed::new(rt, stream, MOST_SECONDS);
     let mut writer = Timed::new(rt, stream, MOST_SECONDS);
-    let served = serve_one(
+    let served = service.serve(
         rt.alloc(),
-        service,
         seconds_now(rt),
         &mut FromRead(&mut reader),
         &mut FromWrite(&mut writer),

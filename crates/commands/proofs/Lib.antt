@@ -1,0 +1,4 @@
+mod Messages
+mod Stores
+mod Databases
+mod InFiles

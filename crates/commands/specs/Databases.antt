@@ -1,0 +1,76 @@
+-- Promise. What an order leaves of the database of its file, and of what a stop may leave of it. (This project's own.)
+use Rattle.std.specs.Prelude.{◌≡◌, ◌-◌, ℕ, List, [], ◌++◌, IsTrue}
+use Rattle.sqlite.specs.Effect.{Database}
+use Rattle.sqlite.specs.Held.{AreDatabases}
+use Rattle.sqlite.specs.State.{State, HasCleanDisk, Opens}
+use Rattle.sqlite_trees.specs.Tree.{Trees}
+use Rattle.sqlite_trees.specs.View.{IsClean}
+use Rattle.sqlite_trees.specs.declared.store.Store.{Ghosts}
+use Rattle.sched_book.specs.Limits.{AreSettingsInLimits}
+use Rattle.sched_book.specs.declared.settings.Settings.{Settings}
+use Rattle.sched_book.specs.declared.world.World.{World}
+use Rattle.stores.specs.Acting.{Parts}
+use Rattle.stores.specs.Eras.{this_era, new_upgrade_points}
+use Rattle.sched_server.specs.Arrivals.{Came, StandsFor, StandsIn, StoreStandsFor}
+use Rattle.sched_tables.specs.Commits.{Imports}
+use Rattle.sched_tables.specs.Upgrading.{held_with}
+use Rattle.sched_tables.specs.Views.{held_in}
+use Rattle.table_meaning.specs.Schemas.{IsSchema}
+use Rattle.table_meaning.specs.Upgrades.{HoldWorldAt}
+use Rattle.table_meaning.specs.Worlds.{SlotCalls}
+use Rattle.table_pasts.specs.Stops.{OpensAndStands, StandSince}
+use Rattle.commands.specs.Messages.{AreOf}
+use Rattle.commands.specs.declared.database.Action.{Action}
+use Rattle.commands.specs.declared.database.Action.TheVariants as action
+
+-- A store that a connection gave back. If the disk returned what was written, whatever a stop may leave is a database.
+pub record IsGivenBack {S : Type 0} (g : Ghosts S) (s : S) : Type 0 where
+  pub numbered : IsClean (g.view s) → IsTrue (g.view s).is_numbered
+  pub databases : IsClean (g.view s) → AreDatabases (g.recovers s)
+
+-- a database with these trees, of which P holds
+abbrev pub HasDatabase : (Database → Type 0) → Trees → Type 0
+HasDatabase P trees = (db : Database) × (db.trees ≡ trees) × P db
+
+-- P holds of each database that a stop may leave of a store, if the disk returned what was written
+abbrev pub HoldsOverAStop : {S : Type 0} → Ghosts S → (Database → Type 0) → S → Type 0
+HoldsOverAStop g P s = IsClean (g.view s) → (trees : Trees) → g.recovers s trees → HasDatabase P trees
+
+-- ---- new tables
+
+-- The store has new tables with these settings. What a stop leaves agrees with no messages.
+abbrev pub MakesTables : {S : Type 0} → Ghosts S → Settings → S → Type 0
+MakesTables g settings s = AreSettingsInLimits settings → HoldsOverAStop g (OpensAndStands settings.operator_key (new_upgrade_points this_era) []) s
+
+-- ---- tables that handle messages
+
+-- A store was handed these messages, the newest first. If it agreed with some arrivals, it agrees with these in front of them.
+pub record ServesStore {S : Type 0} (store : Parts S) (came : List Came) (old new : S) : Type 0 where
+  pub was_clean : store.clean new → store.clean old
+  pub stands : (key upgrade_points : List ℕ) (before : List Came) → StoreStandsFor store key upgrade_points before old → store.clean new
+      → StoreStandsFor store key upgrade_points (came ++ before) new
+  pub reopens : (store.honest old → store.well_kept old) → store.reopens old → store.reopens new
+
+-- So it is with tables: suppose that what was committed agreed with some arrivals. Then what a stop leaves agrees with these messages in
+-- front of them, or with these and one message in doubt, and can be opened.
+pub record ServesTables {S : Type 0} (g : Ghosts S) (came : List Came) (old : State) (s : S) : Type 0 where
+  pub was_clean : IsClean (g.view s) → HasCleanDisk old
+  pub stands : (key upgrade_points : List ℕ) (before : List Came) → StandsFor key (held_in old.committed.trees) upgrade_points before
+      → HoldsOverAStop g (OpensAndStands key upgrade_points (came ++ before)) s
+
+-- ---- upgraded tables
+
+-- Suppose that the connection was opened anew, and that tables of some schema agreed with some arrivals, in the era of that schema. Then what
+-- a stop leaves of their upgrade agrees with the same arrivals.
+pub record UpgradesTables {S : Type 0} (g : Ghosts S) (old : State) (s : S) : Type 0 where
+  pub was_clean : IsClean (g.view s) → HasCleanDisk old
+  pub stands : Opens old → (n : ℕ) → IsSchema n → (w : World) (calls : SlotCalls) (batches : Imports) (key upgrade_points : List ℕ) (before : List Came)
+      → HoldWorldAt n old.committed w calls batches → StandsIn (n - 1) key (held_with w calls batches) upgrade_points before
+      → HoldsOverAStop g (StandSince n w calls batches key upgrade_points before) s
+
+-- ---- what an action leaves
+
+abbrev pub LeavesDatabase : {S : Type 0} → Ghosts S → Action → State → S → Type 0
+LeavesDatabase g (action.Create settings) old s = MakesTables g settings.now s
+LeavesDatabase g action.Upgrade old s = UpgradesTables g old s
+LeavesDatabase g (action.Handle task) old s = (came : List Came) × AreOf task came × ServesTables g came old s

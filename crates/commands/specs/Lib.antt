@@ -1,0 +1,3 @@
+pub mod Messages
+pub mod Databases
+pub mod Files

@@ -1,0 +1,175 @@
+//! What a service over the tables of a file is to do, and the messages that this takes.
+
+ghost use Rattle.std.specs.Prelude.{◌≡◌, ◌≤◌, ◌∷◌, [], List, length, decimal, IfOk};
+ghost use Rattle.std.specs.String.{string_bytes};
+ghost use Rattle.sched_server.specs.Arrivals.{Came};
+ghost use Rattle.sched_server.specs.Serving.{ServesInTurn};
+ghost use Rattle.commands.specs.Messages.{AreOf, IsImport, IsTick, IsStatement, AtMostOne, HasArrived};
+
+use crate::ending::{Failure, Outcome};
+use crate::files::bytes_of;
+use crate::serving::serve_on;
+use http_requests::{import_request, statement_request, tick_request};
+use http_responses::Media;
+use http_serving::Handler;
+use sched_book::Moment;
+use sched_book::limits::MOST_IMPORT_BYTES;
+use sched_server::{Answer, Service};
+use std::alloc::Global;
+use std::io;
+use std::io::Write;
+use std::net::TcpListener;
+use stores::Store;
+use texts::Memory;
+
+/// What the service over the tables of a file is to do.
+#[derive(Drop)]
+pub(crate) enum Task<'a> {
+    Serve {
+        port: u16,
+        count: u32,
+    },
+    Import {
+        kind: &'a str,
+        batch: &'a str,
+        file: &'a str,
+    },
+    Tick {
+        at: Moment,
+    },
+    Statement {
+        host: u32,
+    },
+}
+
+/// Does a task. The service handles the messages of the task, or some first part of them.
+pub(crate) fn perform_by<S: Store>(
+    rt: &HostRuntime,
+    service: &mut Service<S>,
+    task: &Task<'_>,
+) -> Result<Outcome, Failure>
+    ensures { (came : List Came) × AreOf task.now came × ServesInTurn S.Store came service.old service.new }
+{
+    match task {
+        Task::Serve { port, count } => serve(rt, service, *port, *count),
+        Task::Import { kind, batch, file } => import(rt, service, kind, batch, file),
+        Task::Tick { at } => tick(rt, service, *at),
+        Task::Statement { host } => statement(rt, service, *host),
+    }
+}
+
+/// Serves `count` connections on a port of 127.0.0.1. It ends early if a fault of the disk shuts the tables.
+fn serve<S: Store>(
+    rt: &HostRuntime,
+    service: &mut Service<S>,
+    port: u16,
+    count: u32,
+) -> Result<Outcome, Failure>
+    ensures { (came : List Came) × (length came ≤ count) × ServesInTurn S.Store came service.old service.new }
+{
+    let listener = TcpListener::bind(rt, ("127.0.0.1", port))?;
+    serve_on(rt, service, &listener, count)?;
+    Ok(Outcome::Done)
+}
+
+/// Imports the batch in a file. Its moment is 0, since an import does not depend on it.
+fn import<S: Store>(
+    rt: &HostRuntime,
+    service: &mut Service<S>,
+    kind: &str,
+    batch: &str,
+    file: &str,
+) -> Result<Outcome, Failure>
+    ensures { (came : List Came) × AtMostOne 0 (IsImport kind.now batch.now) came × ServesInTurn S.Store came service.old service.new }
+{
+    let message = import_message(rt, service.operator_key(), kind, batch, file)?;
+    answer(rt, service, 0, &message)
+}
+
+/// The message that imports the batch in a file, with the operator's key.
+fn import_message(
+    rt: &HostRuntime,
+    key: &str,
+    kind: &str,
+    batch: &str,
+    file: &str,
+) -> Result<Vec<u8>, Failure>
+    ensures { IfOk result (λ message. IsImport kind.now batch.now message.items) }
+{
+    let text = bytes_of(rt, file, MOST_IMPORT_BYTES)?;
+    let message = import_request(rt.alloc(), key, kind, batch, &text)?;
+    Ok(message)
+}
+
+/// Sends a tick at a moment.
+fn tick<S: Store>(
+    rt: &HostRuntime,
+    service: &mut Service<S>,
+    at: Moment,
+) -> Result<Outcome, Failure>
+    ensures { (came : List Came) × AtMostOne at IsTick came × ServesInTurn S.Store came service.old service.new }
+{
+    let message = tick_request(rt.alloc(), service.operator_key())?;
+    answer(rt, service, at.seconds(), &message)
+}
+
+/// Prints the statement of a host.
+fn statement<S: Store>(
+    rt: &HostRuntime,
+    service: &mut Service<S>,
+    host: u32,
+) -> Result<Outcome, Failure>
+    ensures { (came : List Came) × AtMostOne 0 (IsStatement host) came × ServesInTurn S.Store came service.old service.new }
+{
+    let message = statement_message(rt.alloc(), service.operator_key(), host)?;
+    answer(rt, service, 0, &message)
+}
+
+/// The message that asks for the statement of a host, with the operator's key.
+fn statement_message(alloc: Global, key: &str, host: u32) -> Result<Vec<u8>, Memory>
+    ensures { IfOk result (λ message. IsStatement host message.items) }
+{
+    let number = number_text(alloc, host)?;
+    let message = statement_request(alloc, key, number.as_str())?;
+    Ok(message)
+}
+
+/// A number in decimal.
+fn number_text(alloc: Global, number: u32) -> Result<String, Memory>
+    ensures { IfOk result (λ text. string_bytes text ≡ decimal number) }
+{
+    format!(in alloc; "{number}")
+}
+
+/// Passes a message to the service at a moment, in seconds since 1970-01-01T00:00:00Z, and prints the body of the answer.
+fn answer<S: Store>(
+    rt: &HostRuntime,
+    service: &mut Service<S>,
+    now: u64,
+    message: &[u8],
+) -> Result<Outcome, Failure>
+    ensures { (c : Came) × HasArrived now message.now c × ServesInTurn S.Store (c ∷ []) service.old service.new }
+{
+    let answer = Handler::handle(service, rt.alloc(), now, message);
+    outcome_of(rt, &answer)
+}
+
+/// Prints the body of an answer, and says how its order ended.
+fn outcome_of(rt: &HostRuntime, answer: &Answer) -> Result<Outcome, Failure> {
+    print(rt, answer)?;
+    match answer.status() {
+        200 => Ok(Outcome::Done),
+        503 => Err(Failure::Unavailable),
+        _ => Ok(Outcome::Refused),
+    }
+}
+
+/// Prints a body, and a line feed if it does not end with one.
+fn print(rt: &HostRuntime, answer: &Answer) -> io::Result<()> {
+    let mut writer = io::writer(rt);
+    writer.write_all(answer.body().as_bytes())?;
+    if let Media::Json = answer.media() {
+        writer.write_all(b"\n")?;
+    }
+    writer.flush()
+}
