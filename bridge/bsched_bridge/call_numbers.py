@@ -37,8 +37,8 @@ class TooManyHosts(Exception):
 class ClientState:
     """What a client's request says about its number, which is stored with the call."""
 
-    seqno: int | None = None  # the client's rpc_seqno, if it sent the number that it was told
-    copy_of: int | None = None  # the hostid of which the client is a copy
+    seqno: int | None = None  # the client's rpc_seqno, if it sent the number that it was given
+    copy_of: int | None = None  # the hostid of the host that the client is a copy of
 
 
 class CallNumbers:
@@ -130,7 +130,7 @@ class CallNumbers:
 
     def refused(self, key: Key) -> None:
         """Closes the open call of a key after a refusal, so the call changed nothing. If bsched knows no host
-        of the key, and no client was told a number, the key is forgotten.
+        of the key, and no client was given a number, the key is forgotten.
         """
         with self.file.transaction(is_synced=False) as connection:
             values = key.authenticator, key.host_cpid
@@ -168,9 +168,9 @@ class CallNumbers:
             )
             first_heard(connection, key.authenticator, reply.user_name, now)
 
-    def told_hostid(self, key: Key) -> int | None:
-        """Returns the number of a host, which its client is told with this reply. The host has one if a
-        client was told it before; else it gets a new one. It is on the disk before this returns. The client
+    def given_hostid(self, key: Key) -> int | None:
+        """Returns the number of a host, which its client gets with this reply. The host has one if a
+        client was given it before; else it gets a new one. It is on the disk before this returns. The client
         counts its requests from 0 again. If the account was deleted just now, there is no number.
         """
         with self.file.transaction() as connection:

@@ -49,7 +49,7 @@ class Answered:
     """The reply to a request."""
 
     reply: Reply
-    hostid: int | None = None  # the number that the client is told, if it did not send it
+    hostid: int | None = None  # the number that the client gets, if it did not send it
     notice: str | None = None  # what the volunteer reads
 
 
@@ -163,7 +163,7 @@ class Exchange:
 
     def _of_unknown(self, request: ClientRequest, original: KnownHost | None) -> Answered | PutOff:
         """Returns the reply to a client that has no number, one that the bridge does not know, or that of the
-        host of which it is a copy. A client is the host that its host_cpid names, unless another one has its
+        host that it is a copy of. A client is the host that its host_cpid names, unless another one has its
         results. Then it is a new host, and so is a copy, as in BOINC.
         """
         client = ClientState()
@@ -183,15 +183,15 @@ class Exchange:
                 # Of results that the original does not have, bsched does not know that it gave them out, for
                 # example after a restore. Nobody can report them, so the copy forgets them, too.
                 holders = {name: holders.get(name, key) for name in names_of(request.results)}
-        return self._told(request, key, holders, client)
+        return self._numbered(request, key, holders, client)
 
-    def _told(
+    def _numbered(
         self, request: ClientRequest, key: Key, holders: dict[str, Key], client: ClientState
     ) -> Answered | PutOff:
-        """Returns the reply to a client that is told the number of a host.
+        """Returns the reply to a client that gets the number of a host.
 
         Results that another host of the account has are reported for that host. Results that no host is known
-        to have are not reported. As long as there are any, the client is told no number, since with a number
+        to have are not reported. As long as there are any, the client gets no number, since with a number
         its reports would be acknowledged, and it gets no job.
         """
         unheld = [name for name in names_of(request.results) if name not in holders]
@@ -213,7 +213,7 @@ class Exchange:
         if isinstance(reply, PutOff):
             return reply
         reply = replace(reply, result_ack=reply.result_ack + acknowledged)
-        return Answered(reply, self.numbers.told_hostid(key))
+        return Answered(reply, self.numbers.given_hostid(key))
 
     def _reported_aside(
         self, request: ClientRequest, holders: dict[str, Key], but: Key | None
@@ -269,7 +269,7 @@ class Exchange:
         if not owners or key in owners:
             return key, holders
         if len(owners) == 1 and self.hosts.has_former_number(owner := owners.pop()):
-            return owner, holders  # its host_cpid has changed, and it was told no number since the upgrade
+            return owner, holders  # its host_cpid has changed, and it got no number since the upgrade
         return (key if self.hosts.scheduler_hostid(key) is None else None), holders
 
     def _has_host(self, key: Key) -> bool:

@@ -189,7 +189,7 @@ class Hosts:
 
     def user_credits(self) -> list[tuple[str, int]]:
         """Returns each account that has had a reply, with its credit from the latest reply to one of its
-        hosts. A reply of which the clock said that it was in the future is older than all others.
+        hosts. A reply that came in the future, by the clock, is older than all others.
         """
         rows = self.file.rows(
             "SELECT authenticator, user_credit, max(CASE WHEN heard_at <= ? THEN heard_at ELSE 0 END) "

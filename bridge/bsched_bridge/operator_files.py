@@ -9,7 +9,7 @@ from typing import Any, NoReturn, cast
 
 from .words import is_word
 
-LEAST_LIKENESS = 0.75  # of two names, of which one may be meant as the other
+LEAST_LIKENESS = 0.75  # of two names, if one may be meant as the other
 MOST_TEXT = 65_536  # characters of a file whose text is shown on a page
 TABLE = re.compile(r"[ \t]*\[\[?[ \t]*([A-Za-z0-9_-]+)[ \t]*\]\]?")
 

@@ -52,7 +52,7 @@ class State:
         return "barred" if reason is not None or is_listed else ""
 
     def found(self, name: str) -> Member:
-        """Returns the account with an e-mail address, a name or a key, of which the first characters do."""
+        """Returns the account with an e-mail address, a name or a key, whose first characters do."""
         found = self.members.with_name(name, LEAST_KEY)
         if not found:
             raise OrderFault(f"no account has the address, name or key {name}")

@@ -20,7 +20,7 @@ MOST_XML = 4 * 1024 * 1024  # bytes of a request without its standard errors
 MOST_ERROR = 512 * 1024
 MOST_ERRORS = 2000
 MOST_OUTPUT = 1024
-MOST_LOOKED_AT = 65_536  # bytes at the front of an answer, of which the output is the first 1,024
+MOST_LOOKED_AT = 65_536  # bytes at the front of an answer: the output is the first 1,024 of them
 
 ERROR, MESSAGE = b"<stderr_out>", b"<msg_from_host>"
 SECTION = re.compile(ERROR + b"|" + MESSAGE)

@@ -23,7 +23,7 @@ CREATE TABLE host (
   hostid INTEGER,             -- the bridge's number of the host, once a client was told it
   -- the client's rpc_seqno in its last request with that number; NULL before the first one
   client_seqno INTEGER,
-  copy_of INTEGER,            -- the hostid of the computer of which the host is a copy
+  copy_of INTEGER,            -- the hostid of the computer that the host is a copy of
   has_former_number INTEGER NOT NULL DEFAULT 0,  -- 1: a former version told a number, which is not known
   scheduler_hostid INTEGER,   -- bsched's number of the host in its tables, by the last reply
   last_number INTEGER NOT NULL,  -- the rpc_seqno of the last call

@@ -132,7 +132,7 @@ class UploadStore:
         now = time.monotonic()
         if not self._logged_at or now > self._logged_at + LOG_SECONDS:
             self._logged_at = now
-            log.error("%s: clients are told to try again later", why)
+            log.error("%s: clients are asked to try again later", why)
         raise NotNow(why)
 
     def receive(self, sent: SentFile, blocks: Iterable[bytes]) -> None:

@@ -2,7 +2,7 @@
 
 Above 8,192 bytes the client first asks how much of the file the project has. The answer is always 0: nothing
 incomplete is kept, so an upload that broke off is sent from its beginning. Then the client sends a head,
-which looks like XML and ends with `<data>`, and after it the bytes of the file, with nothing behind them.
+which looks like XML and ends with `<data>`, and after it the bytes of the file, with nothing after them.
 
 The client gives up for good after status -1, and the volunteer's work is lost. So -1 is the answer to a
 forged or faulty message alone. After status 1 the client tries again later, for up to 90 days.

@@ -237,7 +237,7 @@ class Life:
             grant = other.working.get(name) or other.finished.get(name)
             if other is client or grant is None or name in other.aborted:
                 continue
-            # copies are one host until they are told apart; without the state file that may take long
+            # copies are one host until the bridge tells them apart; without the state file that may take long
             is_one_host = other.image == client.image and (
                 other.heard_as == client.heard_as or grant.state != self.state
             )

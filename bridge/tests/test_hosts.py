@@ -119,7 +119,7 @@ def test_an_older_state_file_and_a_changed_host_cpid(two, twin, monkeypatch):
     two.file.close()
     older = {path: path.read_bytes() for path in two.folder.glob("bridge.db*")}
     two.start()
-    with two.file.transaction() as connection:  # B is told another number, as after a former loss
+    with two.file.transaction() as connection:  # B gets another number, as after a former loss
         connection.execute("UPDATE host SET hostid = 200000 WHERE host_cpid = 'b'")
     two.call(request(hostid=200_000, cpid="new", listed=["u2_0"], seconds=0))
     two.file.close()

@@ -1,6 +1,6 @@
 """Which results were given out before, in a file.
 
-For each file of tables it has the workunits of which no further result can come, as ranges of their numbers.
+For each file of tables it has the workunits that no further result can come of, as ranges of their numbers.
 For other workunits it has the place of the last result that was given out.
 """
 import fcntl
@@ -26,7 +26,7 @@ class Given:
     closed: set[int] = field(default_factory=set)
     places: dict[int, int] = field(default_factory=dict)
     printed: int = 0  # workunits with new results in this run
-    left_out: int = 0  # decided workunits of which all results were given out before
+    left_out: int = 0  # decided workunits, all of whose results were given out before
 
 
 def ranges_of(numbers: set[int]) -> list[list[int]]:
