@@ -28,7 +28,7 @@ pub record IsGivenBack {S : Type 0} (g : Ghosts S) (s : S) : Type 0 where
   pub numbered : IsClean (g.view s) → IsTrue (g.view s).is_numbered
   pub databases : IsClean (g.view s) → AreDatabases (g.recovers s)
 
--- a database with these trees, of which P holds
+-- a database with these trees, for which P is true
 abbrev pub HasDatabase : (Database → Type 0) → Trees → Type 0
 HasDatabase P trees = (db : Database) × (db.trees ≡ trees) × P db
 

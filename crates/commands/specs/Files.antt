@@ -25,7 +25,7 @@ use Rattle.commands.specs.Messages.{AreOf, AtMostOne, IsImport, IsTick, IsStatem
 use Rattle.commands.specs.declared.database.Action.{Action}
 use Rattle.commands.specs.declared.database.Action.TheVariants as action
 
--- The two files of a database, its log and its database file, hold a database of which P holds. An opening finds it.
+-- The two files of a database, its log and its database file, hold a database for which P is true. An opening finds it.
 abbrev pub FilesHold : (Database → Type 0) → Image → Type 0
 FilesHold P image = ∥ ((db : Database) × HoldsDatabase image db.trees × P db) ∥₁
 
@@ -34,7 +34,7 @@ abbrev pub RowsStand : List ℕ → List ℕ → List Came → Database → Type
 RowsStand key upgrade_points before db = IsDatabase db × StandsFor key (held_in db.trees) upgrade_points before
 
 module _ {D : Type 0} {g : disk.Ghosts D} where
-  -- Suppose that the disk returned what was written. Then whatever a stop may leave of the files holds a database of which P holds.
+  -- Suppose that the disk returned what was written. Then whatever a stop may leave of the files holds a database for which P is true.
   abbrev pub LeavesInFiles : (Database → Type 0) → FileStore D g → Type 0
   LeavesInFiles P it = IsClean (view it) → (image : Image) → (state it).may_leave image → FilesHold P image
 

@@ -10,7 +10,7 @@ pub record HasArrived (now : ℕ) (bytes : List ℕ) (c : Came) : Type 0 where
   pub now_is : c.arrival.now ≡ now
   pub bytes_are : c.arrival.bytes ≡ bytes
 
--- no message, or one that arrived at this moment, of which this holds
+-- no message, or one that arrived at this moment, and this is true of its bytes
 abbrev pub AtMostOne : ℕ → (List ℕ → Type 0) → List Came → Type 0
 AtMostOne now Is [] = Unit {0}
 AtMostOne now Is (c ∷ []) = (c.arrival.now ≡ now) × Is c.arrival.bytes
