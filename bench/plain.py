@@ -11,7 +11,18 @@ from bisect import bisect_left
 from collections import Counter
 from dataclasses import dataclass, field
 
-from plain_formats import FURTHER, KINDS, NUMBER, Refused, is_word, moment, read_json, record_of, rows_of, text
+from plain_formats import (
+    FURTHER,
+    KINDS,
+    NUMBER,
+    Refused,
+    is_word,
+    moment,
+    read_json,
+    record_of,
+    rows_of,
+    text,
+)
 
 SETTINGS = {
     "daily_result_quota": 4,
@@ -294,7 +305,10 @@ class Machine:
             if host.sent[now // 86400] + len(jobs) >= host.quota:
                 return jobs, "daily_quota"
             units = (self.places[place] for place in queue)
-            unit = next((unit for unit in units if unit.name not in host.account.units and self.fits(host, unit)), None)
+            unit = next(
+                (unit for unit in units if unit.name not in host.account.units and self.fits(host, unit)),
+                None,
+            )
             if unit is None:
                 return jobs, "no_eligible_work"
             jobs.append(unit.unsent())

@@ -104,7 +104,11 @@ def is_report(value):
     """Returns whether a value is an element of `results`."""
     if not isinstance(value, dict):
         return False
-    return is_listed(value.get("name")) and is_exit_status(value.get("exit_status")) and is_output(value.get("output", ""))
+    return (
+        is_listed(value.get("name"))
+        and is_exit_status(value.get("exit_status"))
+        and is_output(value.get("output", ""))
+    )
 
 
 # for each member, in the order of the checks: its test, and its value if it is absent
@@ -144,7 +148,9 @@ def record_of(body):
         if value is not OPTIONAL:
             (info if inner else record)[member.removeprefix("host_info.")] = value
     results = [{"output": "", **report} for report in record["results"]]
-    record["results"] = [{name: report[name] for name in ("exit_status", "name", "output")} for report in results]
+    record["results"] = [
+        {name: report[name] for name in ("exit_status", "name", "output")} for report in results
+    ]
     return {**record, "host_info": info}
 
 
@@ -188,17 +194,22 @@ KINDS = {
     "versions": ({"app": is_name, "platform": is_name, "version_num": is_count(1, 10**6)}, 3, 0, 1000),
     "workunits": (
         {
-            "name": is_name, "app": is_name,
-            "min_quorum": is_count(1, 100), "target_nresults": is_count_from(2, 100),
+            "name": is_name,
+            "app": is_name,
+            "min_quorum": is_count(1, 100),
+            "target_nresults": is_count_from(2, 100),
             "max_error_results": is_count(0, 100),
             "max_total_results": is_count_from(3, 100),
             "max_success_results": is_count(0, 100),
             "delay_bound": is_count(1, 10**8),
             "rsc_fpops_est": is_count(1, 10**18),
-            "rsc_memory_bound": is_count(0, 10**18), "rsc_disk_bound": is_count(0, 10**18),
+            "rsc_memory_bound": is_count(0, 10**18),
+            "rsc_disk_bound": is_count(0, 10**18),
             "credit": is_count(0, 10**8),
         },
-        1, 1, 200000,
+        1,
+        1,
+        200000,
     ),
 }
 # for some kinds: the last column of a longer header, its test, and its value under the shorter header

@@ -73,7 +73,8 @@ COLUMNS = {
     "version": ("id, app_id, platform, num", 1),
     "unit": (
         "id, name, app_id, min_quorum, target_nresults, max_error_results, max_total_results, max_success_results, "
-        "delay_bound, rsc_fpops_est, rsc_memory_bound, rsc_disk_bound, credit, status", 1,
+        "delay_bound, rsc_fpops_est, rsc_memory_bound, rsc_disk_bound, credit, status",
+        1,
     ),
     "host": ("id, account_id, cpid, platforms, fpops, memory, disk, quota, held, credit", 1),
     "instance": ("unit_id, num, host_id, sent, deadline, lapse, outcome, output, place, queued", 2),
@@ -84,7 +85,10 @@ COLUMNS = {
 }
 NEW_TABLES = ("kept4", "version_class", "unit_mark")  # tables that the first schema does not have
 PLACES = "SELECT unit_id, num FROM instance WHERE unit_id > 0 AND num >= 0 AND "
-FIRST_PAGE, FURTHER_PAGE = 8, 64  # how many waiting places a statement reads: the first one, and each further one
+FIRST_PAGE, FURTHER_PAGE = (
+    8,
+    64,
+)  # how many waiting places a statement reads: the first one, and each further one
 # the look-ups by their kinds
 LOOK_UPS = {
     "account by authenticator": "SELECT id, auth, name FROM account WHERE id > 0 AND auth = ?1 ORDER BY id",
@@ -162,8 +166,14 @@ OUTCOMES = {None: None, 1: 0, 3: 1}  # for each stored outcome, an exit status t
 UNIT_COLUMNS = COLUMNS["unit"][0].split(", ")
 UnitRow = namedtuple("UnitRow", [*UNIT_COLUMNS, "marked", "version_class"])
 PHRASES = {
-    200: "OK", 400: "Bad Request", 403: "Forbidden", 404: "Not Found", 405: "Method Not Allowed", 409: "Conflict",
-    411: "Length Required", 413: "Payload Too Large",
+    200: "OK",
+    400: "Bad Request",
+    403: "Forbidden",
+    404: "Not Found",
+    405: "Method Not Allowed",
+    409: "Conflict",
+    411: "Length Required",
+    413: "Payload Too Large",
 }
 
 
@@ -176,10 +186,17 @@ class Unit(plain.Unit):
     def __init__(self, row, agreement, rows):
         for column, value in zip(UnitRow._fields, row):
             setattr(self, column, value)
-        self.agreement, self.stored, self.was, self.had_class = agreement, rows, STATUSES[row.status], row.version_class
+        self.agreement, self.stored, self.was, self.had_class = (
+            agreement,
+            rows,
+            STATUSES[row.status],
+            row.version_class,
+        )
         self.status, self.instances, judged = self.was, [], []
         for _, number, host, sent, deadline, lapse, outcome, output, place, _ in rows:
-            instance = plain.Instance(self, number, host, sent, deadline, LAPSES[lapse], OUTCOMES[outcome], output)
+            instance = plain.Instance(
+                self, number, host, sent, deadline, LAPSES[lapse], OUTCOMES[outcome], output
+            )
             self.instances.append(instance)
             if place is not None:
                 judged.append((place, instance))
@@ -208,8 +225,15 @@ class Unit(plain.Unit):
         is_open = self.status == "open"
         return [
             (
-                self.id, one.number, one.host, one.sent, one.deadline, LAPSES.index(one.lapse),
-                None if one.exit_status is None else 3 if one.exit_status else 1, one.output, places.get(one),
+                self.id,
+                one.number,
+                one.host,
+                one.sent,
+                one.deadline,
+                LAPSES.index(one.lapse),
+                None if one.exit_status is None else 3 if one.exit_status else 1,
+                one.output,
+                places.get(one),
                 int(is_open and one.host is None),
             )
             for one in self.instances
@@ -240,7 +264,16 @@ class Host:
     def row(self, held, credit):
         """Returns its row with these counts."""
         facts = self.facts["p_fpops"], self.facts["m_nbytes"], self.facts["d_free"]
-        return self.number, self.account, self.cpid, ",".join(self.platforms), *facts, self.quota, held, credit
+        return (
+            self.number,
+            self.account,
+            self.cpid,
+            ",".join(self.platforms),
+            *facts,
+            self.quota,
+            held,
+            credit,
+        )
 
 
 def least(numbers):
@@ -251,7 +284,13 @@ def least(numbers):
 def split_name(name):
     """Returns the workunit's name and the number in a result's name, or None if it does not have both."""
     unit, underscore, number = name.rpartition("_")
-    if underscore and len(number) < 3 and number.isascii() and number.isdigit() and (number == "0" or number[0] != "0"):
+    if (
+        underscore
+        and len(number) < 3
+        and number.isascii()
+        and number.isdigit()
+        and (number == "0" or number[0] != "0")
+    ):
         return unit, int(number)
     return None
 
@@ -262,7 +301,9 @@ def split_name(name):
 def create(path, settings):
     """Creates new tables in a file, as `bsched create` does."""
     connection = sqlite3.connect(path)
-    connection.executescript(f"PRAGMA journal_mode = WAL; BEGIN; {FIRST_SCHEMA} {SECOND_SCHEMA} {THIRD_SCHEMA} COMMIT;")
+    connection.executescript(
+        f"PRAGMA journal_mode = WAL; BEGIN; {FIRST_SCHEMA} {SECOND_SCHEMA} {THIRD_SCHEMA} COMMIT;"
+    )
     connection.executemany(PUTS["setting"], [("schema", 3), *settings.items()])
     connection.commit()
     connection.close()
@@ -276,7 +317,9 @@ def make_former(path, newest):
     for table, (columns, _) in COLUMNS.items():
         if table not in NEW_TABLES:
             connection.execute(f"INSERT INTO {table} SELECT {columns} FROM newest.{table} ORDER BY rowid")
-    connection.execute("INSERT INTO kept SELECT host_id, max(seqno), text, reply FROM newest.kept4 GROUP BY host_id")
+    connection.execute(
+        "INSERT INTO kept SELECT host_id, max(seqno), text, reply FROM newest.kept4 GROUP BY host_id"
+    )
     connection.execute("UPDATE setting SET value = 1 WHERE name = 'schema'")
     connection.commit()
     connection.close()
@@ -321,7 +364,12 @@ class Tables:
 
     def __init__(self, path, once=False, synchronous="FULL"):
         self.connection = sqlite3.connect(path, isolation_level=None)
-        pragmas = ("locking_mode = EXCLUSIVE", "journal_mode = WAL", f"synchronous = {synchronous}", "foreign_keys = ON")
+        pragmas = (
+            "locking_mode = EXCLUSIVE",
+            "journal_mode = WAL",
+            f"synchronous = {synchronous}",
+            "foreign_keys = ON",
+        )
         for pragma in pragmas:
             self.connection.execute(f"PRAGMA {pragma}").fetchall()
         self.once, self.slot, self.noted = once, None, []
@@ -345,7 +393,9 @@ class Tables:
     def read_apps(self):
         """Reads the applications, which stay cached."""
         rows = self.connection.execute("SELECT id, name, agreement FROM app ORDER BY id").fetchall()
-        self.apps = {number: (name, "exact" if near is None else f"within:{near}") for number, name, near in rows}
+        self.apps = {
+            number: (name, "exact" if near is None else f"within:{near}") for number, name, near in rows
+        }
 
     def begin(self):
         """Begins a message. With --once it clears the cache."""
@@ -429,7 +479,9 @@ class Tables:
             self.held.clear()
             return
         place, old = row[:2], known[row[1]] if row[1] < len(known) else None
-        before, after = (None if it is None or it[5] != 0 or it[6] is not None else it[2] for it in (old, row))
+        before, after = (
+            None if it is None or it[5] != 0 or it[6] is not None else it[2] for it in (old, row)
+        )
         if before == after:
             return
         if before in self.held:
@@ -523,13 +575,18 @@ class Tables:
 
     def counts(self):
         """Returns how many rows each table has. A host or a workunit with a greater number is new from now on."""
-        counts = {table: self.number_of(f"count of {table}s") or 0 for table in ("account", "app", "version", "unit", "host")}
+        counts = {
+            table: self.number_of(f"count of {table}s") or 0
+            for table in ("account", "app", "version", "unit", "host")
+        }
         self.last = {table: counts[table] for table in ("host", "unit")}
         return counts
 
     def unit_row(self, number):
         """Returns the row of a workunit, with its mark."""
-        row, (_, marked, version_class) = self.first("workunit", number), self.first("mark of a workunit", number)
+        row, (_, marked, version_class) = self.first("workunit", number), self.first(
+            "mark of a workunit", number
+        )
         return UnitRow(*row, marked, version_class)
 
     def unit(self, number):
@@ -590,7 +647,9 @@ class Tables:
         for platform in host.platforms:
             if numbers := self.shown("version for a platform", app, platform):
                 (newest,) = max(numbers)
-                _, version_class = self.first("class of a version", self.number_of("version of a number", app, platform, newest))
+                _, version_class = self.first(
+                    "class of a version", self.number_of("version of a number", app, platform, newest)
+                )
                 self.versions.keep(asked, (newest, platform, version_class))
                 return self.versions[asked]
         return None
@@ -679,7 +738,10 @@ class Page:
                 marks.append(("unit_mark", unit.mark_row()))
             stored = unit.stored + [None] * (len(unit.instances) - len(unit.stored))
             instances += [("instance", row) for row, old in zip(unit.instance_rows(), stored) if row != old]
-        hosts = [self.host_row(number, *shares.get(number, (0, 0))) for number in sorted({*self.put_hosts, *shares})]
+        hosts = [
+            self.host_row(number, *shares.get(number, (0, 0)))
+            for number in sorted({*self.put_hosts, *shares})
+        ]
         return [*units, *marks, *filter(None, hosts), *instances]
 
     def host_row(self, number, held, credit):
@@ -860,7 +922,16 @@ class Machine:
         number = self.tables.counts()["host"] + 1
         if number > self.settings["max_hosts"]:
             raise Refused(409, 12, "hosts_full")
-        return Host(number, account, record["host_info"]["host_cpid"], "", 1, 0, 0, self.settings["daily_result_quota"])
+        return Host(
+            number,
+            account,
+            record["host_info"]["host_cpid"],
+            "",
+            1,
+            0,
+            0,
+            self.settings["daily_result_quota"],
+        )
 
     def call(self, account, number, record, now):
         """Handles a fresh call. A host without a number is new. Returns its number, rows to put, and
@@ -881,7 +952,11 @@ class Machine:
         granted = []
         for unit, (place, version) in chosen.items():
             instance = page.unit(unit).at(place)
-            instance.host, instance.sent, instance.deadline = host.number, now, now + instance.unit.delay_bound
+            instance.host, instance.sent, instance.deadline = (
+                host.number,
+                now,
+                now + instance.unit.delay_bound,
+            )
             if instance.unit.marked and instance.unit.version_class is None:
                 instance.unit.version_class = version[2]
             page.put_unit(unit)
@@ -898,7 +973,8 @@ class Machine:
             "request_delay": self.settings["request_delay"],
             "result_abort": aborts,
             "result_ack": list(dict.fromkeys(report["name"] for report in record["results"])),
-            "results": [self.job(host, *job, True) for job in again] + [self.job(host, *job, False) for job in granted],
+            "results": [self.job(host, *job, True) for job in again]
+            + [self.job(host, *job, False) for job in granted],
             "rpc_seqno": record["rpc_seqno"],
             "user_name": user_name,
             "user_total_credit": user_credit,
@@ -971,9 +1047,17 @@ class Service(plain.Service):
         place = self.app_place(row[kind == "workunits"])
         if kind == "versions":
             return [("version", (number, place, row[1], int(row[2]))), ("version_class", (number, row[3]))]
-        unit = Unit(UnitRow(number, row[0], place, *map(int, row[2:12]), 0, int(row[12]), None), self.tables.apps[place][1], [])
+        unit = Unit(
+            UnitRow(number, row[0], place, *map(int, row[2:12]), 0, int(row[12]), None),
+            self.tables.apps[place][1],
+            [],
+        )
         unit.add(unit.target_nresults)
-        return [("unit", unit.row()), ("unit_mark", unit.mark_row()), *(("instance", instance) for instance in unit.instance_rows())]
+        return [
+            ("unit", unit.row()),
+            ("unit_mark", unit.mark_row()),
+            *(("instance", instance) for instance in unit.instance_rows()),
+        ]
 
     def imported(self, kind, batch, said):
         """Returns the answer to an import."""

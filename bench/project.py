@@ -12,12 +12,27 @@ import plain
 SETTINGS = {"daily_result_quota": 12, "max_hosts": 100, "max_wus_in_progress": 8, "max_wus_to_send": 4}
 HOUR = 3600
 START = 1000
-VERSIONS = ["dock,linux,101", "dock,linux,102", "dock,windows,101", "dock,mac,103", "fold,linux,7", "fold,windows,9",
-            "wave,windows,1", "wave,windows,2"]
+VERSIONS = [
+    "dock,linux,101",
+    "dock,linux,102",
+    "dock,windows,101",
+    "dock,mac,103",
+    "fold,linux,7",
+    "fold,windows,9",
+    "wave,windows,1",
+    "wave,windows,2",
+]
 PLATFORMS = [["linux"], ["linux"], ["windows"], ["windows", "linux"], ["mac", "linux"], ["mac"]]
 # application, min_quorum, target_nresults, max_error_results, max_total_results, max_success_results
-LIMITS = ["dock,2,2,3,6,5", "dock,2,2,3,6,5", "dock,1,1,2,4,3", "fold,3,3,3,7,6", "fold,2,3,1,5,4", "wave,2,3,2,5,4",
-          "dock,2,2,0,3,2"]
+LIMITS = [
+    "dock,2,2,3,6,5",
+    "dock,2,2,3,6,5",
+    "dock,1,1,2,4,3",
+    "fold,3,3,3,7,6",
+    "fold,2,3,1,5,4",
+    "wave,2,3,2,5,4",
+    "dock,2,2,0,3,2",
+]
 
 
 class Client:
@@ -66,7 +81,9 @@ class Project:
 
     def bring_rows(self, users, units):
         """Imports all rows of the project, in four imports."""
-        self.bring("accounts", "authenticator,name", [f"user{number},User {number}" for number in range(users)])
+        self.bring(
+            "accounts", "authenticator,name", [f"user{number},User {number}" for number in range(users)]
+        )
         self.bring("apps", "name,agreement", ["dock,exact", "fold,within:2", "wave,exact"])
         self.bring("versions", ",".join(plain.KINDS["versions"][0]), VERSIONS)
         rows = []
@@ -153,7 +170,10 @@ class Project:
     def refused_call(self, client):
         """Makes a call with a number older than the kept ones, or with the last number and another text."""
         older = client.seqno > 4 and self.pick.random() < 0.5
-        said = {**json.loads(self.request(client)), "rpc_seqno": client.seqno - 5 if older else client.seqno - 1}
+        said = {
+            **json.loads(self.request(client)),
+            "rpc_seqno": client.seqno - 5 if older else client.seqno - 1,
+        }
         client.seqno -= 1
         status, body = self.send(f"scheduler {json.dumps({**said, 'work_req_seconds': 999_999_999})}")
         self.seen[f"refused as {json.loads(body)['error']}"] += 1
@@ -183,8 +203,12 @@ class Project:
                 mix["instances"] += 1
                 mix["reported"] += instance.exit_status is not None
                 mix["client errors"] += instance.exit_status not in (None, 0)
-                mix["reported and not judged"] += instance.exit_status is not None and instance not in unit.judged
-                mix["reported after a lapse"] += instance.exit_status is not None and instance.lapse is not None
+                mix["reported and not judged"] += (
+                    instance.exit_status is not None and instance not in unit.judged
+                )
+                mix["reported after a lapse"] += (
+                    instance.exit_status is not None and instance.lapse is not None
+                )
                 mix["dropped"] += instance.lapse == "dropped"
                 mix["valid"] += instance.verdict is True
                 mix["invalid"] += instance.verdict is False

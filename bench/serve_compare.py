@@ -4,7 +4,16 @@ import statistics
 
 import serve_life
 from played import (
-    Clock, Options, Played, begun, ended, exchange, limit_time, message_of, same_answers, wait_until_idle,
+    Clock,
+    Options,
+    Played,
+    begun,
+    ended,
+    exchange,
+    limit_time,
+    message_of,
+    same_answers,
+    wait_until_idle,
 )
 from serve_life import LEAST, MOST, SIZES, Life, copied, made
 from served import peak, processor_seconds, wants
@@ -52,7 +61,7 @@ class Pair:
 
     def take_turn(self, count: int) -> None:
         """Makes so many more calls to one program after the other. They take turns at being first."""
-        bodies, order = self.bodies[self.at:self.at + count], list(range(len(self.runs)))
+        bodies, order = self.bodies[self.at : self.at + count], list(range(len(self.runs)))
         if self.rounds % 2:
             order.reverse()
         answers: dict[int, list[bytes]] = {}

@@ -33,8 +33,13 @@ from served import free_port, memory_told, ordered, peak, processor_seconds, sta
 TWIN = os.path.join(os.path.dirname(os.path.abspath(__file__)), "plain_tables.py")
 KEY = "change-this-key"
 SETTINGS = {
-    "daily_result_quota": 1000, "max_hosts": 100_000, "max_wus_in_progress": 8, "max_wus_to_send": 4, "operator_key": KEY,
-    "request_delay": 60, "resend_lost_results": True,
+    "daily_result_quota": 1000,
+    "max_hosts": 100_000,
+    "max_wus_in_progress": 8,
+    "max_wus_to_send": 4,
+    "operator_key": KEY,
+    "request_delay": 60,
+    "resend_lost_results": True,
 }
 SIZES = {100: 180, 10_000: 200, 200_000: 200}  # for each number of workunits, how many calls a round has
 LEAST, MOST, ROUNDS = min(SIZES), max(SIZES), 10
@@ -89,11 +94,29 @@ def host_rows(host):
     user, cpid = user_of(host), f"host{host}"
     said = text(record_of(request(user, cpid, 1)))
     reply = {
-        "end_word": "enough", "host_total_credit": 0, "hostid": host, "request_delay": SETTINGS["request_delay"],
-        "result_abort": [], "result_ack": [], "results": [], "rpc_seqno": 1, "user_name": f"User {user}",
+        "end_word": "enough",
+        "host_total_credit": 0,
+        "hostid": host,
+        "request_delay": SETTINGS["request_delay"],
+        "result_abort": [],
+        "result_ack": [],
+        "results": [],
+        "rpc_seqno": 1,
+        "user_name": f"User {user}",
         "user_total_credit": 0,
     }
-    row = host, user, cpid, "x86_64-pc-linux-gnu", FPOPS, 8 * 10**9, 9 * 10**10, SETTINGS["daily_result_quota"], 0, 0
+    row = (
+        host,
+        user,
+        cpid,
+        "x86_64-pc-linux-gnu",
+        FPOPS,
+        8 * 10**9,
+        9 * 10**10,
+        SETTINGS["daily_result_quota"],
+        0,
+        0,
+    )
     return [("host", row), ("kept4", (host, 0, 1, said, text(reply)))]
 
 
@@ -107,7 +130,9 @@ def settings_file():
 
 def create(program, path):
     """Creates new tables in a file with the program."""
-    wants(ordered(program, "create", "--settings", settings_file(), "--tables", path), "created\n", "new tables")
+    wants(
+        ordered(program, "create", "--settings", settings_file(), "--tables", path), "created\n", "new tables"
+    )
 
 
 def made(program, units):
@@ -121,10 +146,16 @@ def made(program, units):
     service, hosts = plain_tables.Service(tables), hosts_of(units)
     import_users(service, hosts)
     import_rows(service, "apps", ["dock,exact", "fold,within:2"])
-    import_rows(service, "versions", [f"{app},x86_64-pc-linux-gnu,{number}" for app in ("dock", "fold") for number in (1, 2)])
+    import_rows(
+        service,
+        "versions",
+        [f"{app},x86_64-pc-linux-gnu,{number}" for app in ("dock", "fold") for number in (1, 2)],
+    )
     limits = f"2,2,3,8,6,{DELAY},{HOUR * FPOPS},1000000000,1000000000,{CREDIT}"
     apps = ["fold", "dock", "dock", "dock"]
-    import_rows(service, "workunits", [f"unit-{unit},{apps[unit % 4]},{limits}" for unit in range(1, units + 1)])
+    import_rows(
+        service, "workunits", [f"unit-{unit},{apps[unit % 4]},{limits}" for unit in range(1, units + 1)]
+    )
     tables.put([row for host in range(1, hosts + 1) for row in host_rows(host)])
     tables.connection.close()
     return path
@@ -224,16 +255,26 @@ class Life:
         chance, unit = self.pick.random(), int(name.split("_")[0].removeprefix("unit-"))
         if chance < 0.03:
             return {"name": name, "exit_status": 195}
-        return {"name": name, "exit_status": 0, "output": str(unit * 37 % 1000 + (50 if chance < 0.06 else 0))}
+        return {
+            "name": name,
+            "exit_status": 0,
+            "output": str(unit * 37 % 1000 + (50 if chance < 0.06 else 0)),
+        }
 
     def call(self, client, asked, kept=0.0, lost=0.0, silent=0.0):
         """Makes a fresh call that asks for so many seconds. The chances are to keep a job, to lose the reply,
         to list no results."""
         client.seqno += 1
         done = [name for name in client.jobs if self.pick.random() >= kept]
-        more = {} if self.pick.random() < silent else {"other_results": [name for name in client.jobs if name not in done]}
+        more = (
+            {}
+            if self.pick.random() < silent
+            else {"other_results": [name for name in client.jobs if name not in done]}
+        )
         results = [self.report(name) for name in done]
-        body = request(client.user, client.cpid, client.seqno, work_req_seconds=asked, results=results, **more)
+        body = request(
+            client.user, client.cpid, client.seqno, work_req_seconds=asked, results=results, **more
+        )
         reply = self.send(body)
         self.seen["fresh calls"] += 1
         self.seen["reports"] += len(done)
@@ -253,7 +294,11 @@ class Life:
     def mixed(self, units, count):
         """Makes so many calls of a project's life. All hosts of some users call, about 36 times per user."""
         users, active = user_of(hosts_of(units)), max(5, count // 36)
-        clients = [standing(10 * (number * users // active) + one) for number in range(active) for one in range(1, 11)]
+        clients = [
+            standing(10 * (number * users // active) + one)
+            for number in range(active)
+            for one in range(1, 11)
+        ]
         for number in range(count):
             client = self.pick.choice(clients)
             if self.pick.random() < 0.02:
@@ -273,7 +318,9 @@ class Life:
 
     def ended(self):
         """Counts the workunits that are done, and closes the copy."""
-        self.seen["workunits done"] = self.tables.connection.execute("SELECT count(*) FROM unit WHERE status = 1").fetchone()[0]
+        self.seen["workunits done"] = self.tables.connection.execute(
+            "SELECT count(*) FROM unit WHERE status = 1"
+        ).fetchone()[0]
         self.tables.connection.close()
         return self
 
@@ -331,7 +378,9 @@ def run_ours(program, tables, count=1_000_000, before=()):
 def run_twin(tables, *options):
     """Starts plain_tables.py over tables."""
     begin = time.perf_counter()
-    server = subprocess.Popen([sys.executable, TWIN, *options, tables, "0"], stdout=subprocess.PIPE, text=True)
+    server = subprocess.Popen(
+        [sys.executable, TWIN, *options, tables, "0"], stdout=subprocess.PIPE, text=True
+    )
     return Run(server, int(server.stdout.readline()), begin)
 
 
@@ -351,7 +400,11 @@ def moments_in(bodies, told, seen):
         if body in seen or not sent:
             moments.append(int(start))
         else:
-            wants(len(sent) == 1 and int(start) <= min(sent) <= end, True, "a deadline that is of the call's second")
+            wants(
+                len(sent) == 1 and int(start) <= min(sent) <= end,
+                True,
+                "a deadline that is of the call's second",
+            )
             moments.append(min(sent))
         seen.add(body)
     return moments
@@ -362,9 +415,13 @@ def same_rows(ours, theirs):
     files = [sqlite3.connect(path) for path in (ours, theirs)]
     for table, (columns, keys) in plain_tables.COLUMNS.items():
         order = ", ".join(columns.split(", ")[:keys])
-        one, other = (file.execute(f"SELECT {columns} FROM {table} ORDER BY {order}").fetchall() for file in files)
+        one, other = (
+            file.execute(f"SELECT {columns} FROM {table} ORDER BY {order}").fetchall() for file in files
+        )
         if one != other:
-            raise SystemExit(f"{table}: rows of the program {set(one) - set(other)!r}, of the twin {set(other) - set(one)!r}")
+            raise SystemExit(
+                f"{table}: rows of the program {set(one) - set(other)!r}, of the twin {set(other) - set(one)!r}"
+            )
     for file in files:
         file.close()
 
@@ -407,8 +464,15 @@ class Race:
     def begin(self):
         """Copies the tables, and starts the servers."""
         name = os.path.basename(self.path)
-        ours, bare, *theirs = (copied(self.path, self.folder, f"{number}.{name}") for number in range(len(self.twins) + 2))
-        self.copies, self.connection, self.at, self.seen = [ours, *theirs], plain_tables.Tables(bare).connection, 0, set()
+        ours, bare, *theirs = (
+            copied(self.path, self.folder, f"{number}.{name}") for number in range(len(self.twins) + 2)
+        )
+        self.copies, self.connection, self.at, self.seen = (
+            [ours, *theirs],
+            plain_tables.Tables(bare).connection,
+            0,
+            set(),
+        )
         twins = (run_twin(copy, *options) for copy, options in zip(theirs, self.twins))
         self.runs = [run_ours(self.program, ours), *twins]
         return self
@@ -422,7 +486,9 @@ class Race:
             run.send(messages)
             for body, (one, _, _), (other, _, _) in zip(bodies, ours.told[self.at :], run.told[self.at :]):
                 if one != other:
-                    raise SystemExit(f"an answer differs\nthe call: {body!r}\nthe program: {one!r}\nthe twin: {other!r}")
+                    raise SystemExit(
+                        f"an answer differs\nthe call: {body!r}\nthe program: {one!r}\nthe twin: {other!r}"
+                    )
         begin = time.process_time()
         for call in ran:
             for statement, values in call:
@@ -479,11 +545,24 @@ def told_life(units, lived, race, runs, rates):
     """Prints what the calls took over tables of one size."""
     ours, theirs, once = zip(*runs)
     calls = sum(len(run.told) for run in ours)
-    rates[units], client, bare = rates_of(ours), sum(run.client_seconds for run in ours) / calls, race.bare_seconds / calls
-    print(f"life: {units} workunits, {hosts_of(units)} hosts, {ROUNDS} rounds, {calls} calls in all; ", end="")
-    print(", ".join(f"{many} {what}" for what, many in lived.seen.items()) + (" in each" if units == LEAST else ""))
-    print(f"life: all answers and rows are the twin's; the program answers {ratio_told(rates[units], rates_of(theirs))}")
-    print(f"life: compared with the twin that runs no statement twice in a call {ratio_told(rates[units], rates_of(once))}")
+    rates[units], client, bare = (
+        rates_of(ours),
+        sum(run.client_seconds for run in ours) / calls,
+        race.bare_seconds / calls,
+    )
+    print(
+        f"life: {units} workunits, {hosts_of(units)} hosts, {ROUNDS} rounds, {calls} calls in all; ", end=""
+    )
+    print(
+        ", ".join(f"{many} {what}" for what, many in lived.seen.items())
+        + (" in each" if units == LEAST else "")
+    )
+    print(
+        f"life: all answers and rows are the twin's; the program answers {ratio_told(rates[units], rates_of(theirs))}"
+    )
+    print(
+        f"life: compared with the twin that runs no statement twice in a call {ratio_told(rates[units], rates_of(once))}"
+    )
     print(
         f"life: a call takes {1 / rates[units][1] / bare:.2f} times the processor time that its statements alone take by the "
         f"module sqlite3 ({1e6 / rates[units][1]:.0f} and {bare * 1e6:.0f} microseconds); the client takes {client * 1e6:.0f}"
@@ -516,7 +595,9 @@ def life(program, folder):
         runs[units].append(races[units].end())
     for units in SIZES:
         told_life(units, lives[units], races[units], runs[units], rates)
-    print(f"life: at {MOST} workunits beside {LEAST} the program answers {ratio_told(rates[MOST], rates[LEAST])}")
+    print(
+        f"life: at {MOST} workunits beside {LEAST} the program answers {ratio_told(rates[MOST], rates[LEAST])}"
+    )
 
 
 # Runs a command, and prints its status, its seconds and its peak memory in kilobytes. It is a process of its own, since a
@@ -558,7 +639,9 @@ def opening(program, folder):
 def schema_in(path):
     """Returns a file's tables and indexes in the order of their creation, each statement on one line."""
     with contextlib.closing(sqlite3.connect(path)) as base:
-        rows = base.execute("SELECT type, name, tbl_name, coalesce(sql, '') FROM sqlite_schema ORDER BY rowid").fetchall()
+        rows = base.execute(
+            "SELECT type, name, tbl_name, coalesce(sql, '') FROM sqlite_schema ORDER BY rowid"
+        ).fetchall()
     return [(*row[:3], " ".join(row[3].split())) for row in rows]
 
 
@@ -585,13 +668,27 @@ def upgrade(program, folder):
         ours, theirs = (copied(former, folder, name) for name in ("ours.db", "theirs.db"))
         statement = [program, "statement", "--tables", ours, "--host", str(hosts)]
         refused = subprocess.run(statement, capture_output=True, text=True)
-        wants((refused.stdout, refused.stderr, refused.returncode), ("", "bsched: old schema\n", 1), "an order on old tables")
+        wants(
+            (refused.stdout, refused.stderr, refused.returncode),
+            ("", "bsched: old schema\n", 1),
+            "an order on old tables",
+        )
         bare = bare_opening(program, ours)
-        one, other = taken_by(0, program, "upgrade", "--tables", ours), taken_by(0, sys.executable, TWIN, "--upgrade", theirs)
-        wants(ordered(program, "upgrade", "--tables", ours), "schema 3\n", "what an upgrade of upgraded tables prints")
+        one, other = taken_by(0, program, "upgrade", "--tables", ours), taken_by(
+            0, sys.executable, TWIN, "--upgrade", theirs
+        )
+        wants(
+            ordered(program, "upgrade", "--tables", ours),
+            "schema 3\n",
+            "what an upgrade of upgraded tables prints",
+        )
         wants(ordered(*statement).splitlines()[-1], "total,,,,,,,0.000", "a statement of upgraded tables")
         same_rows(ours, theirs)
-        wants((schema_in(ours), kept_before(ours)), (schema_in(new), kept_before(former)), "the schema, and the former table")
+        wants(
+            (schema_in(ours), kept_before(ours)),
+            (schema_in(new), kept_before(former)),
+            "the schema, and the former table",
+        )
         is_whole(ours)
         print(
             f"upgrade: {hosts} hosts in {one[0]:.2f} seconds with a peak of {one[1] / 1024:.0f} MB; the module sqlite3 takes "
@@ -616,7 +713,8 @@ def tick_seconds(program, path, folder):
 def ticks(program, folder):
     """Measures ticks at which nothing is late."""
     few, many, past = (
-        tick_seconds(program, path, folder) for path in (made(program, LEAST), made(program, MOST), made_past(program))
+        tick_seconds(program, path, folder)
+        for path in (made(program, LEAST), made(program, MOST), made_past(program))
     )
     print(
         f"ticks: if nothing was ever given out, a tick at {MOST} workunits takes {many[0] / few[0]:.1f} times as long as at "
@@ -675,9 +773,12 @@ def kind_of(said):
 
 def statements(program, folder):
     """Prints how many statements of each kind one call runs."""
+
     def call(service, host, seqno, asked, **more):
         client = standing(host)
-        service.scheduler(request(client.user, client.cpid, seqno, work_req_seconds=asked, **more), 1_000_000_000)
+        service.scheduler(
+            request(client.user, client.cpid, seqno, work_req_seconds=asked, **more), 1_000_000_000
+        )
 
     counts = []
     for once in (False, True):
@@ -692,7 +793,9 @@ def statements(program, folder):
         call(service, 1, 3, HOUR + 1, results=[report], other_results=[])
         tables.connection.close()
         counts.append(Counter(map(kind_of, ran)))
-    print("statements: of a call that reports a job, by which its quorum comes about, has lost one and gets one; counted in")
+    print(
+        "statements: of a call that reports a job, by which its quorum comes about, has lost one and gets one; counted in"
+    )
     print("the twin, which does those of the program; and in the twin where none is run twice in a call")
     for kind, many in [*counts[0].items(), ("in all", counts[0].total())]:
         print(f"  {kind:30} {many:4} {counts[1].get(kind, counts[1].total()):4}")
@@ -704,7 +807,8 @@ def twins(_program, folder):
     with open(os.path.join(os.path.dirname(TWIN), "..", "crates", "bsched", "stdin"), "rb") as file:
         stored = file.read().splitlines()
     for what, settings, lines in (
-        ("a project's life", project.SETTINGS, project.lines(LINES)[0].splitlines()), ("the stored run", {}, stored),
+        ("a project's life", project.SETTINGS, project.lines(LINES)[0].splitlines()),
+        ("the stored run", {}, stored),
     ):
         for once in (False, True):
             path = os.path.join(folder, f"{len(lines)}{once}.db")
@@ -760,11 +864,23 @@ def profile(program, folder):
         return
     told = []
     for some in ([], bodies):
-        under(["valgrind", "-q", "--tool=callgrind", f"--callgrind-out-file={found}"], program, path, folder, some)
+        under(
+            ["valgrind", "-q", "--tool=callgrind", f"--callgrind-out-file={found}"],
+            program,
+            path,
+            folder,
+            some,
+        )
         told.append(counted(found))
     own, whole, calls = (after - before for before, after in zip(*told))
-    twin = sum(statement.startswith("SELECT") for ran in Recorder(path, folder).ran_by(bodies) for statement, _ in ran)
-    print(f"profile: the program runs {calls['sqlite::connection::Connection::query_near']} look-ups in these calls, the twin {twin}")
+    twin = sum(
+        statement.startswith("SELECT")
+        for ran in Recorder(path, folder).ran_by(bodies)
+        for statement, _ in ran
+    )
+    print(
+        f"profile: the program runs {calls['sqlite::connection::Connection::query_near']} look-ups in these calls, the twin {twin}"
+    )
     print(f"profile: {own.total() // len(bodies)} instructions per call; their percentages:")
     crates = Counter()
     for function, many in own.items():
@@ -775,7 +891,8 @@ def profile(program, folder):
     stages["call_sheet::standing::put_all"] = "changes put onto a page, in the step and in the commit"
     for what, many in [
         *((f"all {stage}", whole[function]) for function, stage in stages.items()),
-        *((f"the crate {crate}", many) for crate, many in crates.most_common(10)), *own.most_common(16),
+        *((f"the crate {crate}", many) for crate, many in crates.most_common(10)),
+        *own.most_common(16),
     ]:
         print(f"  {100 * many / own.total():5.1f} {what}")
 

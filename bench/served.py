@@ -5,7 +5,9 @@ import subprocess
 import sys
 import time
 
-BUILT = os.path.join(os.path.dirname(os.path.dirname(os.path.abspath(__file__))), "crates", "bsched", "out", "bsched")
+BUILT = os.path.join(
+    os.path.dirname(os.path.dirname(os.path.abspath(__file__))), "crates", "bsched", "out", "bsched"
+)
 USAGE = 64  # the status of a script that lacks what it needs
 
 
@@ -18,7 +20,10 @@ def needs(script, what):
 def program_at(script, path):
     """Returns the program's path, from the root. If there is no program, the script ends with one line."""
     if not os.access(path, os.X_OK) or os.path.isdir(path):
-        needs(script, f"there is no program at {path}: build it with `rt run` in crates/bsched, or say --program PATH")
+        needs(
+            script,
+            f"there is no program at {path}: build it with `rt run` in crates/bsched, or say --program PATH",
+        )
     return os.path.abspath(path)
 
 

@@ -36,9 +36,7 @@ class CommandLine(argparse.ArgumentParser):
 
 def words() -> argparse.ArgumentParser:
     """Returns the parser of the command line."""
-    parser = CommandLine(
-        prog="bsched-bridge", description="A bridge between BOINC's client and bsched."
-    )
+    parser = CommandLine(prog="bsched-bridge", description="A bridge between BOINC's client and bsched.")
     parser.add_argument("--config", type=Path, metavar="FILE", help="the settings (TOML); serves them")
     parser.add_argument("--version", action="version", version=f"bsched-bridge {version()}")
     parser.add_argument("--check", action="store_true", help="only checks the settings and the catalogue")
@@ -51,7 +49,11 @@ def words() -> argparse.ArgumentParser:
     sweep = orders.add_parser("sweep", help="deletes uploads that nobody needs; the bridge may serve")
     sweep.add_argument("--config", type=Path, required=True, metavar="FILE", dest="swept")
     sweep.add_argument(
-        "--tables", type=Path, nargs="+", default=[], metavar="COPY",
+        "--tables",
+        type=Path,
+        nargs="+",
+        default=[],
+        metavar="COPY",
         help="copies of the tables, or folders of copies; without them reported results keep their files",
     )
     sign.add_argument("--key", type=Path, required=True, metavar="KEY", help="the private key")

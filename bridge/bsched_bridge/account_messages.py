@@ -12,7 +12,15 @@ from .accounts import AccountFault, Accounts, Fault, at_work
 from .catalogue import Catalogue
 from .client_replies import add, written
 from .http_messages import (
-    NO_STORE, XML, Answer, Environ, HttpFault, has_method, is_of_no_browser, log_fault, query_of,
+    NO_STORE,
+    XML,
+    Answer,
+    Environ,
+    HttpFault,
+    has_method,
+    is_of_no_browser,
+    log_fault,
+    query_of,
 )
 from .limits import Places, is_loopback, network_of
 from .plan_classes import split
@@ -96,8 +104,7 @@ class AccountMessages:
         return self._answered(self._created, environ)
 
     def look_up(self, environ: Environ) -> Answer:
-        """Answers lookup_account.php. Wrong passwords are counted, so HEAD and browsers are refused here too.
-        """
+        """Answers lookup_account.php. Wrong passwords are counted, so HEAD and browsers are refused."""
         has_method(environ, "GET")
         is_of_no_browser(environ)
         return self._answered(self._found, environ)

@@ -171,8 +171,7 @@ class AccountPages:
         )
 
     def _changed(self, environ: Environ) -> Answer:
-        """Changes the name of an account, and whether statistics sites may show it. The owner sends the key.
-        """
+        """Changes the name of an account, and whether statistics may show it. The owner sends the key."""
         sent, client = Form(form_of(environ)), client_of(environ, self._field)
         name, is_exported = clean_name(sent.text("name")), sent.text("is_exported") == "1"
         try:
@@ -250,30 +249,45 @@ class AccountPages:
             f"{self.settings.name}: the account is deleted",
             element("p", "Your account is deleted.", class_="done", role="status"),
             element("p", "Remove the project on each of your computers: it gets no more work there."),
-            links=BACK, is_kept=False,
+            links=BACK,
+            is_kept=False,
         )
 
     def _deletion_form(self, sent: Form) -> Answer:
         """Returns the page that asks for the password before it deletes an account."""
         email = replace(EMAIL, value=sent.text("email"))
         sure = element(
-            "label", element("input", type="checkbox", name="is_sure", value="1"),
-            " Delete my account for good", class_="choice",
+            "label",
+            element("input", type="checkbox", name="is_sure", value="1"),
+            " Delete my account for good",
+            class_="choice",
         )
         fault = sent.faults.get("is_sure")
         return page(
             f"{self.settings.name}: delete your account",
             *(element("p", text) for text in DELETION),
-            element("p", "That name is the one that BOINC sent when you joined." if self._is_name_told
-                    else "That name was made up, and says nothing about you."),
+            element(
+                "p",
+                "That name is the one that BOINC sent when you joined."
+                if self._is_name_told
+                else "That name was made up, and says nothing about you.",
+            ),
             form(
-                "delete_account.php", "Delete", email.markup(None),
-                PASSWORD.markup(sent.faults.get("password")), sure,
+                "delete_account.php",
+                "Delete",
+                email.markup(None),
+                PASSWORD.markup(sent.faults.get("password")),
+                sure,
                 element("div", fault, class_="fault") if fault else "",
             ),
-            element("p", "You have only the account key? ", element(
-                "a", "Set a password first", href="get_passwd.php"), "."),
-            links=(("account", "Your account"), *BACK), is_kept=False,
+            element(
+                "p",
+                "You have only the account key? ",
+                element("a", "Set a password first", href="get_passwd.php"),
+                ".",
+            ),
+            links=(("account", "Your account"), *BACK),
+            is_kept=False,
         )
 
     # ---- A password
@@ -314,10 +328,14 @@ class AccountPages:
             f"{self.settings.name}: your password",
             element("p", "Your account key shows that the account is yours. This project sends no e-mail."),
             form(
-                "get_passwd.php", "Set the password", key.markup(sent.faults.get("key")),
-                email.markup(sent.faults.get("email")), NEW_PASSWORD.markup(sent.faults.get("password")),
+                "get_passwd.php",
+                "Set the password",
+                key.markup(sent.faults.get("key")),
+                email.markup(sent.faults.get("email")),
+                NEW_PASSWORD.markup(sent.faults.get("password")),
             ),
-            links=(("account", "Your account"), *BACK), is_kept=False,
+            links=(("account", "Your account"), *BACK),
+            is_kept=False,
         )
 
     def terms(self, environ: Environ) -> Answer:

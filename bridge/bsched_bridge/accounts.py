@@ -355,8 +355,7 @@ class Accounts:
     # ---- Resending
 
     def resend_open(self) -> None:
-        """Sends every import again that got no answer. Raises NoAnswer at the first one that gets none again.
-        """
+        """Sends every import without an answer again. Raises NoAnswer at the first that gets none again."""
         for member in self.members.open_ones():
             try:
                 with self._locks.held(member.email):

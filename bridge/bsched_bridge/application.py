@@ -87,8 +87,13 @@ class Application:
     """The application between clients and bsched."""
 
     def __init__(
-        self, settings: Settings, catalogue: Catalogue, file: StateFile, scheduler: Scheduler,
-        rules: Callable[[], HostRules] | None = None, passwords: Passwords | None = None,
+        self,
+        settings: Settings,
+        catalogue: Catalogue,
+        file: StateFile,
+        scheduler: Scheduler,
+        rules: Callable[[], HostRules] | None = None,
+        passwords: Passwords | None = None,
         store: UploadStore | None = None,
     ):
         self.settings, self.catalogue, self.scheduler, self.store = settings, catalogue, scheduler, store
@@ -99,20 +104,36 @@ class Application:
         self.accounts: Accounts | None = None
         if settings.accounts is not None and settings.operator_key is not None:
             self.accounts = Accounts(
-                settings.accounts, self.members, scheduler, settings.operator_key, passwords or Passwords(),
+                settings.accounts,
+                self.members,
+                scheduler,
+                settings.operator_key,
+                passwords or Passwords(),
                 Barring(file),
             )
         self.exchange = Exchange(
-            hosts, CallNumbers(file), scheduler, settings.retry_delay, rules or (lambda: settings.host_rules),
-            HostSearch(hosts, scheduler, settings.operator_key), Barring(file),
+            hosts,
+            CallNumbers(file),
+            scheduler,
+            settings.retry_delay,
+            rules or (lambda: settings.host_rules),
+            HostSearch(hosts, scheduler, settings.operator_key),
+            Barring(file),
             self.accounts.is_imported_again if self.accounts else lambda _authenticator: False,
-            archives, self._report_checks(hosts), settings.contact,
+            archives,
+            self._report_checks(hosts),
+            settings.contact,
         )
         tokens = None if store is None else UploadTokens(store.secret)
         has_accounts = self.accounts is not None
         self.writer = ReplyWriter(catalogue, settings.name, settings.url, tokens, has_accounts)
         self.statements = Statements(
-            hosts, self.members, scheduler, settings.operator_key, settings.counts, archives,
+            hosts,
+            self.members,
+            scheduler,
+            settings.operator_key,
+            settings.counts,
+            archives,
             RecentCredit(settings.averages),
         )
         self.recent = self.statements.recent

@@ -46,7 +46,8 @@ class Barring:
         with self.file.transaction() as connection:
             connection.execute(
                 "INSERT INTO barred (authenticator, barred_at, is_deleted) VALUES (?, ?, 0) "
-                "ON CONFLICT (authenticator) DO NOTHING", (authenticator, now),
+                "ON CONFLICT (authenticator) DO NOTHING",
+                (authenticator, now),
             )
 
     def unbar(self, authenticator: str) -> None:

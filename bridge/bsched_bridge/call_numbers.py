@@ -77,7 +77,8 @@ class CallNumbers:
             "SELECT EXISTS (SELECT 1 FROM member WHERE authenticator = ?1) OR EXISTS (SELECT 1 FROM host "
             "WHERE authenticator = ?1 AND host_cpid = ?2 AND (scheduler_hostid IS NOT NULL OR hostid IS NOT "
             "NULL))",
-            key.authenticator, key.host_cpid,
+            key.authenticator,
+            key.host_cpid,
         )
         return row == (0,)
 
@@ -86,12 +87,17 @@ class CallNumbers:
         row = self.file.row(
             "SELECT count(*) FROM (SELECT 1 FROM host WHERE open_call IS NOT NULL AND scheduler_hostid IS "
             "NULL AND hostid IS NULL AND NOT EXISTS (SELECT 1 FROM member WHERE member.authenticator = "
-            "host.authenticator) LIMIT ?)", MOST_OF_STRANGERS,
+            "host.authenticator) LIMIT ?)",
+            MOST_OF_STRANGERS,
         )
         return row == (MOST_OF_STRANGERS,)
 
     def opened(
-        self, key: Key, text: Callable[[int], bytes], above: int = 0, most_hosts: int | None = None,
+        self,
+        key: Key,
+        text: Callable[[int], bytes],
+        above: int = 0,
+        most_hosts: int | None = None,
         client: ClientState = ClientState(),
     ) -> bytes:
         """Returns the text of a new call. Its number is above `above` and all earlier numbers of its key.
@@ -136,7 +142,8 @@ class CallNumbers:
             values = key.authenticator, key.host_cpid
             connection.execute(
                 "DELETE FROM host WHERE authenticator = ? AND host_cpid = ? AND scheduler_hostid IS NULL "
-                "AND hostid IS NULL", values
+                "AND hostid IS NULL",
+                values,
             )
             connection.execute(
                 "UPDATE host SET open_call = NULL WHERE authenticator = ? AND host_cpid = ?", values

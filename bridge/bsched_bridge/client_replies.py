@@ -71,7 +71,11 @@ class ReplyWriter:
     """Writes the replies of a project."""
 
     def __init__(
-        self, catalogue: Catalogue, name: str, url: str, tokens: UploadTokens | None = None,
+        self,
+        catalogue: Catalogue,
+        name: str,
+        url: str,
+        tokens: UploadTokens | None = None,
         has_accounts: bool = False,
     ) -> None:
         self.catalogue, self.name, self.url, self.tokens = catalogue, name, url, tokens
@@ -95,7 +99,11 @@ class ReplyWriter:
         return written(root)
 
     def reply(
-        self, request: ClientRequest, reply: Reply, hostid: int | None = None, notice: str | None = None,
+        self,
+        request: ClientRequest,
+        reply: Reply,
+        hostid: int | None = None,
+        notice: str | None = None,
         recent: Recent | None = None,
     ) -> bytes:
         """Returns the reply to a request, with a notice for the volunteer. It has a hostid only for a client

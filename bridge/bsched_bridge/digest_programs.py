@@ -30,13 +30,47 @@ TRUE = Path("/usr/bin/true")  # a program that shows whether bubblewrap works
 MOST_AT_ONCE, PLACE_SECONDS = 2, 10.0  # programs at once, and how long another one waits
 END_SECONDS = 10
 SANDBOX = (
-    "--unshare-all", "--unshare-user", "--uid", "65534", "--gid", "65534", "--cap-drop", "ALL",
-    "--die-with-parent", "--new-session", "--clearenv",
-    "--ro-bind", "/usr", "/usr", "--symlink", "usr/bin", "/bin", "--symlink", "usr/sbin", "/sbin",
-    "--symlink", "usr/lib", "/lib", "--symlink", "usr/lib64", "/lib64",
-    "--ro-bind-try", "/etc/alternatives", "/etc/alternatives",
-    "--dev-bind", "/dev/null", "/dev/null", "--dev-bind", "/dev/urandom", "/dev/urandom",
-    "--size", str(FOLDER_BYTES), "--tmpfs", "/work", "--chdir", "/work",
+    "--unshare-all",
+    "--unshare-user",
+    "--uid",
+    "65534",
+    "--gid",
+    "65534",
+    "--cap-drop",
+    "ALL",
+    "--die-with-parent",
+    "--new-session",
+    "--clearenv",
+    "--ro-bind",
+    "/usr",
+    "/usr",
+    "--symlink",
+    "usr/bin",
+    "/bin",
+    "--symlink",
+    "usr/sbin",
+    "/sbin",
+    "--symlink",
+    "usr/lib",
+    "/lib",
+    "--symlink",
+    "usr/lib64",
+    "/lib64",
+    "--ro-bind-try",
+    "/etc/alternatives",
+    "/etc/alternatives",
+    "--dev-bind",
+    "/dev/null",
+    "/dev/null",
+    "--dev-bind",
+    "/dev/urandom",
+    "/dev/urandom",
+    "--size",
+    str(FOLDER_BYTES),
+    "--tmpfs",
+    "/work",
+    "--chdir",
+    "/work",
 )
 
 log = logging.getLogger(__name__)
@@ -75,14 +109,16 @@ def digest_of(program: DigestProgram, files: Iterable[tuple[str, Path]]) -> str:
         raise DigestFault(f"it can't be run: {error}") from None
 
 
-def _run(
-    program: DigestProgram, files: list[tuple[str, Path]], said: IO[bytes], status: IO[bytes]
-) -> None:
+def _run(program: DigestProgram, files: list[tuple[str, Path]], said: IO[bytes], status: IO[bytes]) -> None:
     """Runs a digest program. What it prints goes into one file, and what bubblewrap says of its end into
     another.
     """
     limits = {
-        "as": MEMORY_BYTES, "cpu": program.seconds, "nofile": MOST_FILES, "fsize": FOLDER_BYTES, "core": 0
+        "as": MEMORY_BYTES,
+        "cpu": program.seconds,
+        "nofile": MOST_FILES,
+        "fsize": FOLDER_BYTES,
+        "core": 0,
     }
     words = [PRLIMIT, *(f"--{name}={most}" for name, most in limits.items()), "--", BWRAP, *SANDBOX]
     words += ["--json-status-fd", str(status.fileno()), "--ro-bind", str(program.path.absolute()), "/digest"]
@@ -91,8 +127,13 @@ def _run(
     words += ["--remount-ro", "/", "--", "/digest", *(f"/files/{name}" for name, _ in files)]
     nothing: dict[str, str] = {}
     process = subprocess.Popen(
-        words, env=nothing, stdin=subprocess.DEVNULL, stdout=said, stderr=subprocess.DEVNULL,
-        pass_fds=[status.fileno()], cwd="/",
+        words,
+        env=nothing,
+        stdin=subprocess.DEVNULL,
+        stdout=said,
+        stderr=subprocess.DEVNULL,
+        pass_fds=[status.fileno()],
+        cwd="/",
     )
     try:
         process.wait(program.seconds + 1)

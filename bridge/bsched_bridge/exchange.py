@@ -110,10 +110,18 @@ class Exchange:
     """Answers requests."""
 
     def __init__(
-        self, hosts: Hosts, numbers: CallNumbers, scheduler: Scheduler, retry_delay: int,
-        rules: Callable[[], HostRules], search: HostSearch, barring: Barring,
+        self,
+        hosts: Hosts,
+        numbers: CallNumbers,
+        scheduler: Scheduler,
+        retry_delay: int,
+        rules: Callable[[], HostRules],
+        search: HostSearch,
+        barring: Barring,
         is_imported_again: Callable[[str], bool] = lambda _authenticator: False,
-        archives: Archives | None = None, reports: ReportChecks | None = None, contact: str | None = None,
+        archives: Archives | None = None,
+        reports: ReportChecks | None = None,
+        contact: str | None = None,
     ):
         self.hosts, self.numbers, self.scheduler, self.search = hosts, numbers, scheduler, search
         self.retry_delay, self.rules, self.barring, self.contact = retry_delay, rules, barring, contact
@@ -129,7 +137,9 @@ class Exchange:
         refused = self._refused(request.authenticator)
         if refused is not None:
             log.warning(
-                "host %s of account %s is refused: %s", request.host_cpid, shown_key(request.authenticator),
+                "host %s of account %s is refused: %s",
+                request.host_cpid,
+                shown_key(request.authenticator),
                 "deleted" if refused is DELETED else "barred",
             )
             return refused
@@ -201,7 +211,9 @@ class Exchange:
         if unheld:
             log.warning(
                 "account %s: no known host has %s, so its report is not taken (%d results)",
-                shown_key(request.authenticator), unheld[0], len(unheld),
+                shown_key(request.authenticator),
+                unheld[0],
+                len(unheld),
             )
             notice = not_taken(unheld)
             return PutOff(notice, HOUR, "notice") if aside is None else replace(aside, notice=notice)
@@ -254,8 +266,10 @@ class Exchange:
         reported = set(names_of(request.results))
         if self.search.operator_key is None:
             # without statements, a client is its host if bsched has the same number for it
-            is_host = reported and request.hostid and self.scheduler.has_host(
-                key.authenticator, key.host_cpid, request.hostid
+            is_host = (
+                reported
+                and request.hostid
+                and self.scheduler.has_host(key.authenticator, key.host_cpid, request.hostid)
             )
             return key, dict.fromkeys(reported, key) if is_host else {}
         holders = self.search.holders(key, reported | set(request.other_results or ()))
@@ -316,9 +330,7 @@ class Exchange:
         answer = self.scheduler.call(call)
         return self.archives.added_to(key, answer) if isinstance(answer, Reply) else answer
 
-    def _call(
-        self, key: Key, request: ClientRequest, client: ClientState = ClientState()
-    ) -> Reply | PutOff:
+    def _call(self, key: Key, request: ClientRequest, client: ClientState = ClientState()) -> Reply | PutOff:
         """Returns the reply to a request under a key. An open call of the key is sent first."""
         with self._locks.held(key):
             self._resend(key)
@@ -361,7 +373,9 @@ class Exchange:
             except TooManyHosts as many:
                 log.warning(
                     "host %s of account %s is refused: the account has %d hosts",
-                    key.host_cpid, shown_key(key.authenticator), many.count,
+                    key.host_cpid,
+                    shown_key(key.authenticator),
+                    many.count,
                 )
                 return too_many_hosts(many.count)
             answer = self._answer(key, call)
@@ -409,8 +423,7 @@ def jobs_with(reply: Reply, in_hand: list[Job]) -> list[Job]:
 
 
 class Resending(threading.Thread):
-    """A thread that sends open messages again until each has its answer: at the start, and then at intervals.
-    """
+    """A thread that sends open messages again until each has its answer: at the start, then at intervals."""
 
     def __init__(
         self, exchange: Exchange, pause_seconds: float, resend_accounts: Callable[[], None] | None = None

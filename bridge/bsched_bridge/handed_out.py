@@ -45,8 +45,13 @@ class HandedOut:
                 connection.execute(
                     "INSERT OR REPLACE INTO job (result, authenticator, host_cpid, listing, deadline) "
                     "VALUES (?, ?, ?, ?, ?)",
-                    (job.result, job.key.authenticator, job.key.host_cpid, listing_of(connection, job),
-                     job.deadline),
+                    (
+                        job.result,
+                        job.key.authenticator,
+                        job.key.host_cpid,
+                        listing_of(connection, job),
+                        job.deadline,
+                    ),
                 )
 
     def set_outcome(self, result: str, outcome: Outcome) -> None:
@@ -61,7 +66,8 @@ class HandedOut:
         """Returns the job with the name of a result."""
         row = self.tables.row(
             "SELECT authenticator, host_cpid, app, files, deadline, stored_at, exit_status, output "
-            "FROM job JOIN listing ON listing.id = listing WHERE result = ?", result,
+            "FROM job JOIN listing ON listing.id = listing WHERE result = ?",
+            result,
         )
         if row is None:
             return None

@@ -89,7 +89,8 @@ class Hosts:
         """Returns the account's host with a number that a client was told."""
         row = self.file.row(
             "SELECT host_cpid, coalesce(client_seqno, 0) FROM host WHERE authenticator = ? AND hostid = ?",
-            authenticator, hostid,
+            authenticator,
+            hostid,
         )
         return None if row is None else KnownHost(Key(authenticator, cast(str, row[0])), cast(int, row[1]))
 
@@ -99,7 +100,8 @@ class Hosts:
         """
         row = self.file.row(
             "SELECT host_cpid FROM host WHERE authenticator = ? AND copy_of = ? AND hostid IS NULL",
-            authenticator, hostid,
+            authenticator,
+            hostid,
         )
         return Key(authenticator, secrets.token_hex(16) if row is None else cast(str, row[0]))
 
@@ -107,7 +109,8 @@ class Hosts:
         """Returns bsched's number of a host by the last reply, if there was one."""
         row = self.file.row(
             "SELECT scheduler_hostid FROM host WHERE authenticator = ? AND host_cpid = ?",
-            key.authenticator, key.host_cpid,
+            key.authenticator,
+            key.host_cpid,
         )
         return None if row is None else cast("int | None", row[0])
 
@@ -117,7 +120,8 @@ class Hosts:
         """
         row = self.file.row(
             "SELECT has_former_number FROM host WHERE authenticator = ? AND host_cpid = ? AND hostid IS NULL",
-            key.authenticator, key.host_cpid,
+            key.authenticator,
+            key.host_cpid,
         )
         return row == (1,)
 
@@ -126,7 +130,8 @@ class Hosts:
         rows = self.file.rows(
             "SELECT host_cpid FROM host WHERE authenticator = ? AND scheduler_hostid IS NOT NULL "
             "ORDER BY heard_at DESC, scheduler_hostid DESC LIMIT ?",
-            authenticator, most,
+            authenticator,
+            most,
         )
         return [Key(authenticator, cast(str, row[0])) for row in rows]
 
@@ -183,7 +188,8 @@ class Hosts:
         """Returns the host_cpid of each host of an account that bsched has, by bsched's number."""
         rows = self.file.rows(
             "SELECT scheduler_hostid, host_cpid FROM host "
-            "WHERE authenticator = ? AND scheduler_hostid IS NOT NULL", authenticator,
+            "WHERE authenticator = ? AND scheduler_hostid IS NOT NULL",
+            authenticator,
         )
         return {cast(int, row[0]): cast(str, row[1]) for row in rows}
 
@@ -193,6 +199,7 @@ class Hosts:
         """
         rows = self.file.rows(
             "SELECT authenticator, user_credit, max(CASE WHEN heard_at <= ? THEN heard_at ELSE 0 END) "
-            "FROM host WHERE scheduler_hostid IS NOT NULL GROUP BY authenticator", int(time.time()),
+            "FROM host WHERE scheduler_hostid IS NOT NULL GROUP BY authenticator",
+            int(time.time()),
         )
         return [(cast(str, row[0]), cast(int, row[1])) for row in rows]

@@ -63,11 +63,11 @@ def joined(*parts: object) -> Markup:
 
 
 def element(name: str, /, *parts: object, **attributes: object) -> Markup:
-    """Returns an element. Attributes that are None or False are left out, and one that is True has no value.
-    """
+    """Returns an element. It leaves out attributes that are None or False; one that is True has no value."""
     told = "".join(
         f" {key.rstrip('_').replace('_', '-')}" + ("" if value is True else f'="{escape(str(value))}"')
-        for key, value in attributes.items() if value is not None and value is not False
+        for key, value in attributes.items()
+        if value is not None and value is not False
     )
     if name in EMPTY_ELEMENTS:
         return Markup(f"<{name}{told}>")
@@ -122,8 +122,13 @@ def page(
     lines = [
         Markup('<!DOCTYPE html>\n<html lang="en">\n<head>\n<meta charset="utf-8">\n'),
         Markup('<meta name="viewport" content="width=device-width, initial-scale=1">\n'),
-        element("title", title), "\n", head, Markup(f"<style>{STYLE}</style>\n</head>\n<body>\n"),
-        element("h1", title), "\n", *(joined(part, "\n") for part in parts),
+        element("title", title),
+        "\n",
+        head,
+        Markup(f"<style>{STYLE}</style>\n</head>\n<body>\n"),
+        element("h1", title),
+        "\n",
+        *(joined(part, "\n") for part in parts),
     ]
     if links:
         lines += [

@@ -92,7 +92,8 @@ def first_heard(connection: sqlite3.Connection, authenticator: str, name: str, n
     """Inserts the account that a reply is for, if it is not known yet, within a transaction."""
     connection.execute(
         "INSERT INTO member (authenticator, name, is_imported, cpid, created_at) VALUES (?, ?, 1, ?, ?) "
-        "ON CONFLICT (authenticator) DO NOTHING", (authenticator, name, secrets.token_hex(16), now),
+        "ON CONFLICT (authenticator) DO NOTHING",
+        (authenticator, name, secrets.token_hex(16), now),
     )
 
 
@@ -140,7 +141,9 @@ class Members:
             return [exact]
         rows = self.file.rows(
             f"SELECT {COLUMNS} FROM member WHERE name = ?1 OR "
-            "(length(?1) >= ?2 AND substr(authenticator, 1, length(?1)) = ?1) ORDER BY id", text, least_key
+            "(length(?1) >= ?2 AND substr(authenticator, 1, length(?1)) = ?1) ORDER BY id",
+            text,
+            least_key,
         )
         return list(map(member_of, rows))
 

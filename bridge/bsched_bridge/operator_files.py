@@ -116,8 +116,7 @@ class Entry:
         return path
 
     def short_text(self, member: str) -> str | None:
-        """Returns the text of the file that a member names, for pages. Returns None if the member is absent.
-        """
+        """Returns the text of the file that a member names, for pages, or None if the member is absent."""
         if member not in self.members:
             return None
         path = self.existing(member)

@@ -85,9 +85,14 @@ def opened(args: argparse.Namespace) -> State:
 def row_of(state: State, member: Member, credit: int, hosts: int) -> dict[str, object]:
     """Returns an account as a row of the list."""
     return {
-        "number": member.id, "key": shown_key(member.authenticator), "name": member.name,
-        "address": member.email or "", "computers": hosts, "credit": credits_text(credit),
-        "made": moment_text(member.created_at), "named": "yes" if member.is_exported else "",
+        "number": member.id,
+        "key": shown_key(member.authenticator),
+        "name": member.name,
+        "address": member.email or "",
+        "computers": hosts,
+        "credit": credits_text(credit),
+        "made": moment_text(member.created_at),
+        "named": "yes" if member.is_exported else "",
         "state": state.barred(member),
     }
 
@@ -118,10 +123,15 @@ def show(state: State, args: argparse.Namespace) -> Iterator[str]:
     heard = state.hosts.heard(MOST_HOSTS, member.authenticator)
     consent = "" if member.consent_at is None else moment_text(member.consent_at)
     facts = {
-        "number": member.id, "key": member.authenticator, "name": member.name,
-        "address": member.email or "none", "made": moment_text(member.created_at),
-        "agreed to the terms": consent or "no", "may be named": "yes" if member.is_exported else "no",
-        "credit": credits_text(heard[0].user_credit if heard else 0), "state": state.barred(member) or "good",
+        "number": member.id,
+        "key": member.authenticator,
+        "name": member.name,
+        "address": member.email or "none",
+        "made": moment_text(member.created_at),
+        "agreed to the terms": consent or "no",
+        "may be named": "yes" if member.is_exported else "no",
+        "credit": credits_text(heard[0].user_credit if heard else 0),
+        "state": state.barred(member) or "good",
     }
     yield from (f"{name}: {value}" for name, value in facts.items())
     yield from (host_line(host) for host in heard)
@@ -143,7 +153,8 @@ def consented(state: State, args: argparse.Namespace) -> Iterator[str]:
     """
     barred = state.barring.all()
     rows = [
-        (member, barred.get(member.authenticator) is Barred.DELETED) for member in state.members.all()
+        (member, barred.get(member.authenticator) is Barred.DELETED)
+        for member in state.members.all()
         if member.is_exported or barred.get(member.authenticator) is Barred.DELETED
     ]
     if args.json:
@@ -207,7 +218,7 @@ def copy(state: State, args: argparse.Namespace) -> Iterator[str]:
     made = copied(state, args.to)
     yield f"{made}: {made.stat().st_size} bytes"
     if args.keep is not None and args.to.is_dir():
-        for old in sorted(args.to.glob(f"bridge-*{COPY_ENDING}"), reverse=True)[args.keep:]:
+        for old in sorted(args.to.glob(f"bridge-*{COPY_ENDING}"), reverse=True)[args.keep :]:
             old.unlink()
             yield f"removed {old}"
 

@@ -53,8 +53,11 @@ def compared_text(files: tuple[OutputFile, ...], stored: dict[str, StoredOutput]
     for file in files:
         if file.is_compared:
             one = stored.get(file.open_name)
-            lines.append(f"{file.open_name} absent" if one is None else
-                         f"{file.open_name} sha256:{one.sha256} {one.nbytes}")
+            lines.append(
+                f"{file.open_name} absent"
+                if one is None
+                else f"{file.open_name} sha256:{one.sha256} {one.nbytes}"
+            )
     text = "\n".join(lines)
     if len(text.encode()) <= MOST_OUTPUT:
         return text

@@ -106,10 +106,14 @@ def status_page(settings: Settings, status: Status, environ: Environ) -> Answer:
     recent = status.recent
     parts: list[object] = []
     if status.silent_since is not None:
-        parts.append(element(
-            "p", f"The scheduler has given no answer since {moment_text(status.silent_since)} UTC. "
-            "Computers keep their work, and report it later.", class_="fault",
-        ))
+        parts.append(
+            element(
+                "p",
+                f"The scheduler has given no answer since {moment_text(status.silent_since)} UTC. "
+                "Computers keep their work, and report it later.",
+                class_="fault",
+            )
+        )
     parts.append(element("p", f"As of {moment_text(recent.read_at)} UTC.", class_="note"))
     if status.units is not None:
         parts += units_markup(status.units)
@@ -123,7 +127,8 @@ def units_markup(units: UnitCounts) -> list[Markup]:
     rows: list[list[object]] = [[FAILED.get(name, name), count] for name, count in units.by_status.items()]
     rows.append(["all", sum(units.by_status.values())])
     return [
-        element("h2", "Workunits"), table(["status", "workunits"], rows),
+        element("h2", "Workunits"),
+        table(["status", "workunits"], rows),
         element("p", f"Counted at {moment_text(units.counted_at)} UTC.", class_="note"),
     ]
 

@@ -68,7 +68,8 @@ class ReportChecks:
         apps = self.catalogue.apps
         told = [
             HandedJob(job.name, key, job.app_name, apps[job.app_name].output_files, job.report_deadline)
-            for job in jobs if job.app_name in apps
+            for job in jobs
+            if job.app_name in apps
         ]
         if told:
             self.jobs.add(told)

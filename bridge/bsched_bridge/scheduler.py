@@ -290,7 +290,10 @@ class Scheduler:
 def asking_call(authenticator: str, host_cpid: str, hostid: int) -> bytes:
     """Returns a call that changes nothing."""
     record = {
-        "authenticator": authenticator, "hostid": hostid, "rpc_seqno": 0, "platform_name": "none",
+        "authenticator": authenticator,
+        "hostid": hostid,
+        "rpc_seqno": 0,
+        "platform_name": "none",
         "host_info": {"host_cpid": host_cpid, "p_fpops": 1, "m_nbytes": 0, "d_free": 0},
     }
     return json.dumps(record).encode()

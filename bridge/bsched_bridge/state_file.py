@@ -85,25 +85,29 @@ INSERT INTO member (authenticator, name, is_imported, cpid, created_at)
   ) ORDER BY heard_at, hostid;
 """
 # Which number a client was told before is not known: it may be from earlier tables.
-HOSTS_OF_VERSION_2 = """
+HOSTS_OF_VERSION_2 = (
+    """
 DROP INDEX host_by_number;
 DROP INDEX host_with_open_call;
 DROP INDEX host_heard;
 ALTER TABLE host RENAME TO host_of_version_2;
-""" + HOSTS + """
+"""
+    + HOSTS
+    + """
 INSERT INTO host (authenticator, host_cpid, has_former_number, scheduler_hostid, last_number, open_call,
     jobs_in_hand, user_name, user_credit, host_credit, heard_at)
   SELECT authenticator, host_cpid, 1, hostid, last_number, open_call, jobs_in_hand, user_name, user_credit,
     host_credit, heard_at FROM host_of_version_2;
 DROP TABLE host_of_version_2;
 """
+)
 NEW_FILE = HOSTS + NUMBERS + MEMBERS + BARRED
 # the statements from each version to the next
 UPGRADES = {1: MEMBERS + HEARD_MEMBERS, 2: HOSTS_OF_VERSION_2 + NUMBERS, 3: BARRED}
 BUSY_SECONDS = 10.0  # for a transaction of another process
 
 
-SPOILED = "it is spoiled or no state file: see bridge/README.md, \"The state file\""
+SPOILED = 'it is spoiled or no state file: see bridge/README.md, "The state file"'
 
 
 class StateFault(Exception):

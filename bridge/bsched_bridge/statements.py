@@ -196,8 +196,11 @@ class Statements:
             (names.get(key, "?"), credit, self._recent(key)) for key, credit in self.hosts.user_credits()
         ]
         return Status(
-            recent, self.hosts.count(), sorted(ranking, key=lambda user: (-user[1], user[0])),
-            read_unit_counts(self.unit_counts), self.scheduler.silent_since,
+            recent,
+            self.hosts.count(),
+            sorted(ranking, key=lambda user: (-user[1], user[0])),
+            read_unit_counts(self.unit_counts),
+            self.scheduler.silent_since,
             self.recent.path is not None,
         )
 
@@ -224,8 +227,7 @@ class Statements:
         return Hosts([self._without_results(host) for host in heard], False, time.time())
 
     def _without_results(self, host: HeardHost) -> HostStatus:
-        """Returns the status of a host that has no results in bsched's file, or whose results are not known.
-        """
+        """Returns the status of a host without results in bsched's file, or whose results are not known."""
         return HostStatus(host, max(host.host_credit, self.archives.hosts[host.key]))
 
     def _with_results(self, heard: list[HeardHost], operator_key: str) -> list[HostStatus]:

@@ -148,8 +148,7 @@ class UploadStore:
                 path.unlink(missing_ok=True)
 
     def _keep(self, path: Path, upload: Upload) -> None:
-        """Gives a received file its name. An older file of that name is deleted once the new one has its row.
-        """
+        """Gives a received file its name. An older file of that name goes once the new one has its row."""
         with self.tables.turn():
             older, target = self.upload(upload.name), self.path_of(upload)
             is_another = older is None or self.path_of(older) != target
@@ -236,7 +235,9 @@ def check_uploads(settings: Settings, catalogue: Catalogue) -> None:
             )
         if settings.uploads is not None and nbytes > settings.uploads.most_result_bytes:
             raise OperatorFault(
-                settings.catalogue, None, f"the output files of {app.name} have up to {nbytes} bytes, and "
+                settings.catalogue,
+                None,
+                f"the output files of {app.name} have up to {nbytes} bytes, and "
                 f"most_result_bytes in [uploads] is {settings.uploads.most_result_bytes}",
             )
 
@@ -247,7 +248,9 @@ def secret_in(folder: Path) -> bytes:
     if not path.exists():
         if (folder / "uploads.db").exists():
             raise OperatorFault(
-                path, None, "is missing: restore it, or the jobs that are out are lost. To give them up, "
+                path,
+                None,
+                "is missing: restore it, or the jobs that are out are lost. To give them up, "
                 f"make a new one: head -c 32 /dev/urandom > {path}",
             )
         write_secret(path)

@@ -75,7 +75,9 @@ def sweep_uploads(store: UploadStore, now: int, swept: Swept) -> None:
         "SELECT name, nbytes, md5, sha256 FROM upload WHERE received_at < ? AND (received_at < ? OR EXISTS "
         "(SELECT 1 FROM job WHERE stored_at < ? AND "
         "result = replace(substr(name, 1, length(rtrim(name, '0123456789')) - 1), '+', '')))",
-        recent, late, recent,
+        recent,
+        late,
+        recent,
     )
     old = [Upload(*cast("tuple[str, int, str, str]", row)) for row in rows]
     for part in parts_of(old, PART):
@@ -110,7 +112,9 @@ def sweep_results(store: UploadStore, before: int, decisions: Decisions, swept: 
     while True:
         rows = store.tables.rows(
             "SELECT result FROM job WHERE stored_at < ? AND result > ? ORDER BY result LIMIT ?",
-            before, last, PAGE,
+            before,
+            last,
+            PAGE,
         )
         if not rows:
             return

@@ -168,5 +168,5 @@ class Uploads:
         if length != head.length + head.file.nbytes:
             raise NotNow("its length is not that of its head and its file")
         with self.places.taken(PLACE_SECONDS):
-            self.store.receive(head.file, blocks_of(begin[head.length:], stream, head.file.nbytes))
+            self.store.receive(head.file, blocks_of(begin[head.length :], stream, head.file.nbytes))
         return answer_of(DONE, "")

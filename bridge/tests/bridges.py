@@ -116,4 +116,3 @@ class Bridge:
         status, _, told = self.got("/p/cgi", "POST", body.encode() if isinstance(body, str) else body)
         assert status == "200 OK"
         return told
-

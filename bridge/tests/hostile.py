@@ -37,21 +37,39 @@ MB = 1024 * 1024
 SHAPES = {
     "ends of sections": (HEAD + RESULT + ERROR, b"]]>", ERROR_END + RESULT_END + END, MOST_BYTES),
     "ends of sections and an emoji": (
-        HEAD + RESULT + ERROR + EMOJI, b"]]>", ERROR_END + RESULT_END + END, MOST_BYTES,
+        HEAD + RESULT + ERROR + EMOJI,
+        b"]]>",
+        ERROR_END + RESULT_END + END,
+        MOST_BYTES,
     ),
     "many standard errors": (
-        HEAD, RESULT + ERROR + EMOJI + b"]]>" * 2700 + ERROR_END + RESULT_END, END, MOST_BYTES,
+        HEAD,
+        RESULT + ERROR + EMOJI + b"]]>" * 2700 + ERROR_END + RESULT_END,
+        END,
+        MOST_BYTES,
     ),
     "standard errors of references": (
-        HEAD, RESULT + ERROR + b"&#195;" * 80_000 + ERROR_END + RESULT_END, END, MOST_BYTES,
+        HEAD,
+        RESULT + ERROR + b"&#195;" * 80_000 + ERROR_END + RESULT_END,
+        END,
+        MOST_BYTES,
     ),
     "attributes": (HEAD + b"<a", b" a=''", b"/>" + END, MOST_BYTES),
-    "other attributes": (HEAD, b"<a " + b"".join(b"a%d=''" % n for n in range(2000)) + b"/>", END, MOST_BYTES),
+    "other attributes": (
+        HEAD,
+        b"<a " + b"".join(b"a%d=''" % n for n in range(2000)) + b"/>",
+        END,
+        MOST_BYTES,
+    ),
     "elements": (HEAD, b"<a/>", END, MOST_BYTES),
     "elements of a small request": (HEAD, b"<a/>", END, LARGE_BYTES),
     "elements with an emoji": (HEAD, b"<a>" + EMOJI + b"</a>", END, LARGE_BYTES),
-    "names": (HEAD + b"<other_results>", b"<other_result><name>a</name></other_result>",
-              b"</other_results>" + END, LARGE_BYTES),
+    "names": (
+        HEAD + b"<other_results>",
+        b"<other_result><name>a</name></other_result>",
+        b"</other_results>" + END,
+        LARGE_BYTES,
+    ),
     "results": (HEAD, RESULT + RESULT_END, END, LARGE_BYTES),
     "a text and an emoji": (HEAD + b"<a>" + EMOJI, b"x", b"</a>" + END, 4 * MB - 200),
     "a text of a small request": (HEAD + b"<a>" + EMOJI, b"x", b"</a>" + END, LARGE_BYTES),
@@ -82,7 +100,7 @@ class Body:
             return told
         if self.left:
             told = self.part[: min(size, self.left)]
-            self.part = self.part[len(told):] + told  # the same bytes, as they go on
+            self.part = self.part[len(told) :] + told  # the same bytes, as they go on
             self.left -= len(told)
             return told
         return self.last

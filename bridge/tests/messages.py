@@ -3,6 +3,7 @@ import re
 
 FIRST = 100_001  # the number that the first host gets, if the clock does not give a greater one
 
+
 def request(
     hostid=0, cpid="c1", key="ann-key", seconds=60, listed=(), reports=(), seqno=0, statuses=None, **more
 ):

@@ -65,7 +65,11 @@ class Client:
     def request(self, seconds: int) -> str:
         """Returns the client's request."""
         return request(
-            hostid=self.hostid, key=self.key, cpid=self.cpid, seqno=self.seqno, seconds=seconds,
+            hostid=self.hostid,
+            key=self.key,
+            cpid=self.cpid,
+            seqno=self.seqno,
+            seconds=seconds,
             listed=sorted(self.working),
             reports=[(name, name.rpartition("_")[0]) for name in sorted(self.finished)],
             statuses={name: ABORTED for name in self.aborted},
@@ -83,13 +87,17 @@ class Life:
 
     def __init__(self, bridge, twin, chance, clock):
         self.bridge, self.twin, self.chance, self.clock = bridge, twin, chance, clock
-        self.clients = [
-            Client("ann-key", "a1", 1), Client("ann-key", "a2", 2), Client("bob-key", "b1", 3)
-        ]
+        self.clients = [Client("ann-key", "a1", 1), Client("ann-key", "a2", 2), Client("bob-key", "b1", 3)]
         self.tables, self.files, self.state, self.renamed = 0, 0, 0, 0
         self.older_tables = self.older_state = None
-        self.counts = {"acknowledged": 0, "copies": 0, "restores": 0, "further files": 0, "state files": 0,
-                       "changed host_cpids": 0}
+        self.counts = {
+            "acknowledged": 0,
+            "copies": 0,
+            "restores": 0,
+            "further files": 0,
+            "state files": 0,
+            "changed host_cpids": 0,
+        }
 
     # ---- Steps
 
@@ -242,9 +250,9 @@ class Life:
                 other.heard_as == client.heard_as or grant.state != self.state
             )
             # after a change of the tables the scheduler does not know any more that it gave the job out
-            assert is_one_host or (grant.tables != self.tables and grant.holder != owner), (
-                f"{name} is given to {owner}, and {other} has it"
-            )
+            assert is_one_host or (
+                grant.tables != self.tables and grant.holder != owner
+            ), f"{name} is given to {owner}, and {other} has it"
         client.working[name] = Grant(owner, self.tables, self.state)
 
     # ---- The end

@@ -71,7 +71,8 @@ class Steps:
             Path, "unlink", lambda path, **more: self.around(lambda: unlink(path, **more), "unlink")
         )
         monkeypatch.setattr(
-            bridge.application.scheduler, "message",
+            bridge.application.scheduler,
+            "message",
             lambda *words: self.around(lambda: message(*words), "send"),
         )
         for tables in (bridge.file, bridge.store.tables):

@@ -56,8 +56,7 @@ def resent(bridge):
 @pytest.mark.parametrize("past", PASTS)
 @pytest.mark.parametrize("asks_first", [True, False], ids=["client first", "resending first"])
 def test_a_stop_at_each_write_and_send(project, monkeypatch, past, is_after, asks_first):
-    """The client asks until it has a key. The bridge is stopped once, at the n-th write or send, for each n.
-    """
+    """The client asks until it has a key. The bridge is stopped once, at the n-th write or send, for each n."""
     with (project / "bridge.toml").open("a") as file:
         file.write(ACCOUNTS)
     seen = set()

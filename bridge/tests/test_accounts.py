@@ -12,7 +12,16 @@ import pytest
 from hypothesis import given
 from hypothesis import strategies as st
 from joining import (
-    CLIENT, account_query, client_hash, create, look_up, made_accounts, rows, told, wait_until, works,
+    CLIENT,
+    account_query,
+    client_hash,
+    create,
+    look_up,
+    made_accounts,
+    rows,
+    told,
+    wait_until,
+    works,
 )
 from messages import FIRST, request, value
 
@@ -44,7 +53,7 @@ def test_an_account_is_made_once_and_found_again(open_bridge, twin):
 
 def test_what_is_sent_to_bsched(open_bridge, twin):
     key = create(open_bridge)
-    (batch, text), = twin.imports
+    ((batch, text),) = twin.imports
     assert re.fullmatch("account-[0-9a-f]{32}", batch)
     name = open_bridge.members.of_key(key).name
     assert re.fullmatch("volunteer-[0-9]{6}", name)
@@ -423,7 +432,7 @@ def test_networks(address, network, is_own):
 
 def test_what_is_kept_of_a_password(open_bridge):
     create(open_bridge)
-    (salt, secret, cost), = open_bridge.file.rows("SELECT salt, secret, cost FROM member")
+    ((salt, secret, cost),) = open_bridge.file.rows("SELECT salt, secret, cost FROM member")
     assert (len(salt), len(secret), cost) == (16, 64, "scrypt 16 8 1")
     dump = str(open_bridge.file.rows("SELECT * FROM member"))
     assert client_hash("secret1", EMAIL) not in dump and "secret1" not in dump

@@ -22,8 +22,7 @@ HANGING_ERRORS = {"-136", "-161", "-205", "-206", "-204"}
 
 
 def account_answer(bridge, query):
-    """Returns the answer to a message about an account. The client reads its body only if the status is 200.
-    """
+    """Returns the answer to a message about an account. The client reads its body only if the status is 200."""
     status, fields, body = bridge.got(f"/p/{query}")
     assert (status, fields["Content-Type"]) == ("200 OK", "text/xml; charset=utf-8")
     return ElementTree.fromstring(body)
@@ -184,9 +183,14 @@ def test_a_faulty_request_gets_a_reply(bridge, body, why):
 def test_what_is_no_message(bridge, monkeypatch):
     assert bridge.got("/")[0] == "404 Not Found"
     assert bridge.got("/p/nothing")[0] == "404 Not Found"
-    assert bridge.got("/p/cgi")[:2] == ("405 Method Not Allowed", {
-        "Content-Type": "text/plain; charset=utf-8", "Content-Length": "19", "Allow": "POST",
-    })
+    assert bridge.got("/p/cgi")[:2] == (
+        "405 Method Not Allowed",
+        {
+            "Content-Type": "text/plain; charset=utf-8",
+            "Content-Length": "19",
+            "Allow": "POST",
+        },
+    )
     assert bridge.got("/p/", "POST")[0] == "405 Method Not Allowed"
     assert bridge.got("/p/cgi", "POST", CONTENT_LENGTH="")[0] == "411 Length Required"
     assert bridge.got("/p/cgi", "POST", CONTENT_LENGTH="-1")[0] == "411 Length Required"
@@ -239,16 +243,23 @@ def further_file(bridge, key, members):
         signature_text(file_md5(bridge.folder / "files" / "tool_1"), key)
     )
     path = bridge.folder / "catalogue.toml"
-    path.write_text(path.read_text().replace(
-        "main_program = true }]",
-        f'main_program = true }}, {{ name = "tool_1", signature = "tool_1.signature"{members} }}]',
-    ))
+    path.write_text(
+        path.read_text().replace(
+            "main_program = true }]",
+            f'main_program = true }}, {{ name = "tool_1", signature = "tool_1.signature"{members} }}]',
+        )
+    )
     bridge.restart()
 
 
-@pytest.mark.parametrize("members, executable", [
-    ("", None), (", executable = false", None), (', executable = true, open_name = "tool"', "1"),
-])
+@pytest.mark.parametrize(
+    "members, executable",
+    [
+        ("", None),
+        (", executable = false", None),
+        (', executable = true, open_name = "tool"', "1"),
+    ],
+)
 def test_a_further_file_of_a_version_can_be_a_program(bridge, key, members, executable):
     further_file(bridge, key, members)
     reply = ElementTree.fromstring(bridge.call(request()))
@@ -261,12 +272,12 @@ def test_an_application_whose_results_are_reported_at_once(bridge):
     reply = bridge.call(request())
     assert (jobs(reply), value(reply, "report_immediately")) == (["u1_0"], None)
     path = bridge.folder / "catalogue.toml"
-    path.write_text(path.read_text().replace('title = ', 'report_immediately = true\ntitle = '))
+    path.write_text(path.read_text().replace("title = ", "report_immediately = true\ntitle = "))
     bridge.restart()
     reply = ElementTree.fromstring(bridge.call(request(hostid=FIRST, listed=["u1_0"])))
-    assert [(job.findtext("name"), job.findtext("report_immediately")) for job in reply.findall("result")] == [
-        ("u2_0", "1")
-    ]
+    assert [
+        (job.findtext("name"), job.findtext("report_immediately")) for job in reply.findall("result")
+    ] == [("u2_0", "1")]
 
 
 def test_the_manager_gets_buttons(bridge):
@@ -278,7 +289,8 @@ def test_the_manager_gets_buttons(bridge):
 def test_the_manager_gets_a_button_for_the_account(open_bridge):
     buttons = ElementTree.fromstring(open_bridge.call(request())).findall("gui_urls/gui_url")
     assert [(button.findtext("name"), button.findtext("url")) for button in buttons] == [
-        ("Your account", "http://127.0.0.1:8081/p/account"), ("Project status", "http://127.0.0.1:8081/p/status"),
+        ("Your account", "http://127.0.0.1:8081/p/account"),
+        ("Project status", "http://127.0.0.1:8081/p/status"),
     ]
     assert all(button.findtext("description") for button in buttons)
     assert open_bridge.got("/p/account")[0] == "200 OK"
@@ -290,7 +302,10 @@ def test_files_that_are_read_slowly_leave_threads_for_pages_and_calls(bridge):
 
     def asked(name="two.txt", **more):
         environ = {
-            "REQUEST_METHOD": "GET", "PATH_INFO": f"/p/download/{name}", "SERVER_SOFTWARE": "gunicorn/20.1.0", **more,
+            "REQUEST_METHOD": "GET",
+            "PATH_INFO": f"/p/download/{name}",
+            "SERVER_SOFTWARE": "gunicorn/20.1.0",
+            **more,
         }
         return bridge.application(environ, lambda status, fields: told.append(status[:3]))
 

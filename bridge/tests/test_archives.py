@@ -69,7 +69,8 @@ def test_settings(project):
     path.write_text(f'{text}archives = ["2026.db"]\n')
     assert read_settings(path).archives == (project / "2026.db",)
     for archives, told in (
-        ('["none.db"]', "none.db is not a file"), ("[1]", "is not an array of texts in quotes"),
+        ('["none.db"]', "none.db is not a file"),
+        ("[1]", "is not an array of texts in quotes"),
         ('"2026.db"', "is not an array of texts in quotes"),
     ):
         path.write_text(f"{text}archives = {archives}\n")

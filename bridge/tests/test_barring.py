@@ -84,7 +84,10 @@ def test_an_account_is_shown_by_any_of_its_names(project, open_bridge, by):
     key = create(open_bridge)
     open_bridge.call(request(key=key))
     names = {
-        "address": ANN, "ADDRESS": ANN.upper(), "name": open_bridge.members.of_key(key).name, "key": key,
+        "address": ANN,
+        "ADDRESS": ANN.upper(),
+        "name": open_bridge.members.of_key(key).name,
+        "key": key,
         "front": key[:8],
     }
     told = done(project, "show", names[by])
@@ -107,7 +110,10 @@ def test_who_agreed_to_be_named(project, open_bridge):
     posted(open_bridge, "account_finish.php", key=other, name="Bob")
     assert done(project, "consented") == f'{key},"Zoë, ""Z"""\n'
     assert json.loads(done(project, "consented", "--json")) == {
-        "authenticator": key, "name": 'Zoë, "Z"', "is_deleted": False}
+        "authenticator": key,
+        "name": 'Zoë, "Z"',
+        "is_deleted": False,
+    }
 
 
 # ---- Barring
@@ -136,7 +142,9 @@ def test_the_list_of_the_settings_counts_too(project, open_bridge):
 
 def is_forgotten(project, bridge, key):
     """Checks that nothing of a volunteer is left."""
-    row, = bridge.file.rows("SELECT email, secret, name, consent_at, is_exported FROM member WHERE authenticator = ?", key)
+    (row,) = bridge.file.rows(
+        "SELECT email, secret, name, consent_at, is_exported FROM member WHERE authenticator = ?", key
+    )
     assert row == (None, None, "deleted", None, 0)
     assert bridge.file.rows("SELECT * FROM host WHERE authenticator = ?", key) == []
     bridge.file.close()  # the log is then in the file
@@ -151,7 +159,9 @@ def test_a_volunteer_deletes_the_account(project, open_bridge):
     form = {"email": ANN, "password": PASSWORD}
     assert "Tick this" in posted(open_bridge, "delete_account.php", **form)
     wrong = {"email": ANN, "password": "another", "is_sure": "1"}
-    assert "No account has this e-mail address and password" in posted(open_bridge, "delete_account.php", **wrong)
+    assert "No account has this e-mail address and password" in posted(
+        open_bridge, "delete_account.php", **wrong
+    )
     assert look_up(open_bridge) == key
     assert "Your account is deleted." in posted(open_bridge, "delete_account.php", **form, is_sure="1")
     assert "was deleted" in message(open_bridge, key, "computer-of-ann")

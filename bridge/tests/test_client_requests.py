@@ -24,7 +24,7 @@ def recorded(name):
 
 def read_request(body, size=65_536):
     """Returns the request in a body that comes in blocks of a size."""
-    return client_requests.read_request(body[start:start + size] for start in range(0, len(body), size))
+    return client_requests.read_request(body[start : start + size] for start in range(0, len(body), size))
 
 
 def test_a_first_request():
@@ -128,8 +128,12 @@ def test_the_size_of_blocks_makes_no_difference(name, size):
     assert read_request(recorded(name), size) == read_request(recorded(name))
 
 
-@given(st.lists(st.sampled_from(["]]>", "</stderr_out>", "<stderr_out>", "<![CDATA[", "é", "\n", "<answer>", "x"])),
-       st.integers(1, 60))
+@given(
+    st.lists(
+        st.sampled_from(["]]>", "</stderr_out>", "<stderr_out>", "<![CDATA[", "é", "\n", "<answer>", "x"])
+    ),
+    st.integers(1, 60),
+)
 def test_any_standard_error_in_blocks_of_any_size(parts, size):
     output = "".join(parts)
     body = request(reports=[("u1_0", "HERE"), ("u2_0", "two")]).replace("HERE", f"<answer>{output}</answer>")
@@ -139,7 +143,9 @@ def test_any_standard_error_in_blocks_of_any_size(parts, size):
 
 
 def test_messages_of_programs_are_left_out():
-    message = "<msg_from_host>\n<result_name>u1_0</result_name>\n<text>a < b & c]]>\x01</text>\n</msg_from_host>\n"
+    message = (
+        "<msg_from_host>\n<result_name>u1_0</result_name>\n<text>a < b & c]]>\x01</text>\n</msg_from_host>\n"
+    )
     body = request(extra=message * 2, reports=[("u1_0", "<msg_from_host>")]).encode()
     assert read_request(body).results == (Report("u1_0", 0, "<msg_from_host>"),)
     with pytest.raises(RequestFault):
@@ -149,15 +155,26 @@ def test_messages_of_programs_are_left_out():
 @pytest.mark.parametrize("tag", ["<answer>", "<stderr_txt>", "<stderr_txt><answer>"])
 def test_tags_that_are_never_closed(tag):
     output = tag * (request_parts.MOST_ERROR // 25)
-    assert read_request(request(reports=[("u1_0", "")]).replace(
-        "<stderr_txt>\n\n</stderr_txt>", output
-    ).encode()).results[0].output == output[:1024]
+    assert (
+        read_request(
+            request(reports=[("u1_0", "")]).replace("<stderr_txt>\n\n</stderr_txt>", output).encode()
+        )
+        .results[0]
+        .output
+        == output[:1024]
+    )
 
 
-@pytest.mark.parametrize("told, status", [
-    ("0</exit_status><state>5", 0), ("0</exit_status><state>3", 1), ("-9</exit_status><state>3", -9),
-    ("3221225477</exit_status><state>3", 2**31 - 1), ("7</exit_status><state>5", 7),
-])
+@pytest.mark.parametrize(
+    "told, status",
+    [
+        ("0</exit_status><state>5", 0),
+        ("0</exit_status><state>3", 1),
+        ("-9</exit_status><state>3", -9),
+        ("3221225477</exit_status><state>3", 2**31 - 1),
+        ("7</exit_status><state>5", 7),
+    ],
+)
 def test_exit_statuses(told, status):
     body = request(reports=[("u1_0", "")]).replace("0</exit_status><state>5", told)
     assert read_request(body.encode()).results[0].exit_status == status
@@ -179,7 +196,7 @@ def test_a_request_that_is_cut_anywhere_is_refused(name):
 
 BOMB = (
     '<!DOCTYPE x [<!ENTITY a "aaaa"><!ENTITY b "&a;&a;">]>'
-    '<scheduler_request><authenticator>&b;</authenticator></scheduler_request>'
+    "<scheduler_request><authenticator>&b;</authenticator></scheduler_request>"
 )
 FAULTS = {
     "nothing": "",
@@ -240,7 +257,10 @@ def test_bytes_that_are_no_xml_outside_of_a_standard_error():
 def test_hostile_requests_take_little_memory_and_time():
     """Eight at once take as much memory as 64, since the others wait; bridge/tests/hostile.py reads more."""
     told = subprocess.run(
-        [sys.executable, Path(__file__).parent / "hostile.py", "8", "2"], check=True, capture_output=True, text=True
+        [sys.executable, Path(__file__).parent / "hostile.py", "8", "2"],
+        check=True,
+        capture_output=True,
+        text=True,
     ).stdout
     lines = re.findall(r"^(\d+) MB, ([0-9.]+) seconds: ", told, re.MULTILINE)
     assert len(lines) == len(SHAPES)
@@ -272,15 +292,20 @@ GIVEN_UP = UPLOADED.replace("u1_0_0", "u1_0_1").replace(
 )
 
 
-@pytest.mark.parametrize("files, status, report", [
-    (UPLOADED, 0, (0, "7")),
-    (UPLOADED + GIVEN_UP, 0, (-187, "output file u1_0_1 was not uploaded: permanent upload error")),
-    (GIVEN_UP, 3, (3, "7")),
-    ("<file_info><error_msg/></file_info>", 0, (-187, "output file  was not uploaded: ")),
-])
+@pytest.mark.parametrize(
+    "files, status, report",
+    [
+        (UPLOADED, 0, (0, "7")),
+        (UPLOADED + GIVEN_UP, 0, (-187, "output file u1_0_1 was not uploaded: permanent upload error")),
+        (GIVEN_UP, 3, (3, "7")),
+        ("<file_info><error_msg/></file_info>", 0, (-187, "output file  was not uploaded: ")),
+    ],
+)
 def test_a_result_whose_upload_was_given_up_is_no_success(files, status, report):
-    body = request(reports=[("u1_0", "7")]).replace(
-        "<exit_status>0</exit_status>", f"<exit_status>{status}</exit_status>"
-    ).replace("</stderr_out></result>", f"</stderr_out>{files}</result>")
-    told, = read_request(body.encode()).results
+    body = (
+        request(reports=[("u1_0", "7")])
+        .replace("<exit_status>0</exit_status>", f"<exit_status>{status}</exit_status>")
+        .replace("</stderr_out></result>", f"</stderr_out>{files}</result>")
+    )
+    (told,) = read_request(body.encode()).results
     assert (told.exit_status, told.output) == report

@@ -57,33 +57,42 @@ def test_the_program_gets_the_files_in_their_order(program, tmp_path, out):
     assert digest_of(program('echo "$@"; cat "$@"'), files) == "/files/b /files/out\nmore\nsome words"
 
 
-@pytest.mark.parametrize("script, said", [
-    ("env | grep -v ^PWD=; true", ""),  # the shell itself sets PWD
-    ("id -u", "65534"),
-    ("pwd; ls -A", "/work"),
-    ("echo a > a; cat a", "a"),
-    ("ls /", "bin\ndev\ndigest\nfiles\nlib\nlib64\nsbin\nusr\nwork"),
-    ("echo x > /files/out || echo refused", "refused"),
-    ("echo x > /new || echo refused", "refused"),
-    ("echo x > /usr/new || echo refused", "refused"),
-    ("python3 -c 'import socket; print(socket.socket().connect_ex((\"192.0.2.1\", 80)))'", "101"),  # unreachable
-    ("ls /proc /home /root /var /etc/passwd 2> /dev/null | wc -l", "0"),
-    ("ulimit -n", "64"),
-    ("python3 -c 'bytes(2 << 30)' 2> /dev/null || echo refused", "refused"),
-])
+@pytest.mark.parametrize(
+    "script, said",
+    [
+        ("env | grep -v ^PWD=; true", ""),  # the shell itself sets PWD
+        ("id -u", "65534"),
+        ("pwd; ls -A", "/work"),
+        ("echo a > a; cat a", "a"),
+        ("ls /", "bin\ndev\ndigest\nfiles\nlib\nlib64\nsbin\nusr\nwork"),
+        ("echo x > /files/out || echo refused", "refused"),
+        ("echo x > /new || echo refused", "refused"),
+        ("echo x > /usr/new || echo refused", "refused"),
+        (
+            "python3 -c 'import socket; print(socket.socket().connect_ex((\"192.0.2.1\", 80)))'",
+            "101",
+        ),  # unreachable
+        ("ls /proc /home /root /var /etc/passwd 2> /dev/null | wc -l", "0"),
+        ("ulimit -n", "64"),
+        ("python3 -c 'bytes(2 << 30)' 2> /dev/null || echo refused", "refused"),
+    ],
+)
 def test_what_a_program_can_reach(program, out, script, said):
     told = digest_of(program(script), out)
     assert told.replace("etc\n", "") == said
 
 
-@pytest.mark.parametrize("script, fault", [
-    ("exit 2", "its status is 2"),
-    ("kill -9 $$", "its status is 137"),
-    ("head -c 1025 /dev/urandom | tr -c a a", "more than 1024 bytes"),
-    ("printf '\\377'", "not UTF-8"),
-    ("printf '\\001'", "control characters"),
-    ("exec /none", "its status is 12[67]"),
-])
+@pytest.mark.parametrize(
+    "script, fault",
+    [
+        ("exit 2", "its status is 2"),
+        ("kill -9 $$", "its status is 137"),
+        ("head -c 1025 /dev/urandom | tr -c a a", "more than 1024 bytes"),
+        ("printf '\\377'", "not UTF-8"),
+        ("printf '\\001'", "control characters"),
+        ("exec /none", "its status is 12[67]"),
+    ],
+)
 def test_a_program_that_fails_says_nothing(program, out, script, fault):
     with pytest.raises(DigestFault, match=fault):
         digest_of(program(script), out)
@@ -91,7 +100,7 @@ def test_a_program_that_fails_says_nothing(program, out, script, fault):
 
 def test_a_program_can_not_reach_this_machine(program, out):
     with socket.create_server(("127.0.0.1", 0)) as server:
-        script = f"socket.socket().connect_ex((\"127.0.0.1\", {server.getsockname()[1]}))"
+        script = f'socket.socket().connect_ex(("127.0.0.1", {server.getsockname()[1]}))'
         assert digest_of(program(f"python3 -c 'import socket; print({script})'"), out) == "111"
 
 
@@ -169,7 +178,9 @@ def digest_bridge(file_bridge):
     folder = file_bridge.folder / "digests"
     folder.mkdir()
     path = file_bridge.folder / "catalogue.toml"
-    path.write_text(path.read_text().replace("output_files =", 'digest = "digests/any_order"\noutput_files =', 1))
+    path.write_text(
+        path.read_text().replace("output_files =", 'digest = "digests/any_order"\noutput_files =', 1)
+    )
     shutil.copy(EXAMPLES / "any_order", folder)
     file_bridge.restart()
     return file_bridge
@@ -220,13 +231,20 @@ def test_programs_take_a_limited_time_of_a_request(digest_bridge, monkeypatch):
     assert reported(digest_bridge, body)[0] == 0
 
 
-@pytest.mark.parametrize("old, new, fault", [
-    ("digests/any_order", "digests/none", "does not exist"),
-    ("digests/any_order", "catalogue.toml", "is not a file that may be run"),
-    ("digests/any_order", "digests", "is not a file that may be run"),
-    ("\noutput_files = [", "\ndigest_seconds = 61\noutput_files = [", "digest_seconds is not within 1 to 60"),
-    ("\noutput_files = [", '\ndigest_example = "none"\noutput_files = [', "none does not exist"),
-])
+@pytest.mark.parametrize(
+    "old, new, fault",
+    [
+        ("digests/any_order", "digests/none", "does not exist"),
+        ("digests/any_order", "catalogue.toml", "is not a file that may be run"),
+        ("digests/any_order", "digests", "is not a file that may be run"),
+        (
+            "\noutput_files = [",
+            "\ndigest_seconds = 61\noutput_files = [",
+            "digest_seconds is not within 1 to 60",
+        ),
+        ("\noutput_files = [", '\ndigest_example = "none"\noutput_files = [', "none does not exist"),
+    ],
+)
 def test_faulty_catalogues(digest_bridge, old, new, fault):
     path = digest_bridge.folder / "catalogue.toml"
     path.write_text(path.read_text().replace(old, new, 1))

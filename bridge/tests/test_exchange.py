@@ -56,7 +56,9 @@ def test_a_quorum_brings_credit(bridge):
     assert names(bridge.call(request(hostid=FIRST, seconds=0, reports=[("u1_0", "42")])), "result_ack") == [
         "u1_0"
     ]
-    reply = bridge.call(request(hostid=FIRST + 1, key="bob-key", cpid="c2", seconds=0, reports=[("u1_1", "42")]))
+    reply = bridge.call(
+        request(hostid=FIRST + 1, key="bob-key", cpid="c2", seconds=0, reports=[("u1_1", "42")])
+    )
     assert value(reply, "user_total_credit") == "5.000"
     assert value(bridge.call(request(hostid=FIRST, seconds=0)), "host_total_credit") == "5.000"
 

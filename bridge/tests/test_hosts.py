@@ -196,8 +196,10 @@ def test_searches_are_limited(two, twin):
 
 def test_a_copy_gets_a_host_of_its_own(two, twin):
     for seqno in (1, 2, 3):
-        assert value(two.call(request(hostid=A, cpid="a", seqno=seqno, listed=["u1_0"], seconds=0)),
-                     "hostid") is None
+        assert (
+            value(two.call(request(hostid=A, cpid="a", seqno=seqno, listed=["u1_0"], seconds=0)), "hostid")
+            is None
+        )
     copy = request(hostid=A, cpid="a", seqno=2, listed=["u1_0"], seconds=60)
     reply = two.call(copy)
     assert value(reply, "hostid") == str(FIRST + 2)

@@ -78,7 +78,8 @@ def test_pages_and_files_are_answered_while_bsched_hangs(bridge, silent, monkeyp
         return told
 
     callers = [
-        threading.Thread(target=got, args=("POST", "/p/cgi", request(cpid=f"c{number}"))) for number in range(24)
+        threading.Thread(target=got, args=("POST", "/p/cgi", request(cpid=f"c{number}")))
+        for number in range(24)
     ]
     for caller in callers:
         caller.start()

@@ -35,10 +35,14 @@ def test_settings_of_accounts(project):
     assert settings.accounts == AccountSettings(100, 5, "X-Real-IP", True, "Be kind.\n")
 
 
-@pytest.mark.parametrize("url, field, is_without", [
-    ("https://sums.example/p/", "", True), ("https://sums.example/p/", 'address_field = "X-Real-IP"', False),
-    ("http://127.0.0.1:8081/p/", "", False),
-])
+@pytest.mark.parametrize(
+    "url, field, is_without",
+    [
+        ("https://sums.example/p/", "", True),
+        ("https://sums.example/p/", 'address_field = "X-Real-IP"', False),
+        ("http://127.0.0.1:8081/p/", "", False),
+    ],
+)
 def test_a_proxy_that_tells_no_addresses(project, url, field, is_without):
     path = project / "bridge.toml"
     assert not read_settings(path).is_without_addresses
@@ -55,10 +59,17 @@ def test_accounts_are_imported_with_the_operators_key(project):
         read_settings(path)
 
 
-@pytest.mark.parametrize("url, is_good", [
-    ("https://sums.example/p/", True), ("http://localhost/p/", True), ("http://[::1]/p/", True),
-    ("http://127.1.2.3:80/p/", True), ("http://sums.example/p/", False), ("http://10.0.0.1/p/", False),
-])
+@pytest.mark.parametrize(
+    "url, is_good",
+    [
+        ("https://sums.example/p/", True),
+        ("http://localhost/p/", True),
+        ("http://[::1]/p/", True),
+        ("http://127.1.2.3:80/p/", True),
+        ("http://sums.example/p/", False),
+        ("http://10.0.0.1/p/", False),
+    ],
+)
 def test_passwords_are_sent_over_tls(project, url, is_good):
     path = project / "bridge.toml"
     text = path.read_text().replace("http://127.0.0.1:8081/p/", url)
@@ -111,7 +122,9 @@ SETTINGS_FAULTS = [
         "is not the name of",
     ),
     (
-        '"bridge.db"', '"bridge.db"\n[accounts]\nmost_a_day = 1\naddress_field = "x-forwarded-for"', 10,
+        '"bridge.db"',
+        '"bridge.db"\n[accounts]\nmost_a_day = 1\naddress_field = "x-forwarded-for"',
+        10,
         "address_field: a client can write into",
     ),
 ]
@@ -187,7 +200,7 @@ CATALOGUE_FAULTS = [
         19,
         "works is not known here",
     ),
-    ('[[app]]', '[app]', 4, "app is not an array of tables"),
+    ("[[app]]", "[app]", 4, "app is not an array of tables"),
 ]
 
 
@@ -271,9 +284,13 @@ def test_the_command_line(project):
         assert ordered(project, *words).returncode == 64
 
 
-@pytest.mark.parametrize("name, told", [
-    ("key", "code_sign_key: .*key can't be read"), ("sum_1.signature", "the signature .* can't be read"),
-])
+@pytest.mark.parametrize(
+    "name, told",
+    [
+        ("key", "code_sign_key: .*key can't be read"),
+        ("sum_1.signature", "the signature .* can't be read"),
+    ],
+)
 def test_files_of_the_catalogue_that_cant_be_read(project, name, told):
     (project / name).write_bytes(b"\xff")
     with pytest.raises(OperatorFault, match=told):

@@ -16,8 +16,7 @@ FORM = "application/x-www-form-urlencoded"
 
 
 class Page(HTMLParser):
-    """A page as a browser reads it. Each element is closed, and there is no script, and no style but the one.
-    """
+    """A page as a browser reads it. Each element is closed, and there is no script, and no style but the one."""
 
     def __init__(self, text):
         super().__init__()
@@ -82,7 +81,7 @@ def posted(bridge, path, client=CLIENT, **fields):
 
 
 def test_texts_are_escaped():
-    assert element("p", "<b>&\"'", class_="a\"b") == '<p class="a&quot;b">&lt;b&gt;&amp;&quot;&#x27;</p>'
+    assert element("p", "<b>&\"'", class_='a"b') == '<p class="a&quot;b">&lt;b&gt;&amp;&quot;&#x27;</p>'
     assert element("p", element("b", "<"), Markup("<i></i>")) == "<p><b>&lt;</b><i></i></p>"
     assert (
         element("input", name="a", value="<", checked=True, disabled=False, title=None)
@@ -400,19 +399,26 @@ def test_workunits_of_a_copy(project, bridge, text, is_shown):
 # ---- Pages of other sites
 
 ELSEWHERE = [
-    {"HTTP_SEC_FETCH_SITE": "cross-site"}, {"HTTP_SEC_FETCH_SITE": "same-site", "HTTP_ORIGIN": "null"},
-    {"HTTP_ORIGIN": "https://other.example"}, {"HTTP_ORIGIN": "http://127.0.0.1:8082"},
+    {"HTTP_SEC_FETCH_SITE": "cross-site"},
+    {"HTTP_SEC_FETCH_SITE": "same-site", "HTTP_ORIGIN": "null"},
+    {"HTTP_ORIGIN": "https://other.example"},
+    {"HTTP_ORIGIN": "http://127.0.0.1:8082"},
 ]
 FROM_HERE = [
-    {}, {"HTTP_SEC_FETCH_SITE": "same-origin", "HTTP_ORIGIN": "null"}, {"HTTP_SEC_FETCH_SITE": "none"},
-    {"HTTP_ORIGIN": "http://127.0.0.1:8081"}, {"HTTP_ORIGIN": "null"},
+    {},
+    {"HTTP_SEC_FETCH_SITE": "same-origin", "HTTP_ORIGIN": "null"},
+    {"HTTP_SEC_FETCH_SITE": "none"},
+    {"HTTP_ORIGIN": "http://127.0.0.1:8081"},
+    {"HTTP_ORIGIN": "null"},
 ]
 
 
 @pytest.mark.parametrize("fields", ELSEWHERE)
 def test_pages_of_other_sites_can_neither_try_passwords_nor_lock_people_out(open_bridge, fields):
     key = create(open_bridge)
-    body, kind = b"email=ann@sums.example&password=wrong&key=x", {"CONTENT_TYPE": "application/x-www-form-urlencoded"}
+    body, kind = b"email=ann@sums.example&password=wrong&key=x", {
+        "CONTENT_TYPE": "application/x-www-form-urlencoded"
+    }
     for _ in range(12):
         for page in ("account", "account_finish.php", "get_passwd.php"):
             answer = open_bridge.got(f"/p/{page}", "POST", body, REMOTE_ADDR=CLIENT, **kind, **fields)

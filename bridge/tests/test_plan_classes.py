@@ -50,22 +50,29 @@ def test_what_a_request_says_of_coprocessors():
     assert told.coprocs == (Coproc("fakegpu", 2, 103681),)
     told = read_request([request(seconds=7).encode()])  # of an old client
     assert (told.p_ncpus, told.cpu_req_secs, told.coprocs) == (1, 7, ())
-    cards = "".join(f"<{name}><count>1</count><req_secs>5</req_secs></{name}>" for name in (
-        "coproc_cuda", "coproc_ati", "coproc_intel_gpu", "coproc_other"))
-    told = read_request([request(extra=f"<coprocs>{cards}<coproc><count>1</count></coproc></coprocs>").encode()])
+    cards = "".join(
+        f"<{name}><count>1</count><req_secs>5</req_secs></{name}>"
+        for name in ("coproc_cuda", "coproc_ati", "coproc_intel_gpu", "coproc_other")
+    )
+    told = read_request(
+        [request(extra=f"<coprocs>{cards}<coproc><count>1</count></coproc></coprocs>").encode()]
+    )
     assert [one.type for one in told.coprocs] == ["NVIDIA", "ATI", "intel_gpu"]
 
 
-@pytest.mark.parametrize("told, platforms, seconds", [
-    (asked(), [f"{X86}.mt", f"{I686}.mt", X86, I686], 100),
-    (asked(ncpus=1), [X86, I686], 100),
-    (asked(gpu=0), [f"{X86}.mt", f"{I686}.mt", X86, I686], 100),
-    (asked(gpu=500), [f"{X86}.fake", f"{X86}.mt", f"{I686}.fake", f"{I686}.mt", X86, I686], 500),
-    # a host that asks for its coprocessor alone gets work for it
-    (asked(cpu=0, gpu=500), [f"{X86}.fake", f"{I686}.fake"], 500),
-    # nothing is asked for: all that the host can run, so lost jobs of each kind can come again
-    (asked(cpu=0, gpu=0), [f"{X86}.fake", f"{X86}.mt", f"{I686}.fake", f"{I686}.mt", X86, I686], 0),
-])
+@pytest.mark.parametrize(
+    "told, platforms, seconds",
+    [
+        (asked(), [f"{X86}.mt", f"{I686}.mt", X86, I686], 100),
+        (asked(ncpus=1), [X86, I686], 100),
+        (asked(gpu=0), [f"{X86}.mt", f"{I686}.mt", X86, I686], 100),
+        (asked(gpu=500), [f"{X86}.fake", f"{X86}.mt", f"{I686}.fake", f"{I686}.mt", X86, I686], 500),
+        # a host that asks for its coprocessor alone gets work for it
+        (asked(cpu=0, gpu=500), [f"{X86}.fake", f"{I686}.fake"], 500),
+        # nothing is asked for: all that the host can run, so lost jobs of each kind can come again
+        (asked(cpu=0, gpu=0), [f"{X86}.fake", f"{X86}.mt", f"{I686}.fake", f"{I686}.mt", X86, I686], 0),
+    ],
+)
 def test_the_platforms_of_a_call(told, platforms, seconds):
     assert sent(told) == (platforms, seconds)
 
@@ -118,12 +125,18 @@ def class_bridge(bridge):
 
 
 def test_a_job_of_several_processors(class_bridge):
-    body = request(extra="<cpu_req_secs>60</cpu_req_secs>").replace("<p_fpops>", "<p_ncpus>4</p_ncpus><p_fpops>")
+    body = request(extra="<cpu_req_secs>60</cpu_req_secs>").replace(
+        "<p_fpops>", "<p_ncpus>4</p_ncpus><p_fpops>"
+    )
     reply = ElementTree.fromstring(class_bridge.call(body))
     version = reply.find("app_version")
     told = [(one.tag, one.text) for one in version if one.tag not in ("file_ref", "app_name")]
     assert told == [
-        ("version_num", "2"), ("platform", X86), ("plan_class", "mt"), ("avg_ncpus", "3"), ("flops", "3000000000"),
+        ("version_num", "2"),
+        ("platform", X86),
+        ("plan_class", "mt"),
+        ("avg_ncpus", "3"),
+        ("flops", "3000000000"),
         ("cmdline", "--nthreads 3"),
     ]
     result = reply.find("result")
@@ -156,20 +169,23 @@ def test_the_platforms_of_the_project_are_plain(class_bridge):
     assert [one.text for one in config.findall("platforms/platform/platform_name")] == [X86]
 
 
-@pytest.mark.parametrize("old, new, fault", [
-    ('name = "mt"', 'name = "other"', r"there is no \[\[plan_class\]\] mt"),
-    ('name = "mt"', 'name = "m.t"', "name has a dot"),
-    ('name = "mt"', 'name = "fake"', "this plan_class is already on line"),
-    ("least_ncpus = 2", "least_ncpus = 4", "most_ncpus is less than least_ncpus"),
-    ("least_ncpus = 2", "coproc_count = 2", "coproc_count needs coproc"),
-    ("least_ncpus = 2", 'least_ncpus = "2"', "least_ncpus is not a whole number"),
-    ("speed = 20\n", "", "speed is missing"),
-    ("speed = 20", "speed = 0", "speed is not within"),
-    ("speed = 20", "speed = nan", "speed is not within"),
-    ("speed = 20", 'speed = "20"', "speed is not a number"),
-    ("speed = 20", "quick = 20", "speed is missing"),
-    ('"--nthreads {ncpus}"', '"a\\nb"', "command_line has more than 256 bytes, or a control character"),
-])
+@pytest.mark.parametrize(
+    "old, new, fault",
+    [
+        ('name = "mt"', 'name = "other"', r"there is no \[\[plan_class\]\] mt"),
+        ('name = "mt"', 'name = "m.t"', "name has a dot"),
+        ('name = "mt"', 'name = "fake"', "this plan_class is already on line"),
+        ("least_ncpus = 2", "least_ncpus = 4", "most_ncpus is less than least_ncpus"),
+        ("least_ncpus = 2", "coproc_count = 2", "coproc_count needs coproc"),
+        ("least_ncpus = 2", 'least_ncpus = "2"', "least_ncpus is not a whole number"),
+        ("speed = 20\n", "", "speed is missing"),
+        ("speed = 20", "speed = 0", "speed is not within"),
+        ("speed = 20", "speed = nan", "speed is not within"),
+        ("speed = 20", 'speed = "20"', "speed is not a number"),
+        ("speed = 20", "quick = 20", "speed is missing"),
+        ('"--nthreads {ncpus}"', '"a\\nb"', "command_line has more than 256 bytes, or a control character"),
+    ],
+)
 def test_faulty_classes(project, old, new, fault):
     from bsched_bridge.catalogue import read_catalogue
 

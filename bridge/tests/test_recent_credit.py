@@ -18,7 +18,14 @@ def file_of(path, averages, now):
     """Writes a file of averages as the tools do. They are given by key and host_cpid."""
     hosts = {
         hmac.new(SALT.encode(), f"{key}\0{cpid}".encode(), hashlib.sha256).hexdigest()[:32]: {
-            "id": 1, "created": 0, "calls": [], "called": 0, "millicredits": 0, "average": average, "time": now}
+            "id": 1,
+            "created": 0,
+            "calls": [],
+            "called": 0,
+            "millicredits": 0,
+            "average": average,
+            "time": now,
+        }
         for (key, cpid), average in averages.items()
     }
     path.write_text(json.dumps({"format": 1, "salt": SALT, "users": {}, "hosts": hosts}))
@@ -55,7 +62,10 @@ def test_replies_and_pages_have_it(project, bridge):
     file_of(project / "averages.json", {("ann-key", "c1"): 8.0, ("ann-key", "c2"): 2.0}, time.time() + 60)
     bridge.call(request(cpid="c2"))
     reply = bridge.call(request())
-    assert (value(reply, "user_expavg_credit"), value(reply, "host_expavg_credit")) == ("10.000000", "8.000000")
+    assert (value(reply, "user_expavg_credit"), value(reply, "host_expavg_credit")) == (
+        "10.000000",
+        "8.000000",
+    )
     text = bridge.got("/p/status")[2].decode()
     assert "recent average credit" in text and ">10.00<" in text
 

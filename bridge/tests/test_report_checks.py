@@ -50,7 +50,8 @@ def test_the_files_of_a_good_report_are_stored(file_bridge):
     assert reported(file_bridge, report("u1_0", infos)) == (0, TEXT)
     assert on_disk(file_bridge.folder) == {f"store/{sha256_of(OUT)}": OUT, f"store/{sha256_of(LOG)}": LOG}
     assert file_bridge.store.stored_files("u1_0") == {
-        "out": StoredOutput(11, sha256_of(OUT)), "log": StoredOutput(11, sha256_of(LOG))
+        "out": StoredOutput(11, sha256_of(OUT)),
+        "log": StoredOutput(11, sha256_of(LOG)),
     }
     assert file_bridge.store.tables.used() == 22
 
@@ -63,21 +64,28 @@ def test_equal_files_are_stored_once_and_agree(file_bridge):
         assert reported(file_bridge, body) == (0, f"out sha256:{sha256_of(OUT)} 11\nlog absent")
     assert on_disk(file_bridge.folder) == {f"store/{sha256_of(OUT)}": OUT}
     for client in ("ann", "bob"):
-        reply = file_bridge.call(request(key=f"{client}-key", cpid=client, hostid=FIRST + (client == "bob"), seconds=0))
+        reply = file_bridge.call(
+            request(key=f"{client}-key", cpid=client, hostid=FIRST + (client == "bob"), seconds=0)
+        )
         assert value(reply, "user_total_credit") == "5.000"
 
 
-@pytest.mark.parametrize("change, why", [
-    (lambda infos: [], "output file out is not in the report"),
-    (lambda infos: infos[1:], "output file out is not in the report"),
-    (lambda infos: [infos[0].replace("u1_0_0", "u1_0_2")], "output file out is not in the report"),
-    (lambda infos: [infos[0].replace("<nbytes>11", "<nbytes>12")], "output file out is not the one"),
-    (lambda infos: [infos[0].replace("<md5_cksum>", "<md5_cksum>0")], "output file out is not the one"),
-    (lambda infos: [file_info("u1_0_0", b"other")], "output file out is not the one"),
-    (lambda infos: [infos[0], file_info("u1_0_1", LOG)], "output file log was not uploaded"),
-    (lambda infos: [infos[0].replace("</file_info>", "<error_msg>timeout</error_msg></file_info>")],
-     "output file u1_0_0 was not uploaded: timeout"),
-])
+@pytest.mark.parametrize(
+    "change, why",
+    [
+        (lambda infos: [], "output file out is not in the report"),
+        (lambda infos: infos[1:], "output file out is not in the report"),
+        (lambda infos: [infos[0].replace("u1_0_0", "u1_0_2")], "output file out is not in the report"),
+        (lambda infos: [infos[0].replace("<nbytes>11", "<nbytes>12")], "output file out is not the one"),
+        (lambda infos: [infos[0].replace("<md5_cksum>", "<md5_cksum>0")], "output file out is not the one"),
+        (lambda infos: [file_info("u1_0_0", b"other")], "output file out is not the one"),
+        (lambda infos: [infos[0], file_info("u1_0_1", LOG)], "output file log was not uploaded"),
+        (
+            lambda infos: [infos[0].replace("</file_info>", "<error_msg>timeout</error_msg></file_info>")],
+            "output file u1_0_0 was not uploaded: timeout",
+        ),
+    ],
+)
 def test_a_report_without_its_files_is_an_error(file_bridge, change, why):
     infos = worked(file_bridge)
     status, output = reported(file_bridge, report("u1_0", change(infos)))
@@ -128,7 +136,9 @@ def test_a_job_that_is_computed_anew_is_checked_anew(file_bridge):
 def test_a_job_keeps_the_files_that_it_went_out_with(file_bridge):
     infos = worked(file_bridge)
     path = file_bridge.folder / "catalogue.toml"
-    path.write_text(path.read_text().replace("output_files = [", 'output_files = [{ open_name = "new", max_nbytes = 5 },'))
+    path.write_text(
+        path.read_text().replace("output_files = [", 'output_files = [{ open_name = "new", max_nbytes = 5 },')
+    )
     file_bridge.restart()
     assert reported(file_bridge, report("u1_0", infos)) == (0, f"out sha256:{sha256_of(OUT)} 11\nlog absent")
 
@@ -146,7 +156,9 @@ def test_if_the_folder_was_restored_bsched_says_which_application_it_is(file_bri
 def test_a_report_that_can_not_be_stored_is_put_off(file_bridge, monkeypatch):
     infos = worked(file_bridge)
     with monkeypatch.context() as patch:
-        patch.setattr("bsched_bridge.upload_store.os.link", lambda *_paths: (_ for _ in ()).throw(OSError("full")))
+        patch.setattr(
+            "bsched_bridge.upload_store.os.link", lambda *_paths: (_ for _ in ()).throw(OSError("full"))
+        )
         reply = file_bridge.call(report("u1_0", infos))
     assert names(reply, "result_ack") == []
     call = file_bridge.twin.calls()[-1]
@@ -168,10 +180,13 @@ def test_applications_with_and_without_output_files(file_bridge):
     assert reported(file_bridge, report("p1_0", [], hostid=FIRST + 4, cpid="c5", output="7")) == (0, "7")
 
 
-@pytest.mark.parametrize("count, text", [
-    (1, "f0 sha256:" + "a" * 64 + " 7"),
-    (2, "f0 sha256:" + "a" * 64 + " 7\nf1 sha256:" + "a" * 64 + " 7"),
-])
+@pytest.mark.parametrize(
+    "count, text",
+    [
+        (1, "f0 sha256:" + "a" * 64 + " 7"),
+        (2, "f0 sha256:" + "a" * 64 + " 7\nf1 sha256:" + "a" * 64 + " 7"),
+    ],
+)
 def test_the_text_of_some_files(count, text):
     files = tuple(OutputFile(f"f{number}", 10, False, True) for number in range(count))
     assert compared_text(files, {file.open_name: StoredOutput(7, "a" * 64) for file in files}) == text
@@ -197,7 +212,8 @@ def test_bsched_is_asked_once_for_results_that_did_not_go_out(file_bridge, monke
     file_bridge.call(request())
     asked, statement = [], file_bridge.application.scheduler.statement
     monkeypatch.setattr(
-        file_bridge.application.scheduler, "statement",
+        file_bridge.application.scheduler,
+        "statement",
         lambda *words: asked.append(words) or statement(*words),
     )
     reports = [(f"x{number}_0", "1") for number in range(50)]

@@ -95,13 +95,15 @@ def test_a_spoiled_file_is_told_at_the_start(tmp_path):
     size = int.from_bytes(good[16:18], "big")
     told = []
     for page in range(1, len(good) // size):
-        path.write_bytes(good[: page * size] + bytes(size) + good[(page + 1) * size:])
+        path.write_bytes(good[: page * size] + bytes(size) + good[(page + 1) * size :])
         try:
             StateFile(path).close()
         except StateFault as fault:
             told.append(str(fault))
     # pages that only have parts of calls may look good
-    assert len(told) > 20 and all("it is spoiled or no state file: see bridge/README.md" in one for one in told)
+    assert len(told) > 20 and all(
+        "it is spoiled or no state file: see bridge/README.md" in one for one in told
+    )
     assert not any("no other bridge" in one for one in told)
     path.write_bytes(good)
     StateFile(path).close()

@@ -9,6 +9,7 @@ from messages import request
 @pytest.fixture
 def events(monkeypatch):
     """Yields a function that returns what a bridge does from now on: SQL statements and messages to bsched."""
+
     def watched(bridge):
         told = []
         bridge.file._connection.set_trace_callback(told.append)
@@ -28,7 +29,9 @@ def last_commit(told):
     """Returns whether the last transaction was synced, and its statements that write."""
     end = max(place for place, one in enumerate(told) if one == "COMMIT")
     start = max(place for place, one in enumerate(told[:end]) if one.startswith("PRAGMA synchronous"))
-    return told[start].endswith("FULL"), [one for one in told[start:end] if one.startswith(("INSERT", "UPDATE"))]
+    return told[start].endswith("FULL"), [
+        one for one in told[start:end] if one.startswith(("INSERT", "UPDATE"))
+    ]
 
 
 def before(told, what):

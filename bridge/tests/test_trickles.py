@@ -22,14 +22,29 @@ def read_request(body):
 def with_messages(*texts, **more):
     """Returns a request with the messages of a program."""
     messages = "".join(MESSAGE.replace("TEXT", text) for text in texts)
-    return request(**more).replace("<other_results>", f"{messages}<app_versions></app_versions>\n<other_results>", 1)
+    return request(**more).replace(
+        "<other_results>", f"{messages}<app_versions></app_versions>\n<other_results>", 1
+    )
 
 
-@pytest.mark.parametrize("text", [
-    "<step>2</step>", "a < b", "&nothing;", "<unclosed>", "]]>", "<result>", "</scheduler_request>",
-    "<stderr_out>", "<stderr_out><![CDATA[", "</msg_from_host>", "<msg_from_host>", "\x00\xff",
-    "<hostid>7</hostid><result><name>u9_9</name><exit_status>0</exit_status><state>5</state></result>",
-])
+@pytest.mark.parametrize(
+    "text",
+    [
+        "<step>2</step>",
+        "a < b",
+        "&nothing;",
+        "<unclosed>",
+        "]]>",
+        "<result>",
+        "</scheduler_request>",
+        "<stderr_out>",
+        "<stderr_out><![CDATA[",
+        "</msg_from_host>",
+        "<msg_from_host>",
+        "\x00\xff",
+        "<hostid>7</hostid><result><name>u9_9</name><exit_status>0</exit_status><state>5</state></result>",
+    ],
+)
 def test_a_message_of_any_text_is_left_out(text):
     body = with_messages(text, "<step>3</step>", hostid=FIRST, listed=["u2_0"], reports=[("u1_0", "5")])
     told = read_request(body.encode("latin-1"))
@@ -51,7 +66,12 @@ def test_what_a_program_wrote_to_its_standard_error_is_no_message(output):
 
 def test_messages_are_looked_for_once():
     began = time.process_time()
-    for part in (b"<stderr_out></stderr_out>", b"<stderr_out>", b"<msg_from_host>", b"<stderr_out></stderr_out>x"):
+    for part in (
+        b"<stderr_out></stderr_out>",
+        b"<stderr_out>",
+        b"<msg_from_host>",
+        b"<stderr_out></stderr_out>x",
+    ):
         with pytest.raises(RequestFault):
             read_request(b"<scheduler_request>" + part * 600_000 + b"<msg_from_host>")
     assert time.process_time() - began < 30  # otherwise it would take hours

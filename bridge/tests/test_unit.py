@@ -23,9 +23,18 @@ def test_a_unit_sees_no_other_project(name):
     unit = (DEBIAN / f"bsched-tools@.bsched-{name}.service").read_text()
     paths = re.findall(r"^(\w+)=-?(/var/lib/bsched\S*)$", unit, re.MULTILINE)
     own = "/var/lib/bsched/%i"
-    assert sorted(paths) == sorted([
-        ("TemporaryFileSystem", "/var/lib/bsched:ro"), ("BindReadOnlyPaths", own),
-        ("BindPaths", f"{own}/bridge"), ("ReadWritePaths", f"{own}/bridge"), ("WorkingDirectory", f"{own}/bridge"),
-        ("AssertPathExists", f"{own}/bridge/bridge.toml"), ("EnvironmentFile", f"{own}/environment"),
-        *(("InaccessiblePaths", f"{own}/{name}") for name in ("project.db", "project.db-wal", "settings.toml")),
-    ])
+    assert sorted(paths) == sorted(
+        [
+            ("TemporaryFileSystem", "/var/lib/bsched:ro"),
+            ("BindReadOnlyPaths", own),
+            ("BindPaths", f"{own}/bridge"),
+            ("ReadWritePaths", f"{own}/bridge"),
+            ("WorkingDirectory", f"{own}/bridge"),
+            ("AssertPathExists", f"{own}/bridge/bridge.toml"),
+            ("EnvironmentFile", f"{own}/environment"),
+            *(
+                ("InaccessiblePaths", f"{own}/{name}")
+                for name in ("project.db", "project.db-wal", "settings.toml")
+            ),
+        ]
+    )

@@ -74,9 +74,15 @@ def check(bridge, done):
         assert disk[f"store/{sha256_of(TWO)}"] == TWO and disk[f"store/{sha256_of(LOG)}"] == LOG
 
 
-@pytest.mark.parametrize("is_after, is_power", [(False, False), (True, False), (True, True)], ids=[
-    "killed before", "killed after", "power fails after",
-])
+@pytest.mark.parametrize(
+    "is_after, is_power",
+    [(False, False), (True, False), (True, True)],
+    ids=[
+        "killed before",
+        "killed after",
+        "power fails after",
+    ],
+)
 def test_a_stop_between_each_two_steps(file_project, monkeypatch, is_after, is_power):
     monkeypatch.setattr("bsched_bridge.scheduler.PAUSE_SECONDS", 0.0)
     at, kinds = 0, set()
@@ -110,4 +116,15 @@ def test_a_stop_between_each_two_steps(file_project, monkeypatch, is_after, is_p
         if not steps.is_stopped:
             break
     assert at > 60
-    assert kinds >= {"fsync", "rename", "link", "unlink", "BEGIN", "INSERT", "DELETE", "UPDATE", "COMMIT", "send"}
+    assert kinds >= {
+        "fsync",
+        "rename",
+        "link",
+        "unlink",
+        "BEGIN",
+        "INSERT",
+        "DELETE",
+        "UPDATE",
+        "COMMIT",
+        "send",
+    }

@@ -34,10 +34,19 @@ def given(bridge, **more):
 
 def test_a_reply_names_the_output_files(file_bridge):
     reply = ElementTree.fromstring(file_bridge.call(request()))
-    assert [child.tag for child in reply][-5:] == ["app_version", "workunit", "file_info", "file_info", "result"]
+    assert [child.tag for child in reply][-5:] == [
+        "app_version",
+        "workunit",
+        "file_info",
+        "file_info",
+        "result",
+    ]
     first, second = [one for one in reply.findall("file_info") if one.find("upload_when_present") is not None]
     assert [(one.tag, one.text.strip()) for one in first][:-1] == [
-        ("name", "u1_0_0"), ("generated_locally", "1"), ("upload_when_present", "1"), ("max_nbytes", "20000"),
+        ("name", "u1_0_0"),
+        ("generated_locally", "1"),
+        ("upload_when_present", "1"),
+        ("max_nbytes", "20000"),
         ("url", "http://127.0.0.1:8081/p/file_upload_handler"),
     ]
     token = first.findtext("xml_signature").strip()
@@ -59,8 +68,12 @@ def test_a_job_that_is_sent_again_has_the_same_tokens(file_bridge):
 def test_a_name_that_the_client_would_refuse(file_bridge):
     rows = file_bridge.twin.service.imported
     line = "a..b...c,sum,1,1,3,5,4,86400,60000000000,1000,1000,5000"
-    rows("workunits", "dots", "name,app,min_quorum,target_nresults,max_error_results,max_total_results,"
-         f"max_success_results,delay_bound,rsc_fpops_est,rsc_memory_bound,rsc_disk_bound,credit\n{line}\n")
+    rows(
+        "workunits",
+        "dots",
+        "name,app,min_quorum,target_nresults,max_error_results,max_total_results,"
+        f"max_success_results,delay_bound,rsc_fpops_est,rsc_memory_bound,rsc_disk_bound,credit\n{line}\n",
+    )
     told = {}
     for number in range(12):
         told |= given(file_bridge, cpid=f"c{number}", key=("ann-key", "bob-key")[number % 2], seconds=1000)
@@ -72,9 +85,18 @@ def test_a_name_that_the_client_would_refuse(file_bridge):
 # ---- Good messages
 
 
-@pytest.mark.parametrize("data", [
-    b"", b"x", DATA, b"<data>\n</data_server_request>", ASKS_SIZE.encode(), DATA * 2, bytes(20_000)[:20_000]
-])
+@pytest.mark.parametrize(
+    "data",
+    [
+        b"",
+        b"x",
+        DATA,
+        b"<data>\n</data_server_request>",
+        ASKS_SIZE.encode(),
+        DATA * 2,
+        bytes(20_000)[:20_000],
+    ],
+)
 def test_a_file_is_received(file_bridge, data):
     data = data[:20_000]
     tokens = given(file_bridge)
@@ -92,7 +114,11 @@ def test_a_client_that_asks_for_the_size_sends_all(file_bridge):
     for _ in range(2):
         body = file_bridge.got("/p/file_upload_handler", "POST", ASKS_SIZE.format(name="u1_0_0").encode())[2]
         told = ElementTree.fromstring(body)
-        assert (told.tag, told.findtext("status"), told.findtext("file_size")) == ("data_server_reply", "0", "0")
+        assert (told.tag, told.findtext("status"), told.findtext("file_size")) == (
+            "data_server_reply",
+            "0",
+            "0",
+        )
         assert sent(file_bridge, upload("u1_0_0", DATA, tokens["u1_0_0"])) == DONE
 
 
@@ -175,14 +201,34 @@ def test_odd_and_forged_messages_store_nothing(file_bridge):
 
 
 PIECES = [
-    b"<name>", b"</name>", b"u1_0_0", b"<nbytes>", b"</nbytes>", b"5", b"<md5_cksum>", b"</md5_cksum>", b"0" * 32,
-    b"<offset>0</offset>", b"<data>\n", b"<max_nbytes>20000</max_nbytes>", b"<xml_signature>", b"</xml_signature>",
-    b"\xff", b"\x00", b"\n", b" " * 4096, b"<get_file_size", b"a",
+    b"<name>",
+    b"</name>",
+    b"u1_0_0",
+    b"<nbytes>",
+    b"</nbytes>",
+    b"5",
+    b"<md5_cksum>",
+    b"</md5_cksum>",
+    b"0" * 32,
+    b"<offset>0</offset>",
+    b"<data>\n",
+    b"<max_nbytes>20000</max_nbytes>",
+    b"<xml_signature>",
+    b"</xml_signature>",
+    b"\xff",
+    b"\x00",
+    b"\n",
+    b" " * 4096,
+    b"<get_file_size",
+    b"a",
 ]
 
 
 @hypothesis.settings(
-    max_examples=200, suppress_health_check=[hypothesis.HealthCheck.function_scoped_fixture], deadline=None, database=None
+    max_examples=200,
+    suppress_health_check=[hypothesis.HealthCheck.function_scoped_fixture],
+    deadline=None,
+    database=None,
 )
 @hypothesis.given(st.lists(st.sampled_from(PIECES), max_size=20).map(b"".join))
 def test_any_message_gets_an_answer_and_stores_nothing(file_bridge, message):
@@ -219,7 +265,9 @@ def test_what_is_no_upload(file_bridge):
 
 
 def test_without_output_files_nothing_is_uploaded(bridge):
-    assert bridge.got("/p/file_upload_handler", "POST", upload("u1_0_0", DATA, "0" * 64))[0] == "404 Not Found"
+    assert (
+        bridge.got("/p/file_upload_handler", "POST", upload("u1_0_0", DATA, "0" * 64))[0] == "404 Not Found"
+    )
 
 
 # ---- Several at once, and too little room
@@ -240,7 +288,7 @@ def test_thirty_uploads_under_one_name_leave_one_file(file_bridge):
         thread.join()
     assert answers == [DONE] * 30
     row = file_bridge.store.upload("u1_0_0")
-    (name, data), = on_disk(file_bridge.folder).items()
+    ((name, data),) = on_disk(file_bridge.folder).items()
     assert name == f"pending/u1_0_0.{row.sha256}" and sha256_of(data) == row.sha256
 
 
@@ -325,14 +373,17 @@ def test_what_was_half_received_is_deleted_at_the_start(file_bridge):
     assert on_disk(file_bridge.folder) == {}
 
 
-@pytest.mark.parametrize("old, new, fault", [
-    ('folder = "uploads"', 'folder = "none/uploads"', "is not a folder"),
-    ("free_bytes = 0", "free_bytes = -1", "line 11: free_bytes is not within"),
-    ("most_bytes = 1_000_000\n", "", r"line 9: most_bytes is missing"),
-    ("most_bytes = ", "other = 1\nmost_bytes = ", "line 12: other is not known here"),
-    ('operator_key = "change-this-key"\n', "", r"\[uploads\] needs operator_key"),
-    ("most_bytes = ", "keep_days = 6\nmost_bytes = ", "keep_days is not within"),
-])
+@pytest.mark.parametrize(
+    "old, new, fault",
+    [
+        ('folder = "uploads"', 'folder = "none/uploads"', "is not a folder"),
+        ("free_bytes = 0", "free_bytes = -1", "line 11: free_bytes is not within"),
+        ("most_bytes = 1_000_000\n", "", r"line 9: most_bytes is missing"),
+        ("most_bytes = ", "other = 1\nmost_bytes = ", "line 12: other is not known here"),
+        ('operator_key = "change-this-key"\n', "", r"\[uploads\] needs operator_key"),
+        ("most_bytes = ", "keep_days = 6\nmost_bytes = ", "keep_days is not within"),
+    ],
+)
 def test_faulty_settings(file_project, old, new, fault):
     path = file_project / "bridge.toml"
     path.write_text(path.read_text().replace(old, new, 1))
@@ -369,10 +420,21 @@ def test_a_process_that_keeps_its_turn_puts_uploads_off(file_bridge, monkeypatch
     sweeping.close()
 
 
-@pytest.mark.parametrize("old, new, fault", [
-    ("max_nbytes = 20_000", "max_nbytes = 2_000_000_000", "have up to 2000001000 bytes, and most_result_bytes"),
-    ("[uploads]", "[other]", "sum has output files, and the settings have no \\[uploads\\]|other is not known"),
-])
+@pytest.mark.parametrize(
+    "old, new, fault",
+    [
+        (
+            "max_nbytes = 20_000",
+            "max_nbytes = 2_000_000_000",
+            "have up to 2000001000 bytes, and most_result_bytes",
+        ),
+        (
+            "[uploads]",
+            "[other]",
+            "sum has output files, and the settings have no \\[uploads\\]|other is not known",
+        ),
+    ],
+)
 def test_settings_that_do_not_fit_the_catalogue(file_bridge, old, new, fault):
     for name in ("catalogue.toml", "bridge.toml"):
         path = file_bridge.folder / name
@@ -382,16 +444,19 @@ def test_settings_that_do_not_fit_the_catalogue(file_bridge, old, new, fault):
         check_uploads(settings, read_catalogue(settings.catalogue))
 
 
-@pytest.mark.parametrize("old, new, fault", [
-    ('open_name = "log"', 'open_name = "out"', "two output files have the open_name out"),
-    ('open_name = "log"', 'open_name = "../log"', "open_name is not a file name"),
-    ("max_nbytes = 1000", "max_nbytes = 0", "max_nbytes is not within 1"),
-    ("max_nbytes = 1000", "size = 1000", "max_nbytes is missing"),
-    ("optional = true", 'optional = "yes"', "optional is not true or false"),
-    ("optional = true", "other = true", "other is not known here"),
-    ("max_nbytes = 20_000", "max_nbytes = 20_000, compare = false", None),
-    ('name = "two.txt"', 'name = "two_1_2"', "name ends like that of an output file"),
-])
+@pytest.mark.parametrize(
+    "old, new, fault",
+    [
+        ('open_name = "log"', 'open_name = "out"', "two output files have the open_name out"),
+        ('open_name = "log"', 'open_name = "../log"', "open_name is not a file name"),
+        ("max_nbytes = 1000", "max_nbytes = 0", "max_nbytes is not within 1"),
+        ("max_nbytes = 1000", "size = 1000", "max_nbytes is missing"),
+        ("optional = true", 'optional = "yes"', "optional is not true or false"),
+        ("optional = true", "other = true", "other is not known here"),
+        ("max_nbytes = 20_000", "max_nbytes = 20_000, compare = false", None),
+        ('name = "two.txt"', 'name = "two_1_2"', "name ends like that of an output file"),
+    ],
+)
 def test_faulty_output_files(file_project, old, new, fault):
     path = file_project / "catalogue.toml"
     path.write_text(path.read_text().replace(old, new, 1))
@@ -406,7 +471,10 @@ def test_too_many_output_files_and_none_that_is_compared(file_project):
     path = file_project / "catalogue.toml"
     text, entry = path.read_text(), '{ open_name = "f%d", max_nbytes = 1, compare = %s }'
     head, tail = text.partition("output_files = [")[0], text.partition("optional = true },\n]\n")[2]
-    for count, compare, fault in ((21, "true", "has more than 20 files"), (2, "false", "no file is compared")):
+    for count, compare, fault in (
+        (21, "true", "has more than 20 files"),
+        (2, "false", "no file is compared"),
+    ):
         entries = ", ".join(entry % (number, compare) for number in range(count))
         path.write_text(f"{head}output_files = [{entries}]\n{tail}")
         with pytest.raises(OperatorFault, match=fault):

@@ -39,7 +39,9 @@ def statement(machine, number):
     for unit in machine.places:
         for one in unit.instances:
             if one.host is host:
-                state = (4, 0) if one.held() else (5, 1 if one.exit_status == 0 else 3 if one.exit_status else 4)
+                state = (
+                    (4, 0) if one.held() else (5, 1 if one.exit_status == 0 else 3 if one.exit_status else 4)
+                )
                 lines.append(f"{one.name()},{unit.app},,,{state[0]},{state[1]},0,0.000")
     return "\n".join([*lines, f"total,,,,,,,{host.credit // 1000}.{host.credit % 1000:03}", ""])
 

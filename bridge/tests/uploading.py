@@ -49,7 +49,9 @@ def tokens_of(reply):
     """Returns the token of each file in a reply, as the client reads it."""
     files = (part for part in reply.decode().split("<file_info>")[1:] if "<xml_signature>" in part)
     return {
-        re.search("<name>(.*?)</name>", part)[1]: re.search("<xml_signature>\n(.*?)\n</xml_signature>", part)[1]
+        re.search("<name>(.*?)</name>", part)[1]: re.search("<xml_signature>\n(.*?)\n</xml_signature>", part)[
+            1
+        ]
         for part in files
     }
 
@@ -64,9 +66,13 @@ def sent(bridge, message, **more):
     """Returns the status in the answer to a message of an upload."""
     status, fields, body = bridge.got("/p/file_upload_handler", "POST", message, **more)
     assert (status, fields["Content-Length"]) == ("200 OK", str(len(body)))
-    return int(re.fullmatch(
-        r"<data_server_reply>\n<status>(-?\d+)</status>\n.*</data_server_reply>\n", body.decode(), re.DOTALL
-    )[1])
+    return int(
+        re.fullmatch(
+            r"<data_server_reply>\n<status>(-?\d+)</status>\n.*</data_server_reply>\n",
+            body.decode(),
+            re.DOTALL,
+        )[1]
+    )
 
 
 def file_info(name, data, more=""):
@@ -77,7 +83,9 @@ def file_info(name, data, more=""):
 def report(result, files, hostid=FIRST, output="", status=0, state=5, **more):
     """Returns a request that reports a result with the elements of its files."""
     body = request(hostid=hostid, reports=[(result, output)], seconds=0, **more)
-    body = body.replace("<exit_status>0</exit_status><state>5", f"<exit_status>{status}</exit_status><state>{state}")
+    body = body.replace(
+        "<exit_status>0</exit_status><state>5", f"<exit_status>{status}</exit_status><state>{state}"
+    )
     return body.replace("</stderr_out></result>", "</stderr_out>" + "".join(files) + "</result>")
 
 
@@ -85,7 +93,8 @@ def on_disk(folder):
     """Returns the contents of the files in temp/, pending/ and store/, by their names."""
     return {
         f"{part}/{path.name}": path.read_bytes()
-        for part in ("temp", "pending", "store") for path in (folder / "uploads" / part).iterdir()
+        for part in ("temp", "pending", "store")
+        for path in (folder / "uploads" / part).iterdir()
     }
 
 

@@ -13,7 +13,11 @@ TEXT = "to be or not to be\n"
 PLATFORM = "x86_64-pc-linux-gnu"
 # the applications, each with the platform of its version
 PLATFORMS = {
-    "primes": PLATFORM, "words": PLATFORM, "talks": PLATFORM, "several": f"{PLATFORM}.mt", "card": f"{PLATFORM}.fake"
+    "primes": PLATFORM,
+    "words": PLATFORM,
+    "talks": PLATFORM,
+    "several": f"{PLATFORM}.mt",
+    "card": f"{PLATFORM}.fake",
 }
 APPS = "name,agreement\n" + "".join(f"{name},exact\n" for name in PLATFORMS)
 UPLOADS = """
@@ -94,7 +98,9 @@ def catalogue(pause: int) -> str:
     for name, platform in PLATFORMS.items():
         program, more = "primes_1", ""
         if name == "words":
-            program, more = "wrapper_1", further("count_words", ', executable = true, open_name = "count_words"')
+            program, more = "wrapper_1", further(
+                "count_words", ', executable = true, open_name = "count_words"'
+            )
         versions += version(name, program, *map(further, LIBRARIES), more, platform=platform)
     return applications + versions
 

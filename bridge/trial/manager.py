@@ -80,8 +80,12 @@ class Manager(Program):
         browser.chmod(0o755)
         words = ["boincmgr", "-m", "-nd", "-n", "127.0.0.1", "-g", str(client.port), "-d", str(client.home)]
         environment = {
-            "HOME": str(self.home), "DISPLAY": DISPLAY, "LANG": "C.UTF-8", "BROWSER": str(browser),
-            "PATH": f"{self.home}:{os.environ['PATH']}", "XDG_CONFIG_HOME": str(self.home / ".config"),
+            "HOME": str(self.home),
+            "DISPLAY": DISPLAY,
+            "LANG": "C.UTF-8",
+            "BROWSER": str(browser),
+            "PATH": f"{self.home}:{os.environ['PATH']}",
+            "XDG_CONFIG_HOME": str(self.home / ".config"),
         }
         super().__init__(f"{client.name}_manager", words, folder, SCREEN_PORT, environment)
         self.client, self.screen = client, screen

@@ -144,7 +144,10 @@ class Client(Program):
         password = (self.home / "gui_rpc_auth.cfg").read_text().strip()
         told = subprocess.run(
             ["boinccmd", "--host", f"127.0.0.1:{self.port}", "--passwd", password, *words],
-            cwd=self.home, capture_output=True, text=True, timeout=30,
+            cwd=self.home,
+            capture_output=True,
+            text=True,
+            timeout=30,
         )
         return told.stdout + told.stderr
 

@@ -26,7 +26,14 @@ WORKUNITS = (
 )
 # how many seconds a job of each workunit takes
 SECONDS = {
-    "first": 1, "lost": 8, "given_up": 5, "failing": 60, "held": 1, "next": 1, "last": 12, "carol": 1,
+    "first": 1,
+    "lost": 8,
+    "given_up": 5,
+    "failing": 60,
+    "held": 1,
+    "next": 1,
+    "last": 12,
+    "carol": 1,
     "second": 1,
 }
 NUMBERS = range(1, 101)
@@ -51,7 +58,7 @@ def make(folder: Path, url: str, bridge_port: int, scheduler_port: int) -> None:
         f'name = "Trial"\nurl = "{url}"\nlisten = "127.0.0.1:{bridge_port}"\n'
         f'scheduler = "127.0.0.1:{scheduler_port}"\noperator_key = "{OPERATOR_KEY}"\n'
         'catalogue = "catalogue.toml"\nstate = "bridge.db"\nretry_delay = 2\n'
-        '\n[accounts]\nmost_a_day = 100\nmost_from_address = 10\n'
+        "\n[accounts]\nmost_a_day = 100\nmost_from_address = 10\n"
     )
     entries = "".join(
         f'\n[[workunit]]\nname = "{name}"\ncommand_line = "--seconds {seconds}"\n'

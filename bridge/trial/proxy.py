@@ -126,8 +126,7 @@ class Proxy:
         return fault
 
     def fault_of(self, message: Message, is_before: bool = False) -> Fault | None:
-        """Takes and returns the first planned fault that a message fits, of those for messages or for answers.
-        """
+        """Takes and returns the first planned fault that a message fits, of those for messages or for answers."""
         with self._lock:
             planned = [one for one in self._faults if is_before == (one.is_cut or one.another is not None)]
             fault = next((one for one in planned if one.fits(message)), None)

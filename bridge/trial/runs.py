@@ -19,7 +19,9 @@ STEP_SECONDS = 60  # how long a client may take for one step
 MOST_SECONDS, END_SECONDS = 1800, 60  # for the steps of a trial, and for its end
 NEEDED = {"boinc": "boinc-client", "boinccmd": "boinc-client", "unshare": "util-linux", "ip": "iproute2"}
 MODULES = {
-    "waitress": "python3-waitress", "defusedxml": "python3-defusedxml", "cryptography": "python3-cryptography"
+    "waitress": "python3-waitress",
+    "defusedxml": "python3-defusedxml",
+    "cryptography": "python3-cryptography",
 }
 INSIDE, KEEP = "--inside", "--keep"
 began = time.monotonic()

@@ -14,8 +14,11 @@ def lacking(tmp_path: Path) -> Path:
     missing = text.replace("MODULES=(", "MODULES=(no_such_module:no-such-package ")
     assert missing != text
     for name, lines in (
-        ("test", missing), ("bench/names", ""), ("bench/heads", ""),
-        ("bin/apt-get", "#!/bin/sh\nexit 100\n"), ("bin/rt", "#!/bin/sh\necho 7 passed, 0 failed\n"),
+        ("test", missing),
+        ("bench/names", ""),
+        ("bench/heads", ""),
+        ("bin/apt-get", "#!/bin/sh\nexit 100\n"),
+        ("bin/rt", "#!/bin/sh\necho 7 passed, 0 failed\n"),
     ):
         path = tmp_path / name
         path.parent.mkdir(exist_ok=True)

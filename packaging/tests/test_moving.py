@@ -69,8 +69,10 @@ def test_a_project_moves_to_another_machine(machines: tuple[Machine, Machine], t
     assert not [name for name in names if name.endswith(("-wal", "-shm", ".lock"))]
     told = run(second, "import", str(file))
     assert (told.returncode, told.stderr) == (0, "")
-    assert "systemctl enable --now bsched@sums bsched-tick@sums.timer" in told.stdout or \
-        "enabled and started: bsched@sums bsched-tick@sums.timer" in told.stdout
+    assert (
+        "systemctl enable --now bsched@sums bsched-tick@sums.timer" in told.stdout
+        or "enabled and started: bsched@sums bsched-tick@sums.timer" in told.stdout
+    )
     for name in ("settings.toml", "environment", "bridge/bridge.toml", "bridge/files/sum_1", "units.toml"):
         assert (second.projects / "sums" / name).read_bytes() == (first.projects / "sums" / name).read_bytes()
     assert second.key("sums") == "my-own.key_1"

@@ -112,8 +112,10 @@ def served(folder: Path, files: list[Path], ports: dict[int, int]) -> Iterator[N
         name = {"limits.conf": "conf.d/limits.conf", "site.conf": f"conf.d/{number}.conf"}.get(path.name)
         (folder / (name or f"snippets/bsched-{project}.conf")).write_text(text)
     main = f"daemon off; pid {folder}/pid; error_log {folder}/log/error; events {{}}\n"
-    temporary = "".join(f"{kind}_temp_path {folder}/log/{kind};\n" for kind in (
-        "client_body", "proxy", "fastcgi", "uwsgi", "scgi"))
+    temporary = "".join(
+        f"{kind}_temp_path {folder}/log/{kind};\n"
+        for kind in ("client_body", "proxy", "fastcgi", "uwsgi", "scgi")
+    )
     main += f"http {{\naccess_log off;\n{temporary}include conf.d/*.conf;\n}}\n"
     (folder / "nginx.conf").write_text(main)
     process = subprocess.Popen([NGINX or "", "-p", str(folder), "-c", str(folder / "nginx.conf")])
@@ -151,7 +153,9 @@ def test_two_projects_by_nginx(machine: Machine, tmp_path: Path) -> None:
             plain = http.client.HTTPConnection("127.0.0.1", port, timeout=30)
             # what the Manager asks if the URL was typed without a scheme, and the name alone
             assert asked(plain, "sums.example", "/project/get_project_config.php") == (
-                301, f"{URL}get_project_config.php")
+                301,
+                f"{URL}get_project_config.php",
+            )
             assert asked(plain, "sums.example", "/") == (301, "https://sums.example/")
             context = ssl.create_default_context()
             context.check_hostname, context.verify_mode = False, ssl.CERT_NONE

@@ -28,8 +28,15 @@ def test_each_block_is_a_script() -> None:
             assert (told.returncode, told.stderr) == (0, ""), step.title
 
 
-@pytest.mark.parametrize("output, missing", [
-    ("a 1\nmore\nb\n", None), ("b\na 1\n", "b"), ("a 1\n", "b"), ("a\nb\n", "a .."), ("", "a .."),
-])
+@pytest.mark.parametrize(
+    "output, missing",
+    [
+        ("a 1\nmore\nb\n", None),
+        ("b\na 1\n", "b"),
+        ("a 1\n", "b"),
+        ("a\nb\n", "a .."),
+        ("", "a .."),
+    ],
+)
 def test_what_a_block_prints(output: str, missing: str | None) -> None:
     assert Block("", printed=["a ..", "..", "b"]).missing_line(output) == missing

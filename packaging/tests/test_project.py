@@ -88,10 +88,15 @@ def machine(tmp_path: Path) -> Machine:
     return Machine(tmp_path)
 
 
-@pytest.mark.parametrize("line", [
-    'operator_key = "change-this-key"', "operator_key = 'change-this-key'", 'operator_key="change-this-key"',
-    "  operator_key  =  'change-this-key'  # a new one",
-])
+@pytest.mark.parametrize(
+    "line",
+    [
+        'operator_key = "change-this-key"',
+        "operator_key = 'change-this-key'",
+        'operator_key="change-this-key"',
+        "  operator_key  =  'change-this-key'  # a new one",
+    ],
+)
 def test_a_new_key(machine: Machine, line: str) -> None:
     told = machine.make("--settings", machine.settings(line), "sums")
     assert (told.returncode, told.stderr) == (0, "")
@@ -106,10 +111,16 @@ def test_a_key_of_ones_own(machine: Machine) -> None:
     assert machine.key("sums") == "my-own.key_1"
 
 
-@pytest.mark.parametrize("line", [
-    "", "operator_key = 7", 'operator_key = """change-this-key"""', 'operator_key = "a b"',
-    'operator_key = "one-key1"\noperator_key = "two-key2"',
-])
+@pytest.mark.parametrize(
+    "line",
+    [
+        "",
+        "operator_key = 7",
+        'operator_key = """change-this-key"""',
+        'operator_key = "a b"',
+        'operator_key = "one-key1"\noperator_key = "two-key2"',
+    ],
+)
 def test_settings_without_a_key_that_can_be_read(machine: Machine, line: str) -> None:
     told = machine.make("--settings", machine.settings(line), "sums")
     assert told.returncode == 1 and told.stderr.count("\n") == 1 and "operator_key" in told.stderr
@@ -154,11 +165,17 @@ def test_the_bridge_of_an_older_project(machine: Machine) -> None:
     assert 'operator_key = "my-own.key_1"' in (folder / "bridge" / "bridge.toml").read_text()
 
 
-@pytest.mark.parametrize("refused, done", [
-    ("none", ["accounts", "apps", "versions", "workunits", "systemctl"]), ("apps", ["accounts", "apps"]),
-])
+@pytest.mark.parametrize(
+    "refused, done",
+    [
+        ("none", ["accounts", "apps", "versions", "workunits", "systemctl"]),
+        ("apps", ["accounts", "apps"]),
+    ],
+)
 def test_the_printed_commands_end_at_a_refused_import(
-    machine: Machine, refused: str, done: list[str],
+    machine: Machine,
+    refused: str,
+    done: list[str],
 ) -> None:
     printed = machine.make("--example", "sums").stdout.partition("\nThe bridge: ")[0]
     commands = "\n".join(line for line in printed.splitlines() if line.startswith("  "))
@@ -180,7 +197,7 @@ def of_project(machine: Machine, name: str) -> dict[str, int]:
 
 def shown_in(text: str, begins: str) -> dict[str, int]:
     """Returns the settings that are numbers in a text, from a line on."""
-    found = re.findall(r"^(\w+) = (\d+)\b", text[text.index(begins):], re.MULTILINE)
+    found = re.findall(r"^(\w+) = (\d+)\b", text[text.index(begins) :], re.MULTILINE)
     return {key: int(value) for key, value in found[:5]}
 
 
@@ -189,7 +206,10 @@ def test_the_settings_of_jobs_and_computers(machine: Machine) -> None:
     in twice 60 seconds: 64 * (1 + 120 / 600) = 76.8. It does 9,216 jobs a day, and may get twice as many."""
     told = machine.make("--job-time", "10m", "--processors", "64", "sums")
     assert of_project(machine, "sums") == {
-        "daily_result_quota": 18432, "max_hosts": 100000, "max_wus_in_progress": 77, "max_wus_to_send": 39,
+        "daily_result_quota": 18432,
+        "max_hosts": 100000,
+        "max_wus_in_progress": 77,
+        "max_wus_to_send": 39,
         "request_delay": 60,
     }
     lines = [line for line in told.stdout.splitlines() if line.startswith("- with")]
@@ -206,7 +226,7 @@ def test_the_pages_have_the_settings_that_a_project_gets_without_options(machine
     assert machine.make("sums").returncode == 0
     numbers = of_project(machine, "sums")
     page = (TOP / "docs" / "OPERATING.md").read_text()
-    assert shown_in(page[page.index("\n## The installed service"):], "daily_result_quota = ") == numbers
+    assert shown_in(page[page.index("\n## The installed service") :], "daily_result_quota = ") == numbers
     manual = (PACKAGING / "man" / "bsched-settings.5").read_text()
     assert shown_in(manual, "daily_result_quota = ") == numbers
 
@@ -240,9 +260,14 @@ def test_a_real_project_has_no_accounts(machine: Machine) -> None:
     units = tomllib.loads((machine.projects / "sums" / "units.toml").read_text())
     assert units["copy"]["folder"] == "/var/backups/bsched/sums"
     assert bridge == {
-        "name": "sums", "url": "https://sums.example/", "listen": f"127.0.0.1:{bridge_port}",
-        "scheduler": f"127.0.0.1:{port}", "operator_key": machine.key("sums"), "catalogue": "catalogue.toml",
-        "state": "bridge.db", "counts": "../units/counts.json",
+        "name": "sums",
+        "url": "https://sums.example/",
+        "listen": f"127.0.0.1:{bridge_port}",
+        "scheduler": f"127.0.0.1:{port}",
+        "operator_key": machine.key("sums"),
+        "catalogue": "catalogue.toml",
+        "state": "bridge.db",
+        "counts": "../units/counts.json",
         "averages": "../units/averages.json",
         "accounts": {"most_a_day": 100, "address_field": "X-Real-IP"},
     }
@@ -274,7 +299,7 @@ def test_no_question_if_the_options_say_all(machine: Machine) -> None:
 def test_the_fault_in_a_file_of_settings_is_named(machine: Machine) -> None:
     stubs = (
         "bsched() { echo 'bsched: settings' >&2; return 1; }\n"
-        f"bsched-tools() {{ PYTHONPATH={TOP}/tools /usr/bin/python3 -m bsched_tools \"$@\"; }}\n"
+        f'bsched-tools() {{ PYTHONPATH={TOP}/tools /usr/bin/python3 -m bsched_tools "$@"; }}\n'
     )
     path = machine.settings("max_host = 7\noperator_key = 'my-own.key_1'")
     told = machine.make("--settings", path, "sums", stubs=stubs)
@@ -282,13 +307,21 @@ def test_the_fault_in_a_file_of_settings_is_named(machine: Machine) -> None:
     assert "max_host is not a setting" in told.stderr
 
 
-@pytest.mark.parametrize("words", [
-    ["--job-time", "0", "x"], ["--job-time", "5w", "x"], ["--job-time", "101d", "x"],
-    ["--processors", "many", "x"], ["--processors", "0", "x"],
-    ["--url", "sums.example", "x"], ["--url", "https://Sums.example/", "x"],
-    ["--url", "https://sums.example", "x"],
-    ["--settings", "a", "--processors", "4", "x"], ["--example", "--url", "https://sums.example/", "x"],
-])
+@pytest.mark.parametrize(
+    "words",
+    [
+        ["--job-time", "0", "x"],
+        ["--job-time", "5w", "x"],
+        ["--job-time", "101d", "x"],
+        ["--processors", "many", "x"],
+        ["--processors", "0", "x"],
+        ["--url", "sums.example", "x"],
+        ["--url", "https://Sums.example/", "x"],
+        ["--url", "https://sums.example", "x"],
+        ["--settings", "a", "--processors", "4", "x"],
+        ["--example", "--url", "https://sums.example/", "x"],
+    ],
+)
 def test_options_that_are_not_possible(machine: Machine, words: list[str]) -> None:
     told = machine.make(*words)
     assert told.returncode == 64 and told.stderr.count("\n") == 1 and told.stdout == ""

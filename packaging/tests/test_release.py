@@ -120,13 +120,16 @@ def test_installed_pages_link_to_installed_pages() -> None:
 # ---- Completion
 
 
-@pytest.mark.parametrize("line, offered", [
-    ("bsched im", "import"),
-    ("bsched import --tables x --k", "--kind"),
-    ("bsched import --kind w", "workunits"),
-    ("bsched serve --c", "--count"),
-    ("bsched-project --a", "--add-bridge"),
-])
+@pytest.mark.parametrize(
+    "line, offered",
+    [
+        ("bsched im", "import"),
+        ("bsched import --tables x --k", "--kind"),
+        ("bsched import --kind w", "workunits"),
+        ("bsched serve --c", "--count"),
+        ("bsched-project --a", "--add-bridge"),
+    ],
+)
 def test_completion(line: str, offered: str) -> None:
     assert words_of(line) == offered
 
@@ -197,15 +200,23 @@ def change(clone: Clone, name: str, text: str) -> None:
     clone.commit()
 
 
-@pytest.mark.parametrize("spoil, wanted", [
-    (lambda clone: clone.write("new", ""), "there are uncommitted changes"),
-    (lambda clone: change(clone, "CHANGELOG.md", "## [Unreleased]\n\n- More.\n\n## [1.0.0] - 2026\n"),
-     "CHANGELOG.md has changes under [Unreleased]"),
-    (lambda clone: clone.program.write_text("other"), "is not the program of this commit"),
-    (lambda clone: change(clone, "crates/bsched/main.rt", "two\n"), "is not the program of this commit"),
-    (lambda clone: change(clone, "HANDLES", "Handles allowed: none.\n"), "is not the program of this commit"),
-    (lambda clone: clone.program.with_name("bsched.sources").unlink(), "nothing says from which sources"),
-])
+@pytest.mark.parametrize(
+    "spoil, wanted",
+    [
+        (lambda clone: clone.write("new", ""), "there are uncommitted changes"),
+        (
+            lambda clone: change(clone, "CHANGELOG.md", "## [Unreleased]\n\n- More.\n\n## [1.0.0] - 2026\n"),
+            "CHANGELOG.md has changes under [Unreleased]",
+        ),
+        (lambda clone: clone.program.write_text("other"), "is not the program of this commit"),
+        (lambda clone: change(clone, "crates/bsched/main.rt", "two\n"), "is not the program of this commit"),
+        (
+            lambda clone: change(clone, "HANDLES", "Handles allowed: none.\n"),
+            "is not the program of this commit",
+        ),
+        (lambda clone: clone.program.with_name("bsched.sources").unlink(), "nothing says from which sources"),
+    ],
+)
 def test_what_is_no_release(clone: Clone, spoil: Callable[[Clone], object], wanted: str) -> None:
     spoil(clone)
     said = clone.build()
@@ -243,16 +254,27 @@ def test_no_program_if_the_proof_fails(clone: Clone) -> None:
 def test_the_manual_has_the_defaults_of_the_units() -> None:
     sys.path.insert(0, str(TOP / "tools"))
     from bsched_tools import projects
+
     page = (TOP / "packaging" / "man" / "bsched-tools.1").read_text().replace("\\-", "-")
-    text = page[page.index("\n[copy]\n"):page.index("\ncopy_hours")] + "\ncopy_hours = 3\n"
+    text = page[page.index("\n[copy]\n") : page.index("\ncopy_hours")] + "\ncopy_hours = 3\n"
     folder = projects.Project(Path("/nowhere/NAME"))
     stated = tomllib.loads(text)
     default = folder.units()
     assert {name: set(keys) for name, keys in stated.items()} == {
-        "copy": {"folder", "keep", "check"}, "results": {"command"}, "page": {"folder"},
-        "statistics": {"folder", "everybody"}, "health": {"mail", "copy_hours"}}
+        "copy": {"folder", "keep", "check"},
+        "results": {"command"},
+        "page": {"folder"},
+        "statistics": {"folder", "everybody"},
+        "health": {"mail", "copy_hours"},
+    }
     assert default == projects.UnitSettings(
-        Path(stated["copy"]["folder"]), stated["copy"]["keep"], stated["copy"]["check"],
-        tuple(stated["results"]["command"]), Path(stated["page"]["folder"]),
-        Path(stated["statistics"]["folder"]), stated["statistics"]["everybody"], stated["health"]["mail"],
-        stated["health"]["copy_hours"])
+        Path(stated["copy"]["folder"]),
+        stated["copy"]["keep"],
+        stated["copy"]["check"],
+        tuple(stated["results"]["command"]),
+        Path(stated["page"]["folder"]),
+        Path(stated["statistics"]["folder"]),
+        stated["statistics"]["everybody"],
+        stated["health"]["mail"],
+        stated["health"]["copy_hours"],
+    )

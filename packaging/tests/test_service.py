@@ -19,8 +19,12 @@ def done(
 ) -> "subprocess.CompletedProcess[str]":
     """Runs a script and returns how it ended."""
     return subprocess.run(
-        [str(word) for word in words], cwd=folder, env={**os.environ, **environment}, capture_output=True,
-        text=True, timeout=30,
+        [str(word) for word in words],
+        cwd=folder,
+        env={**os.environ, **environment},
+        capture_output=True,
+        text=True,
+        timeout=30,
     )
 
 
@@ -103,9 +107,14 @@ def scheduler_port() -> Iterator[str]:
     server.server_close()
 
 
-@pytest.mark.parametrize("line", [
-    f'operator_key = "{KEY}"', f"operator_key='{KEY}'", f'  operator_key  =  "{KEY}"  # for the tick',
-])
+@pytest.mark.parametrize(
+    "line",
+    [
+        f'operator_key = "{KEY}"',
+        f"operator_key='{KEY}'",
+        f'  operator_key  =  "{KEY}"  # for the tick',
+    ],
+)
 def test_a_tick(tmp_path: Path, scheduler_port: str, line: str) -> None:
     (tmp_path / "settings.toml").write_text(f"max_hosts = 3\n{line}\nrequest_delay = 60\n")
     told = done(SERVICE / "tick", scheduler_port, folder=tmp_path)
@@ -135,10 +144,23 @@ def test_settings_without_a_key(tmp_path: Path) -> None:
 # ---- bsched-project
 
 
-@pytest.mark.parametrize("words", [
-    [], ["one", "two"], ["--port"], ["--nothing", "x"], [""], [".x"], ["a/b"], ["a b"], ["-x"], ["x" * 65],
-    ["sums.service"], ["x.timer"],
-])
+@pytest.mark.parametrize(
+    "words",
+    [
+        [],
+        ["one", "two"],
+        ["--port"],
+        ["--nothing", "x"],
+        [""],
+        [".x"],
+        ["a/b"],
+        ["a b"],
+        ["-x"],
+        ["x" * 65],
+        ["sums.service"],
+        ["x.timer"],
+    ],
+)
 def test_a_bad_command_line(words: list[str]) -> None:
     told = done(PACKAGING / "bsched-project", *words)
     assert told.returncode == 64 and is_one_line(told.stderr) and told.stdout == ""

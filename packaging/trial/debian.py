@@ -10,7 +10,9 @@ from typing import TypeAlias
 SUITE = "bookworm"
 BOOT_SECONDS = 120
 CLEAN = {
-    "PATH": "/usr/sbin:/usr/bin:/sbin:/bin", "HOME": "/root", "LC_ALL": "C.UTF-8",
+    "PATH": "/usr/sbin:/usr/bin:/sbin:/bin",
+    "HOME": "/root",
+    "LC_ALL": "C.UTF-8",
     "DEBIAN_FRONTEND": "noninteractive",
 }
 Done: TypeAlias = "subprocess.CompletedProcess[str]"
@@ -32,8 +34,13 @@ def finished(words: list[str], seconds: int = 60, environment: dict[str, str] | 
     """Runs a command for at most so many seconds and returns how it ended."""
     try:
         return subprocess.run(
-            words, stdin=subprocess.DEVNULL, stdout=subprocess.PIPE, stderr=subprocess.STDOUT, text=True,
-            timeout=seconds, env=environment,
+            words,
+            stdin=subprocess.DEVNULL,
+            stdout=subprocess.PIPE,
+            stderr=subprocess.STDOUT,
+            text=True,
+            timeout=seconds,
+            env=environment,
         )
     except subprocess.TimeoutExpired as late:
         raise TrialFault(f"{' '.join(words)}: not done after {seconds} seconds") from late
@@ -75,11 +82,34 @@ class Machine:
         self.boots = boots
         folder = str(root.path)
         if boots:
-            words = ["systemd-nspawn", "--quiet", f"--directory={folder}", "--boot", "--private-network",
-                     "--register=no", "--keep-unit", "--console=pipe", "--resolv-conf=off", "--timezone=off"]
+            words = [
+                "systemd-nspawn",
+                "--quiet",
+                f"--directory={folder}",
+                "--boot",
+                "--private-network",
+                "--register=no",
+                "--keep-unit",
+                "--console=pipe",
+                "--resolv-conf=off",
+                "--timezone=off",
+            ]
         else:
-            words = ["unshare", "--net", "--pid", "--mount", "--uts", "--ipc", "--fork", "--kill-child",
-                     "chroot", folder, "sh", "-c", "mount -t proc proc /proc; while true; do sleep 60; done"]
+            words = [
+                "unshare",
+                "--net",
+                "--pid",
+                "--mount",
+                "--uts",
+                "--ipc",
+                "--fork",
+                "--kill-child",
+                "chroot",
+                folder,
+                "sh",
+                "-c",
+                "mount -t proc proc /proc; while true; do sleep 60; done",
+            ]
         with log.open("w") as file:
             self.process = subprocess.Popen(words, stdin=subprocess.DEVNULL, stdout=file, stderr=file)
         self.leader = ""

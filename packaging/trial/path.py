@@ -66,10 +66,10 @@ def read_steps(lines: list[str]) -> Iterator[Step]:
         elif line.startswith("```"):
             end = lines.index("```", at + 1)
             if step is not None and line == "```sh":
-                step.blocks.append(Block("".join(f"{one}\n" for one in lines[at + 1:end]), note))
+                step.blocks.append(Block("".join(f"{one}\n" for one in lines[at + 1 : end]), note))
                 note = ""
             elif step is not None and line == "```":
-                step.blocks[-1].printed += lines[at + 1:end]
+                step.blocks[-1].printed += lines[at + 1 : end]
             at = end
         at += 1
     if step is not None:

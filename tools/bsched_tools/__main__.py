@@ -105,8 +105,14 @@ def results(args: Arguments) -> None:
     if args.files is not None and uploads is None:
         new_parser().error("results: --files needs --uploads FOLDER, or a project whose bridge has uploads")
     why = write_results(
-        copies_of(args, project), args.json, args.after, args.cursor, args.to, names=names,
-        uploads=uploads, files_to=args.files,
+        copies_of(args, project),
+        args.json,
+        args.after,
+        args.cursor,
+        args.to,
+        names=names,
+        uploads=uploads,
+        files_to=args.files,
     )
     if why is not None:
         print(f"bsched-tools: {why}", file=sys.stderr)
@@ -237,8 +243,17 @@ def load(args: Arguments) -> int:
 
 
 COMMANDS: dict[str, Callable[[Arguments], int | None]] = {
-    "copy": copy, "results": results, "process": process, "counts": counts, "job": job, "host": host,
-    "doctor": doctor, "statistics": statistics, "report": report, "health": health, "check": check,
+    "copy": copy,
+    "results": results,
+    "process": process,
+    "counts": counts,
+    "job": job,
+    "host": host,
+    "doctor": doctor,
+    "statistics": statistics,
+    "report": report,
+    "health": health,
+    "check": check,
     "import": load,
 }
 

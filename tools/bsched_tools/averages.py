@@ -96,7 +96,9 @@ class Averages:
     def write(self) -> None:
         """Writes the file, whole or not at all."""
         told = {
-            "format": FORMAT, "salt": self.salt, "users": self.users,
+            "format": FORMAT,
+            "salt": self.salt,
+            "users": self.users,
             "hosts": {name: asdict(kept) for name, kept in self.hosts.items()},
         }
         replace_file(self.path, [json.dumps(told).encode()], mode=0o600)

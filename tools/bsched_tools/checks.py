@@ -19,73 +19,115 @@ PLATFORMS = re.compile(r"[A-Za-z0-9_.-]{1,64}(,[A-Za-z0-9_.-]{1,64}){0,7}")
 # `size` (in bytes) are functions below
 RULES: dict[str, tuple[str, dict[str, str]]] = {
     "account": ("id", {"auth": "word(auth)", "name": "size(name) BETWEEN 1 AND 64"}),
-    "app": ("id", {
-        "name": "word(name)",
-        "agreement": "agreement IS NULL OR agreement BETWEEN 0 AND 1000000000",
-    }),
+    "app": (
+        "id",
+        {
+            "name": "word(name)",
+            "agreement": "agreement IS NULL OR agreement BETWEEN 0 AND 1000000000",
+        },
+    ),
     "version": ("id", {"platform": "word(platform)", "num": "num BETWEEN 1 AND 1000000"}),
     "version_class": ("version_id", {"class": "word(class)"}),
-    "unit": ("id", {
-        "name": "word(name)",
-        "min_quorum": "min_quorum BETWEEN 1 AND 100",
-        "target_nresults": "target_nresults BETWEEN min_quorum AND 100",
-        "max_error_results": "max_error_results BETWEEN 0 AND 100",
-        "max_total_results": "max_total_results BETWEEN target_nresults AND 100",
-        "max_success_results": "max_success_results BETWEEN 0 AND 100",
-        "delay_bound": "delay_bound BETWEEN 1 AND 100000000",
-        "rsc_fpops_est": "rsc_fpops_est BETWEEN 1 AND 1000000000000000000",
-        "rsc_memory_bound": "rsc_memory_bound BETWEEN 0 AND 1000000000000000000",
-        "rsc_disk_bound": "rsc_disk_bound BETWEEN 0 AND 1000000000000000000",
-        "credit": "credit BETWEEN 0 AND 100000000",
-        "status": "status BETWEEN 0 AND 4",
-    }),
-    "unit_mark": ("unit_id", {
-        "marked": "marked IN (0, 1)",
-        "class": "class IS NULL OR marked = 1 AND word(class)",
-    }),
-    "host": ("id", {
-        "cpid": "word(cpid)",
-        "platforms": "platforms(platforms)",
-        "fpops": "fpops BETWEEN 1 AND 1000000000000000000",
-        "memory": "memory BETWEEN 0 AND 1000000000000000000",
-        "disk": "disk BETWEEN 0 AND 1000000000000000000",
-        "quota": "quota BETWEEN 1 AND (SELECT value FROM setting WHERE name = 'daily_result_quota')",
-    }),
-    "instance": ("unit_id, num", {
-        "num": "num BETWEEN 0 AND 99",
-        "sent": "(sent IS NULL) = (host_id IS NULL) AND ifnull(sent, 0) BETWEEN 0 AND 250000000000",
-        "deadline": "(deadline IS NULL) = (sent IS NULL) AND ifnull(deadline, 0) BETWEEN 0 AND 250100000000",
-        "lapse": "lapse IN (0, 1, 2) AND (host_id IS NOT NULL OR lapse = 0)",
-        "outcome": "outcome IS NULL OR outcome IN (1, 3) AND host_id IS NOT NULL",
-        "output": "(output IS NULL) = (outcome IS NULL) AND size(ifnull(output, '')) <= 1024",
-        "place": "place IS NULL OR place BETWEEN 1 AND 100 AND outcome IS NOT NULL",
-    }),
-    "kept4": ("host_id, slot", {
-        "slot": "slot BETWEEN 0 AND 3",
-        "seqno": "seqno BETWEEN 0 AND 2147483647",
-    }),
-    "batch": ("kind, name", {
-        "kind": "kind IN ('accounts', 'apps', 'versions', 'workunits')",
-        "name": "word(name)",
-        "text": "length(text) <= 1048576",
-    }),
+    "unit": (
+        "id",
+        {
+            "name": "word(name)",
+            "min_quorum": "min_quorum BETWEEN 1 AND 100",
+            "target_nresults": "target_nresults BETWEEN min_quorum AND 100",
+            "max_error_results": "max_error_results BETWEEN 0 AND 100",
+            "max_total_results": "max_total_results BETWEEN target_nresults AND 100",
+            "max_success_results": "max_success_results BETWEEN 0 AND 100",
+            "delay_bound": "delay_bound BETWEEN 1 AND 100000000",
+            "rsc_fpops_est": "rsc_fpops_est BETWEEN 1 AND 1000000000000000000",
+            "rsc_memory_bound": "rsc_memory_bound BETWEEN 0 AND 1000000000000000000",
+            "rsc_disk_bound": "rsc_disk_bound BETWEEN 0 AND 1000000000000000000",
+            "credit": "credit BETWEEN 0 AND 100000000",
+            "status": "status BETWEEN 0 AND 4",
+        },
+    ),
+    "unit_mark": (
+        "unit_id",
+        {
+            "marked": "marked IN (0, 1)",
+            "class": "class IS NULL OR marked = 1 AND word(class)",
+        },
+    ),
+    "host": (
+        "id",
+        {
+            "cpid": "word(cpid)",
+            "platforms": "platforms(platforms)",
+            "fpops": "fpops BETWEEN 1 AND 1000000000000000000",
+            "memory": "memory BETWEEN 0 AND 1000000000000000000",
+            "disk": "disk BETWEEN 0 AND 1000000000000000000",
+            "quota": "quota BETWEEN 1 AND (SELECT value FROM setting WHERE name = 'daily_result_quota')",
+        },
+    ),
+    "instance": (
+        "unit_id, num",
+        {
+            "num": "num BETWEEN 0 AND 99",
+            "sent": "(sent IS NULL) = (host_id IS NULL) AND ifnull(sent, 0) BETWEEN 0 AND 250000000000",
+            "deadline": "(deadline IS NULL) = (sent IS NULL) "
+            "AND ifnull(deadline, 0) BETWEEN 0 AND 250100000000",
+            "lapse": "lapse IN (0, 1, 2) AND (host_id IS NOT NULL OR lapse = 0)",
+            "outcome": "outcome IS NULL OR outcome IN (1, 3) AND host_id IS NOT NULL",
+            "output": "(output IS NULL) = (outcome IS NULL) AND size(ifnull(output, '')) <= 1024",
+            "place": "place IS NULL OR place BETWEEN 1 AND 100 AND outcome IS NOT NULL",
+        },
+    ),
+    "kept4": (
+        "host_id, slot",
+        {
+            "slot": "slot BETWEEN 0 AND 3",
+            "seqno": "seqno BETWEEN 0 AND 2147483647",
+        },
+    ),
+    "batch": (
+        "kind, name",
+        {
+            "kind": "kind IN ('accounts', 'apps', 'versions', 'workunits')",
+            "name": "word(name)",
+            "text": "length(text) <= 1048576",
+        },
+    ),
 }
 # rules between rows: the table, a query for the keys of rows that break the rule, and what is wrong
 RELATIONS = [
-    ("version", "SELECT id FROM version WHERE id NOT IN (SELECT version_id FROM version_class)",
-     "it has no row in version_class"),
-    ("unit", "SELECT id FROM unit WHERE id NOT IN (SELECT unit_id FROM unit_mark)",
-     "it has no row in unit_mark"),
-    ("host", "SELECT id FROM host WHERE held <> "
-     "(SELECT count(*) FROM instance WHERE host_id = host.id AND outcome IS NULL AND lapse = 0)",
-     "held is not how many instances it holds"),
-    ("instance", "SELECT unit_id, num FROM instance JOIN unit ON unit.id = unit_id "
-     "WHERE queued <> (host_id IS NULL AND status = 0)", "queued is not whether it waits"),
-    ("instance", "SELECT unit_id, min(num) FROM instance JOIN host ON host.id = host_id "
-     "GROUP BY unit_id, account_id HAVING count(*) > 1", "a user was given two instances of this workunit"),
-    ("unit_mark", "SELECT unit_id FROM unit_mark WHERE marked = 1 AND class IS NULL AND EXISTS "
-     "(SELECT 1 FROM instance WHERE instance.unit_id = unit_mark.unit_id AND host_id IS NOT NULL)",
-     "it is marked and was given out, and has no class"),
+    (
+        "version",
+        "SELECT id FROM version WHERE id NOT IN (SELECT version_id FROM version_class)",
+        "it has no row in version_class",
+    ),
+    (
+        "unit",
+        "SELECT id FROM unit WHERE id NOT IN (SELECT unit_id FROM unit_mark)",
+        "it has no row in unit_mark",
+    ),
+    (
+        "host",
+        "SELECT id FROM host WHERE held <> "
+        "(SELECT count(*) FROM instance WHERE host_id = host.id AND outcome IS NULL AND lapse = 0)",
+        "held is not how many instances it holds",
+    ),
+    (
+        "instance",
+        "SELECT unit_id, num FROM instance JOIN unit ON unit.id = unit_id "
+        "WHERE queued <> (host_id IS NULL AND status = 0)",
+        "queued is not whether it waits",
+    ),
+    (
+        "instance",
+        "SELECT unit_id, min(num) FROM instance JOIN host ON host.id = host_id "
+        "GROUP BY unit_id, account_id HAVING count(*) > 1",
+        "a user was given two instances of this workunit",
+    ),
+    (
+        "unit_mark",
+        "SELECT unit_id FROM unit_mark WHERE marked = 1 AND class IS NULL AND EXISTS "
+        "(SELECT 1 FROM instance WHERE instance.unit_id = unit_mark.unit_id AND host_id IS NOT NULL)",
+        "it is marked and was given out, and has no class",
+    ),
 ]
 WITHOUT_GAPS = ("account", "app", "version", "unit", "host")
 UNITS = """
@@ -109,6 +151,7 @@ class Wrong:
 
 def add_functions(connection: sqlite3.Connection) -> None:
     """Adds the functions that the rules use."""
+
     def matches(form: re.Pattern[str]) -> Any:
         return lambda value: isinstance(value, str) and form.fullmatch(value) is not None
 
@@ -203,7 +246,8 @@ def good_of(rows: list[Row]) -> list[Instance]:
     """Returns the judged successes of a workunit, by place."""
     judged = [
         (row.place, Instance("", row.host, None, row.outcome, row.output, row.place))
-        for row in rows if row.place is not None and row.outcome == SUCCESS
+        for row in rows
+        if row.place is not None and row.outcome == SUCCESS
     ]
     return [one for _, one in sorted(judged, key=lambda pair: pair[0])]
 

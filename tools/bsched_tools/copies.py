@@ -119,7 +119,7 @@ def remove_older(newest: Path, stem: str, keep: int) -> list[Path]:
     Returns the removed ones."""
     settings, imports = project_of(newest)
     older = [path for path in tables.copies_in(newest.parent, stem) if path != newest]
-    removed = [path for path in older if is_of_project(path, settings, imports)][keep - 1:]
+    removed = [path for path in older if is_of_project(path, settings, imports)][keep - 1 :]
     for path in removed:
         for one in (path, *beside(path)):
             one.unlink(missing_ok=True)

@@ -55,9 +55,13 @@ class Counts:
     def said(self) -> dict[str, object]:
         """Returns all counts, for JSON."""
         return {
-            "schema": SCHEMA_NUMBER, "moment": self.moment, "bytes": self.bytes,
+            "schema": SCHEMA_NUMBER,
+            "moment": self.moment,
+            "bytes": self.bytes,
             "millicredits": self.millicredits,
-            "workunits": dict(self.workunits), "instances": dict(self.instances), "people": self.people,
+            "workunits": dict(self.workunits),
+            "instances": dict(self.instances),
+            "people": self.people,
             "limits": {name: {"used": limit.used, "most": limit.most} for name, limit in self.limits.items()},
         }
 
@@ -87,8 +91,7 @@ def last_calls(tables: Tables) -> dict[HostKey, int]:
 
 
 def calls_of_a_day_before(tables: Tables) -> dict[HostKey, int]:
-    """Returns the number of the last call of each host a day before. If it is not known, the fault says why.
-    """
+    """Returns the number of the last call of each host a day before. If it is unknown, the fault says why."""
     before = copy_of_a_day_before(tables)
     if before is None:
         raise Fault(f"no copy in the folder of {tables.path} is a day older")

@@ -12,7 +12,16 @@ from .checks import wrong_rows
 from .faults import Fault
 from .settings_file import settings_faults
 from .tables import (
-    EMPTY, TAKE_ANOTHER, Tables, check_file, connected, faults_of, journal_fault, log_of, log_size, moment_of,
+    EMPTY,
+    TAKE_ANOTHER,
+    Tables,
+    check_file,
+    connected,
+    faults_of,
+    journal_fault,
+    log_of,
+    log_size,
+    moment_of,
     schema_fault,
 )
 
@@ -21,7 +30,7 @@ OTHER_KEY = (
     "operator_key is not that of the tables, so ticks and imports with it are refused. Each copy of the "
     "tables has the right one: `SELECT value FROM setting WHERE name = 'operator_key'`"
 )
-RESTORE = "restore a copy (docs/OPERATING.md, \"Backup and restore\")"
+RESTORE = 'restore a copy (docs/OPERATING.md, "Backup and restore")'
 
 
 def file_faults(path: Path) -> Iterator[str]:
@@ -51,8 +60,10 @@ def holder_faults(path: Path) -> Iterator[str]:
     identity = holders.identity_of(path)
     for one in holders.all_open_files(identity) if identity else []:
         if one.lock == "WRITE":
-            yield (f"{one.process} has it, so no other program can open it: end that first; "
-                   f"or send the message to it by HTTP, or look at a copy (`bsched-tools copy`)")
+            yield (
+                f"{one.process} has it, so no other program can open it: end that first; "
+                f"or send the message to it by HTTP, or look at a copy (`bsched-tools copy`)"
+            )
         elif one.lock:
             yield f"{one.process} reads it: end that first"
 

@@ -107,13 +107,16 @@ class Export:
 
     def totals(self) -> str:
         """Returns the text of tables.xml."""
-        return element("tables", {
-            "update_time": self.moment,
-            "nusers_total": self.count,
-            "nteams_total": 0,
-            "nhosts_total": len(self.hosts),
-            "total_credit": credits_text(self.millicredits),
-        })
+        return element(
+            "tables",
+            {
+                "update_time": self.moment,
+                "nusers_total": self.count,
+                "nteams_total": 0,
+                "nhosts_total": len(self.hosts),
+                "total_credit": credits_text(self.millicredits),
+            },
+        )
 
 
 def listed(root: str, elements: Iterable[str]) -> Iterator[bytes]:
@@ -130,8 +133,11 @@ def state_of(folder: Path) -> Path:
 
 
 def export(
-    paths: Iterable[Path], folder: Path, agreed: Collection[str] | None,
-    names: Mapping[str, str] | None = None, averages_file: Path | None = None,
+    paths: Iterable[Path],
+    folder: Path,
+    agreed: Collection[str] | None,
+    names: Mapping[str, str] | None = None,
+    averages_file: Path | None = None,
 ) -> Exported:
     """Writes the files of some tables into a folder. They name the users whose authenticators agreed, or with
     None all users. Sites know users and hosts by their numbers, so the numbers are stored before they are

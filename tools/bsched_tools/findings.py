@@ -57,7 +57,7 @@ class HostErrors:
 def deadlines_by_hour(tables: Tables) -> list[int]:
     """Returns how many deadlines of held instances are in each hour of the day after the copy."""
     counted = [0] * DAY_HOURS
-    for deadline, in tables.rows(DEADLINES, tables.moment, tables.moment + DAY_HOURS * HOUR):
+    for (deadline,) in tables.rows(DEADLINES, tables.moment, tables.moment + DAY_HOURS * HOUR):
         counted[(deadline - tables.moment) // HOUR] += 1
     return counted
 

@@ -24,8 +24,12 @@ def handed_on(project: Project, settings: UnitSettings, names: dict[str, str]) -
     with turn(folder, TURN_SECONDS):
         if not new.exists():
             write_results(
-                [*project.archives, settings.copies], as_lines=True, cursor=folder / "cursor", target=new,
-                names=names, uploads=project.uploads,
+                [*project.archives, settings.copies],
+                as_lines=True,
+                cursor=folder / "cursor",
+                target=new,
+                names=names,
+                uploads=project.uploads,
             )
         count = len(new.read_bytes().splitlines())
         if count:

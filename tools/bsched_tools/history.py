@@ -101,8 +101,13 @@ class History:
         if self.entries and tables.moment <= self.entries[-1].moment:
             return
         entry = Entry(
-            tables.moment, dict(counts.workunits), dict(counts.instances), counts.people, counts.millicredits,
-            counts.bytes, self.turnaround(tables),
+            tables.moment,
+            dict(counts.workunits),
+            dict(counts.instances),
+            counts.people,
+            counts.millicredits,
+            counts.bytes,
+            self.turnaround(tables),
         )
         held = [f"{unit}.{num}" for unit, num in tables.rows(HELD)]
         told = {"moment": tables.moment, "held": held, "entry": asdict(entry)}

@@ -64,7 +64,8 @@ def lock_of(pid: int, descriptor: str) -> str:
         return ""
     last = LOCKS_START + LOCKS_LENGTH - 1
     kinds = {
-        kind for kind, start, end in LOCK.findall(told)
+        kind
+        for kind, start, end in LOCK.findall(told)
         if int(start) <= last and (end == "EOF" or int(end) >= LOCKS_START)
     }
     return "WRITE" if "WRITE" in kinds else "READ" if kinds else ""

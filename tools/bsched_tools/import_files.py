@@ -101,24 +101,56 @@ def whole(least: int | str, most: int | str) -> Check:
 
 
 WORKUNIT_COLUMNS = [
-    "name", "app", "min_quorum", "target_nresults", "max_error_results", "max_total_results",
-    "max_success_results", "delay_bound", "rsc_fpops_est", "rsc_memory_bound", "rsc_disk_bound", "credit",
+    "name",
+    "app",
+    "min_quorum",
+    "target_nresults",
+    "max_error_results",
+    "max_total_results",
+    "max_success_results",
+    "delay_bound",
+    "rsc_fpops_est",
+    "rsc_memory_bound",
+    "rsc_disk_bound",
+    "credit",
     "marked",
 ]
 WORKUNIT_CHECKS: list[Check] = [
-    word, word, whole(1, 100), whole("min_quorum", 100), whole(0, 100), whole("target_nresults", 100),
-    whole(0, 100), whole(1, 100_000_000), whole(1, LARGE), whole(0, LARGE), whole(0, LARGE),
-    whole(0, 100_000_000), mark,
+    word,
+    word,
+    whole(1, 100),
+    whole("min_quorum", 100),
+    whole(0, 100),
+    whole("target_nresults", 100),
+    whole(0, 100),
+    whole(1, 100_000_000),
+    whole(1, LARGE),
+    whole(0, LARGE),
+    whole(0, LARGE),
+    whole(0, 100_000_000),
+    mark,
 ]
 # in the order in which they are imported
-KINDS = {kind.name: kind for kind in (
-    Kind("accounts", {"authenticator": word, "name": name_of_user}, 1),
-    Kind("apps", {"name": word, "agreement": agreement}, 1),
-    Kind("versions", {
-        "app": word, "platform": word, "version_num": whole(1, 1_000_000), "version_class": word,
-    }, 3, "version_class", 0),
-    Kind("workunits", dict(zip(WORKUNIT_COLUMNS, WORKUNIT_CHECKS)), 1, "marked", 1),
-)}
+KINDS = {
+    kind.name: kind
+    for kind in (
+        Kind("accounts", {"authenticator": word, "name": name_of_user}, 1),
+        Kind("apps", {"name": word, "agreement": agreement}, 1),
+        Kind(
+            "versions",
+            {
+                "app": word,
+                "platform": word,
+                "version_num": whole(1, 1_000_000),
+                "version_class": word,
+            },
+            3,
+            "version_class",
+            0,
+        ),
+        Kind("workunits", dict(zip(WORKUNIT_COLUMNS, WORKUNIT_CHECKS)), 1, "marked", 1),
+    )
+}
 
 
 def records_of(text: str) -> Iterator[Row]:
@@ -141,8 +173,10 @@ def shown(value: str) -> str:
 
 def kind_of(header: list[str]) -> Kind | None:
     """Returns the kind whose header this is, or is most alike; None if no column is known."""
-    found = max(KINDS.values(), key=lambda kind: (
-        header in kind.headers(), len(set(header) & set(kind.columns)), -len(kind.columns)))
+    found = max(
+        KINDS.values(),
+        key=lambda kind: (header in kind.headers(), len(set(header) & set(kind.columns)), -len(kind.columns)),
+    )
     return found if set(header) & set(found.columns) else None
 
 
@@ -182,7 +216,7 @@ def double_faults(file: ImportFile) -> Iterator[str]:
     """Yields each name that an earlier row has."""
     seen: dict[tuple[str, ...], int] = {}
     for row in file.rows:
-        name = tuple(row.fields[:file.kind.names])
+        name = tuple(row.fields[: file.kind.names])
         if name in seen:
             yield f"line {row.line}: {' '.join(name)} is already on line {seen[name]}"
         seen.setdefault(name, row.line)
@@ -195,8 +229,10 @@ def read_import(path: Path, text: bytes) -> ImportFile | str:
     except Fault as fault:
         return str(fault)
     if not rows:
-        return ("it is empty: the first line names the columns (`curl -d @FILE` removes line ends: use "
-                "--data-binary, or `bsched-tools import`)")
+        return (
+            "it is empty: the first line names the columns (`curl -d @FILE` removes line ends: use "
+            "--data-binary, or `bsched-tools import`)"
+        )
     kind = kind_of(rows[0].fields)
     wrong = header_fault(rows[0], kind)
     if wrong is not None:

@@ -114,8 +114,11 @@ class Sender:
             words = ["import", "--tables", str(self.project.tables), "--kind", kind, "--batch", batch.name]
             try:
                 told = subprocess.run(
-                    [str(PROGRAM), *words, "--file", file.name], capture_output=True, text=True,
-                    timeout=10 * ANSWER_SECONDS, stdin=subprocess.DEVNULL,
+                    [str(PROGRAM), *words, "--file", file.name],
+                    capture_output=True,
+                    text=True,
+                    timeout=10 * ANSWER_SECONDS,
+                    stdin=subprocess.DEVNULL,
                 )
             except (OSError, subprocess.TimeoutExpired) as error:
                 raise Fault(f"{PROGRAM}: {getattr(error, 'strerror', None) or error}") from None

@@ -12,7 +12,11 @@ from .exports import credits_text
 from .faults import Fault
 from .files import replace_file
 from .findings import (
-    credit_by_user, deadlines_by_hour, hosts_with_errors, marked_by_class, stuck_workunits,
+    credit_by_user,
+    deadlines_by_hour,
+    hosts_with_errors,
+    marked_by_class,
+    stuck_workunits,
 )
 from .history import TURNAROUND_HOURS, Entry, History
 from .tables import COPY_NAME, Tables, opened
@@ -236,9 +240,14 @@ def page(tables: Tables, counts: Counts, entries: list[Entry], name: str) -> str
     """Returns the page of the project with this name."""
     title = f"{escape(name)}: status"
     parts = [
-        counts_part(counts, entries), history_parts(entries), turnaround_part(entries, tables.moment),
-        deadlines_part(tables, counts.instances["late"]), credit_part(tables), errors_part(tables),
-        marked_part(tables), used_part(counts),
+        counts_part(counts, entries),
+        history_parts(entries),
+        turnaround_part(entries, tables.moment),
+        deadlines_part(tables, counts.instances["late"]),
+        credit_part(tables),
+        errors_part(tables),
+        marked_part(tables),
+        used_part(counts),
     ]
     head = (
         f'<meta charset="utf-8">\n<title>{title}</title>\n<style>{STYLE}</style>\n'
@@ -255,7 +264,10 @@ def clean(text: str) -> str:
 
 
 def write_report(
-    path: Path, folder: Path, title: str | None = None, names: Mapping[str, str] | None = None,
+    path: Path,
+    folder: Path,
+    title: str | None = None,
+    names: Mapping[str, str] | None = None,
     kept: Path | None = None,
 ) -> Path:
     """Writes the page of a copy into a folder. The history is appended in the folder `kept`, or in the same

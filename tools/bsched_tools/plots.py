@@ -18,10 +18,18 @@ COLOURS = ("#3b82c4", "#3a9a5c", "#d1662f", "#9a6bc9", "#c2487f", "#8a8a2c")
 SIZE = (5.4, 2.7)
 XLINK = "http://www.w3.org/1999/xlink"
 SETTINGS = {
-    "svg.fonttype": "none", "text.parse_math": False, "font.size": 9, "font.family": "sans-serif",
-    "text.color": TEXT, "axes.edgecolor": TEXT, "axes.labelcolor": TEXT,
-    "xtick.color": TEXT, "ytick.color": TEXT,
-    "axes.spines.top": False, "axes.spines.right": False, "figure.constrained_layout.use": True,
+    "svg.fonttype": "none",
+    "text.parse_math": False,
+    "font.size": 9,
+    "font.family": "sans-serif",
+    "text.color": TEXT,
+    "axes.edgecolor": TEXT,
+    "axes.labelcolor": TEXT,
+    "xtick.color": TEXT,
+    "ytick.color": TEXT,
+    "axes.spines.top": False,
+    "axes.spines.right": False,
+    "figure.constrained_layout.use": True,
 }
 
 
@@ -32,7 +40,7 @@ def written(figure: Figure, name: str, text: str) -> str:
         warnings.simplefilter("ignore")  # about characters that the font lacks: the browser has them
         figure.savefig(file, format="svg", transparent=True, metadata={"Date": None, "Creator": None})
     svg = file.getvalue()
-    svg = svg[svg.index("<svg"):].replace(TEXT, "currentColor")
+    svg = svg[svg.index("<svg") :].replace(TEXT, "currentColor")
     svg = re.sub(r"<metadata>.*?</metadata>", "", svg, flags=re.DOTALL)
     head, _, rest = svg.partition(">")
     box = re.search(r'viewBox="[^"]*"', head)

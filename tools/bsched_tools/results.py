@@ -19,8 +19,18 @@ from .uploaded import UploadedFile, Uploads, place, uploads_in
 from .workunits import Result, Workunit, decided
 
 COLUMNS = (
-    "workunit", "app", "status", "reason", "millicredits", "canonical", "output",
-    "result", "verdict", "host", "user", "late",
+    "workunit",
+    "app",
+    "status",
+    "reason",
+    "millicredits",
+    "canonical",
+    "output",
+    "result",
+    "verdict",
+    "host",
+    "user",
+    "late",
 )
 
 
@@ -70,8 +80,10 @@ def as_json(line: Line) -> str:
         said |= {"status": "failed", "reason": unit.reason}
     else:
         said |= {
-            "status": "done", "millicredits": unit.millicredits,
-            "canonical": unit.canonical, "output": unit.output,
+            "status": "done",
+            "millicredits": unit.millicredits,
+            "canonical": unit.canonical,
+            "output": unit.output,
             "valid": [member_of(one) for one in unit.results if one.is_valid],
             "invalid": [member_of(one) for one in unit.results if not one.is_valid],
         }
@@ -110,7 +122,7 @@ def places_after(all_tables: list[Tables], name: str) -> dict[Path, int]:
     if len(found) != 1:
         where = "no file" if not found else "several of the files"
         raise Fault(f"{all_tables[0].path}: the workunit {name} of --after is in {where}")
-    (at, number), = found
+    ((at, number),) = found
     return {tables.path: number if tables is all_tables[at] else 0 for tables in all_tables[at:]}
 
 

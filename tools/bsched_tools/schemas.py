@@ -30,15 +30,21 @@ CREATE INDEX instance_owner ON instance (host_id, unit_id, num);
 CREATE INDEX instance_sent ON instance (host_id, sent);
 CREATE INDEX instance_deadline ON instance (deadline);
 """
-SECOND_SCHEMA = FIRST_SCHEMA + """
+SECOND_SCHEMA = (
+    FIRST_SCHEMA
+    + """
 CREATE TABLE kept4 (host_id INTEGER NOT NULL REFERENCES host, slot INTEGER NOT NULL, seqno INTEGER NOT NULL,
   text TEXT NOT NULL, reply TEXT NOT NULL, PRIMARY KEY (host_id, slot)) STRICT;
 """
-SCHEMA = SECOND_SCHEMA + """
+)
+SCHEMA = (
+    SECOND_SCHEMA
+    + """
 CREATE TABLE version_class (version_id INTEGER PRIMARY KEY REFERENCES version, class TEXT NOT NULL) STRICT;
 CREATE TABLE unit_mark (unit_id INTEGER PRIMARY KEY REFERENCES unit, marked INTEGER NOT NULL,
   class TEXT) STRICT;
 """
+)
 # a table's columns, indexes and references
 Facts = tuple[tuple[object, ...], ...]
 Shape = dict[str, Facts]

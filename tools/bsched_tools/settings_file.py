@@ -7,8 +7,11 @@ from typing import Any
 
 WORD = re.compile(r"[A-Za-z0-9_.-]{1,64}")
 RANGES = {
-    "daily_result_quota": (1, 1_000_000), "max_hosts": (1, 100_000), "max_wus_in_progress": (1, 1_000),
-    "max_wus_to_send": (1, 100), "request_delay": (0, 2_592_000),
+    "daily_result_quota": (1, 1_000_000),
+    "max_hosts": (1, 100_000),
+    "max_wus_in_progress": (1, 1_000),
+    "max_wus_to_send": (1, 100),
+    "request_delay": (0, 2_592_000),
 }
 KEYS = {*RANGES, "operator_key", "resend_lost_results"}
 

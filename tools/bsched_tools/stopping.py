@@ -90,8 +90,7 @@ def wait_until_still(process: Process) -> Threads:
 
 
 def watch(process: Process, pipe_end: int) -> None:
-    """Runs in the child. It waits for the end of the pipe or the time limit, continues the process, and ends.
-    """
+    """Runs in the child: waits for the end of the pipe or the time limit, continues the process, and ends."""
     try:
         os.setsid()
         poll = select.poll()

@@ -71,8 +71,7 @@ def faults_of(path: Path) -> Iterator[None]:
 
 
 def moment_of(path: Path) -> int:
-    """Returns the moment of a copy. Its name says it; otherwise it is the time of the last write to the file.
-    """
+    """Returns the moment of a copy: that in its name, else the time of the last write to the file."""
     match = COPY_NAME.fullmatch(path.name)
     if match is None:
         return int(path.stat().st_mtime)
@@ -100,7 +99,8 @@ def found_copy(path: Path) -> Path:
     if moment_of(copies[0]) > time.time() + CLOCK_SECONDS:
         print(
             f"bsched-tools: {copies[0]}: its name lies in the future, so no newer copy is read: remove it if "
-            "the clock was ahead", file=sys.stderr,
+            "the clock was ahead",
+            file=sys.stderr,
         )
     return copies[0]
 

@@ -12,10 +12,11 @@ CALLS = 300
 
 
 def life_of(
-    seed: int, calls: int = CALLS, made: type[bench_project.Project] = bench_project.Project,
+    seed: int,
+    calls: int = CALLS,
+    made: type[bench_project.Project] = bench_project.Project,
 ) -> bench_project.Project:
-    """Returns a project of the plain scheduler that lived this many calls. Its lines are those of the life.
-    """
+    """Returns a project of the plain scheduler that lived this many calls. Its lines are those of the life."""
     chosen = bench_project.random
     try:
         bench_project.random = type("Chosen", (), {"Random": staticmethod(lambda _: random.Random(seed))})

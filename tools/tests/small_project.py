@@ -15,8 +15,13 @@ TOOLS = Path(__file__).resolve().parent.parent
 BENCH = TOOLS.parent / "bench"
 KEY = "change-this-key"
 SETTINGS = {
-    "daily_result_quota": 100, "max_hosts": 100, "max_wus_in_progress": 8, "max_wus_to_send": 4,
-    "operator_key": KEY, "request_delay": 60, "resend_lost_results": True,
+    "daily_result_quota": 100,
+    "max_hosts": 100,
+    "max_wus_in_progress": 8,
+    "max_wus_to_send": 4,
+    "operator_key": KEY,
+    "request_delay": 60,
+    "resend_lost_results": True,
 }
 WORKUNITS = ",".join(KINDS["workunits"][0])
 LIMITS = "2,2,3,8,6,7200,3600000000000,1000,1000,5000"
@@ -49,10 +54,15 @@ def made_anew(path: Path) -> Path:
 
 def request(user: int, seqno: int, host: str = "h", **more: Any) -> bytes:
     """Returns the body of a call."""
-    return json.dumps({
-        "authenticator": f"k{user}", "rpc_seqno": seqno, "platform_name": "linux",
-        "host_info": {"host_cpid": host, "p_fpops": 10**9, "m_nbytes": 10**9, "d_free": 10**9}, **more,
-    }).encode()
+    return json.dumps(
+        {
+            "authenticator": f"k{user}",
+            "rpc_seqno": seqno,
+            "platform_name": "linux",
+            "host_info": {"host_cpid": host, "p_fpops": 10**9, "m_nbytes": 10**9, "d_free": 10**9},
+            **more,
+        }
+    ).encode()
 
 
 class Twin:

@@ -88,7 +88,10 @@ def test_copies_under_load_have_what_was_answered(project: Path, twin: Twin, cop
 
 
 def test_a_file_that_was_not_written_for_long_is_copied_before_the_stop(
-    project: Path, twin: Twin, copies: Path, monkeypatch: pytest.MonkeyPatch,
+    project: Path,
+    twin: Twin,
+    copies: Path,
+    monkeypatch: pytest.MonkeyPatch,
 ) -> None:
     twin.call(1, 1)
     parts = counted_parts(monkeypatch)
@@ -100,7 +103,10 @@ def test_a_file_that_was_not_written_for_long_is_copied_before_the_stop(
 
 
 def test_a_file_that_is_written_after_the_early_copy_is_copied_again(
-    project: Path, twin: Twin, copies: Path, monkeypatch: pytest.MonkeyPatch,
+    project: Path,
+    twin: Twin,
+    copies: Path,
+    monkeypatch: pytest.MonkeyPatch,
 ) -> None:
     early = taking.Work.copy_early
 
@@ -116,7 +122,10 @@ def test_a_file_that_is_written_after_the_early_copy_is_copied_again(
 
 
 def test_a_file_that_is_always_written_is_copied_in_the_stop(
-    project: Path, twin: Twin, copies: Path, monkeypatch: pytest.MonkeyPatch,
+    project: Path,
+    twin: Twin,
+    copies: Path,
+    monkeypatch: pytest.MonkeyPatch,
 ) -> None:
     monkeypatch.setattr(taking, "SETTLE_SECONDS", 0.1)
     monkeypatch.setattr(taking, "FINE_SECONDS", 1000)
@@ -127,7 +136,10 @@ def test_a_file_that_is_always_written_is_copied_in_the_stop(
 
 
 def test_a_file_that_is_written_during_the_early_copy_is_copied_again(
-    project: Path, twin: Twin, copies: Path, monkeypatch: pytest.MonkeyPatch,
+    project: Path,
+    twin: Twin,
+    copies: Path,
+    monkeypatch: pytest.MonkeyPatch,
 ) -> None:
     copy_bytes, parts = taking.copy_bytes, []
 
@@ -203,7 +215,10 @@ def test_a_process_that_ran_meanwhile_voids_the_copy(twin: Twin) -> None:
 
 
 def test_a_process_that_does_not_stop_goes_on(
-    project: Path, twin: Twin, copies: Path, monkeypatch: pytest.MonkeyPatch,
+    project: Path,
+    twin: Twin,
+    copies: Path,
+    monkeypatch: pytest.MonkeyPatch,
 ) -> None:
     monkeypatch.setattr(stopping, "STOP_SECONDS", 0.01)
     monkeypatch.setattr(stopping, "is_still", lambda _states: False)
@@ -256,7 +271,10 @@ def test_a_copy_has_the_owner_of_the_tables(project: Path, copies: Path) -> None
 
 
 def test_a_process_that_stops_at_the_second_try(
-    project: Path, twin: Twin, copies: Path, monkeypatch: pytest.MonkeyPatch,
+    project: Path,
+    twin: Twin,
+    copies: Path,
+    monkeypatch: pytest.MonkeyPatch,
 ) -> None:
     is_still, tries = stopping.is_still, []
 
@@ -277,7 +295,9 @@ def test_tables_that_nobody_has(project: Path, copies: Path) -> None:
 
 
 def test_nobody_begins_while_a_copy_is_made(
-    project: Path, copies: Path, monkeypatch: pytest.MonkeyPatch,
+    project: Path,
+    copies: Path,
+    monkeypatch: pytest.MonkeyPatch,
 ) -> None:
     rest, tried = taking.Work.copy_rest, []
 
@@ -309,7 +329,10 @@ def test_a_reader_is_named(project: Path, copies: Path, monkeypatch: pytest.Monk
 
 
 def test_the_process_is_found_by_the_file_and_not_by_its_name(
-    project: Path, twin: Twin, copies: Path, tmp_path: Path,
+    project: Path,
+    twin: Twin,
+    copies: Path,
+    tmp_path: Path,
 ) -> None:
     os.rename(project, tmp_path / "other.db")
     os.rename(f"{project}-wal", tmp_path / "other.db-wal")
@@ -320,7 +343,10 @@ def test_the_process_is_found_by_the_file_and_not_by_its_name(
 
 
 def test_another_log_in_the_place_of_the_one_that_is_written(
-    project: Path, twin: Twin, copies: Path, monkeypatch: pytest.MonkeyPatch,
+    project: Path,
+    twin: Twin,
+    copies: Path,
+    monkeypatch: pytest.MonkeyPatch,
 ) -> None:
     monkeypatch.setattr(taking, "SEEK_SECONDS", 0)
     os.remove(f"{project}-wal")
@@ -331,7 +357,9 @@ def test_another_log_in_the_place_of_the_one_that_is_written(
 
 
 def test_copies_of_the_same_tables_take_turns(
-    project: Path, copies: Path, monkeypatch: pytest.MonkeyPatch,
+    project: Path,
+    copies: Path,
+    monkeypatch: pytest.MonkeyPatch,
 ) -> None:
     monkeypatch.setattr(copying, "TURN_SECONDS", 0)
     with open(project) as file:
@@ -353,7 +381,9 @@ def test_keep_removes_older_copies_of_the_project_alone(project: Path, copies: P
 
 
 def test_keep_leaves_copies_of_a_project_with_other_settings_alone(
-    project: Path, copies: Path, tmp_path: Path,
+    project: Path,
+    copies: Path,
+    tmp_path: Path,
 ) -> None:
     (tmp_path / "else").mkdir()
     # the same imports, and another key
@@ -366,10 +396,15 @@ def test_keep_leaves_copies_of_a_project_with_other_settings_alone(
 
 
 def test_the_holder_is_looked_at_again_while_it_stands_still(
-    project: Path, twin: Twin, copies: Path, monkeypatch: pytest.MonkeyPatch,
+    project: Path,
+    twin: Twin,
+    copies: Path,
+    monkeypatch: pytest.MonkeyPatch,
 ) -> None:
     source = taking.Source(project, holders.identity_of(project))
-    holder, = [one for one in holders.open_files_of(twin.process.pid, source.identity) if one.lock == "WRITE"]
+    (holder,) = [
+        one for one in holders.open_files_of(twin.process.pid, source.identity) if one.lock == "WRITE"
+    ]
     taking.check_holder(source, holder, 3)
     with pytest.raises(taking.Retry, match="was made meanwhile"):
         taking.check_holder(source, holder, None)
@@ -395,7 +430,9 @@ def test_a_link_in_the_place_of_a_copy_is_not_followed(tmp_path: Path) -> None:
 
 
 def test_a_copy_whose_name_lies_in_the_future_is_told(
-    project: Path, copies: Path, capsys: pytest.CaptureFixture[str],
+    project: Path,
+    copies: Path,
+    capsys: pytest.CaptureFixture[str],
 ) -> None:
     first = copying.copy_tables(project, copies).path
     assert tables.found_copy(copies) == first and capsys.readouterr().err == ""
@@ -431,14 +468,22 @@ def test_a_bad_copy_removes_nothing_and_gets_no_name(project: Path, copies: Path
     assert list(copies.iterdir()) == [first]
 
 
-@pytest.mark.parametrize("told, status, is_good", [
-    ('{"error":"no_such_host","number":19}', 1, True),
-    ("result,app\n", 0, True),
-    ("", 1, False),
-    ("{}", 0, False),
-])
+@pytest.mark.parametrize(
+    "told, status, is_good",
+    [
+        ('{"error":"no_such_host","number":19}', 1, True),
+        ("result,app\n", 0, True),
+        ("", 1, False),
+        ("{}", 0, False),
+    ],
+)
 def test_the_program_opens_the_copy(
-    project: Path, copies: Path, tmp_path: Path, told: str, status: int, is_good: bool,
+    project: Path,
+    copies: Path,
+    tmp_path: Path,
+    told: str,
+    status: int,
+    is_good: bool,
 ) -> None:
     program = tmp_path / "program"
     words = 'test "$1 $2 $4 $5" = "statement --tables --host 1" || exit 3'
@@ -480,15 +525,21 @@ def test_a_full_disk(project: Path, twin: Twin, small_disk: Path) -> None:
     assert goes_on(twin) and list(small_disk.iterdir()) == []
 
 
-@pytest.mark.parametrize("cut, told", [
-    (lambda whole: whole[:-4096], "it is spoiled or cut off (database disk image is malformed)"),
-    (lambda whole: whole[:-100], "SQLite finds: "),
-    (lambda whole: whole[:50], "it is spoiled or cut off (database disk image is malformed)"),
-    (lambda _whole: b"text\n" * 500, "it is spoiled or cut off (file is not a database)"),
-    (lambda _whole: b"", "it has no tables: a log (-wal) that has them is missing"),
-])
+@pytest.mark.parametrize(
+    "cut, told",
+    [
+        (lambda whole: whole[:-4096], "it is spoiled or cut off (database disk image is malformed)"),
+        (lambda whole: whole[:-100], "SQLite finds: "),
+        (lambda whole: whole[:50], "it is spoiled or cut off (database disk image is malformed)"),
+        (lambda _whole: b"text\n" * 500, "it is spoiled or cut off (file is not a database)"),
+        (lambda _whole: b"", "it has no tables: a log (-wal) that has them is missing"),
+    ],
+)
 def test_tables_that_are_not_whole(
-    project: Path, copies: Path, cut: Callable[[bytes], bytes], told: str,
+    project: Path,
+    copies: Path,
+    cut: Callable[[bytes], bytes],
+    told: str,
 ) -> None:
     project.write_bytes(cut(project.read_bytes()))
     status, _, fault = tools("copy", "--tables", project, "--to", copies)

@@ -14,7 +14,10 @@ from small_project import Twin, made_anew, make_tables, rows_of, tools
 from bsched_tools import copying, counts
 
 STATUSES = {
-    "open": "open", "done": "done", "errors": "failed by errors", "success": "failed by successes",
+    "open": "open",
+    "done": "done",
+    "errors": "failed by errors",
+    "success": "failed by successes",
     "total": "failed by the total",
 }
 LATELY = ("hosts with a job of the last day", "users with a job of the last day")
@@ -46,15 +49,19 @@ def test_counts_are_those_of_the_plain_scheduler(tmp_path_factory: pytest.TempPa
     }
     lately = {one.host for one in every if one.host is not None and one.sent >= lived.now - 86400}
     assert told.people == {
-        "hosts": len(machine.hosts), "users": len(machine.rows["accounts"]),
+        "hosts": len(machine.hosts),
+        "users": len(machine.rows["accounts"]),
         "hosts with a job of the last day": len(lately),
         "users with a job of the last day": len({host.account for host in lately}),
     }
     assert told.millicredits == sum(host.credit for host in machine.hosts.values())
     limits = {name: (limit.used, limit.most) for name, limit in told.limits.items()}
     assert limits == {
-        "accounts": (len(machine.rows["accounts"]), 10_000), "apps": (3, 100), "versions": (8, 1_000),
-        "workunits": (len(units), 200_000), "hosts": (len(machine.hosts), 100),
+        "accounts": (len(machine.rows["accounts"]), 10_000),
+        "apps": (3, 100),
+        "versions": (8, 1_000),
+        "workunits": (len(units), 200_000),
+        "hosts": (len(machine.hosts), 100),
     }
 
 
@@ -83,13 +90,16 @@ def spoiled(path: Path, project: Path) -> None:
 
 @pytest.mark.parametrize("make", [of_an_older_schema, spoiled])
 def test_who_called_is_unknown_if_the_older_copy_is_no_help(
-    project: Path, copies: Path, tmp_path: Path, make: Callable[[Path, Path], None],
+    project: Path,
+    copies: Path,
+    tmp_path: Path,
+    make: Callable[[Path, Path], None],
 ) -> None:
     make(copies / "project-20200101T000000.000Z.db", project)
     copying.copy_tables(project, copies)
     status, told, fault = tools("counts", "--tables", copies)
     assert (status, fault) == (0, "")
-    unknown, = [line for line in told.splitlines() if "called in the last day" in line]
+    (unknown,) = [line for line in told.splitlines() if "called in the last day" in line]
     assert re.search(r" unknown: \S*20200101\S* is of another schema, or can't be read$", unknown)
     status, told, _ = tools("counts", "--tables", copies, "--json")
     assert status == 0 and set(json.loads(told)["people"]) == {"hosts", "users", *LATELY}
@@ -104,7 +114,7 @@ def test_who_called_is_unknown_if_the_older_copy_is_no_help(
 def test_who_called_is_unknown_without_an_older_copy(project: Path, copies: Path) -> None:
     copying.copy_tables(project, copies)
     told = tools("counts", "--tables", copies)[1]
-    unknown, = [line for line in told.splitlines() if "called in the last day" in line]
+    (unknown,) = [line for line in told.splitlines() if "called in the last day" in line]
     assert re.search(r" unknown: no copy in the folder of \S*/project-\S* is a day older$", unknown)
 
 

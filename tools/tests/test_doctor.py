@@ -20,8 +20,10 @@ STORED_TESTS = TOOLS.parent / "crates" / "bsched" / "src" / "tests" / "stored.rt
 # the tables of which the doctor may name a row if a row of this table was changed or deleted: another table
 # refers to the row, or a count there is off
 NAMED = {
-    "instance": ["instance", "unit", "host"], "version": ["version", "version_class"],
-    "version_class": ["version_class", "version"], "unit": ["unit", "instance", "unit_mark"],
+    "instance": ["instance", "unit", "host"],
+    "version": ["version", "version_class"],
+    "version_class": ["version_class", "version"],
+    "unit": ["unit", "instance", "unit_mark"],
     "unit_mark": ["unit_mark", "unit"],
 }
 
@@ -39,8 +41,7 @@ def told_of(path: Path) -> list[str]:
 
 
 def short_life(path: Path) -> Path:
-    """Makes tables with three users and two workunits. Host 1 has done one workunit, and the other one waits.
-    """
+    """Makes tables with three users and two workunits. Host 1 has done one workunit, and the other one waits."""
     plain_tables.create(path, {**SETTINGS, "daily_result_quota": 4})
     tables = plain_tables.Tables(path, synchronous="OFF")
     service = plain_tables.Service(tables)
@@ -122,26 +123,26 @@ def test_other_schemas(tmp_path: Path, statement: str) -> None:
     path = short_life(tmp_path / "project.db")
     with closing(sqlite3.connect(path, isolation_level=None)) as connection:
         connection.execute(statement)
-    told, = told_of(path)
+    (told,) = told_of(path)
     assert "its tables are" in told
 
 
 def test_who_has_the_tables(project: Path, twin: Twin) -> None:
-    told, = told_of(project)
+    (told,) = told_of(project)
     assert told.startswith(f"process {twin.process.pid} (python3")
     assert "has it, so no other program can open it" in told
 
 
 def test_files(tmp_path: Path) -> None:
     path = make_tables(tmp_path / "project.db")
-    told, = told_of(tmp_path / "none.db")
+    (told,) = told_of(tmp_path / "none.db")
     assert told == "no such file: make it with `bsched create`, or look at the name"
     assert told_of(tmp_path) == ["it is not a regular file"]
     os.link(path, tmp_path / "second")
     assert told_of(path) == ["it has 2 names (hard links), and bsched accepts a file with one"]
     os.remove(tmp_path / "second")
     (tmp_path / "project.db-journal").write_bytes(b"\xd9")
-    told, = told_of(path)
+    (told,) = told_of(path)
     assert "was left by SQLite" in told
     os.remove(tmp_path / "project.db-journal")
     os.symlink("elsewhere", tmp_path / "project.db-wal")
@@ -149,7 +150,7 @@ def test_files(tmp_path: Path) -> None:
     os.remove(tmp_path / "project.db-wal")
     assert told_of(path) == []
     path.write_bytes(path.read_bytes()[:-4096])
-    told, = told_of(path)
+    (told,) = told_of(path)
     assert told.startswith("it is cut off")
 
 
@@ -164,23 +165,39 @@ resend_lost_results = true
 """
 
 
-@pytest.mark.parametrize("change, wanted", [
-    (lambda text: text, []),
-    (lambda text: text.replace("max_hosts = 3\n", ""), ["max_hosts is missing"]),
-    (lambda text: text + "further = 1\n", ["line 8: further is not a setting: remove it"]),
-    (lambda text: text.replace("= 60", "= 2592001"),
-     ["line 6: request_delay is 2592001: it must be a whole number from 0 to 2592000"]),
-    (lambda text: text.replace("= 60", "= 60.0"),
-     ["line 6: request_delay is 60.0: it must be a whole number from 0 to 2592000"]),
-    (lambda text: text.replace("= 60", "= true"),
-     ["line 6: request_delay is True: it must be a whole number from 0 to 2592000"]),
-    (lambda text: text.replace("true", "1"), ["line 7: resend_lost_results is 1: it must be true or false"]),
-    (lambda text: text.replace("change-this-key", "short"),
-     ["line 5: operator_key is another text: "
-      "it must be a text of 8 to 64 letters, digits, '_', '-' and '.'"]),
-    (lambda text: text + "[table]\n", ["table is not a setting: remove it"]),
-    (lambda text: "=" + text, ["it is not TOML: Invalid statement (at line 1, column 1)"]),
-])
+@pytest.mark.parametrize(
+    "change, wanted",
+    [
+        (lambda text: text, []),
+        (lambda text: text.replace("max_hosts = 3\n", ""), ["max_hosts is missing"]),
+        (lambda text: text + "further = 1\n", ["line 8: further is not a setting: remove it"]),
+        (
+            lambda text: text.replace("= 60", "= 2592001"),
+            ["line 6: request_delay is 2592001: it must be a whole number from 0 to 2592000"],
+        ),
+        (
+            lambda text: text.replace("= 60", "= 60.0"),
+            ["line 6: request_delay is 60.0: it must be a whole number from 0 to 2592000"],
+        ),
+        (
+            lambda text: text.replace("= 60", "= true"),
+            ["line 6: request_delay is True: it must be a whole number from 0 to 2592000"],
+        ),
+        (
+            lambda text: text.replace("true", "1"),
+            ["line 7: resend_lost_results is 1: it must be true or false"],
+        ),
+        (
+            lambda text: text.replace("change-this-key", "short"),
+            [
+                "line 5: operator_key is another text: "
+                "it must be a text of 8 to 64 letters, digits, '_', '-' and '.'"
+            ],
+        ),
+        (lambda text: text + "[table]\n", ["table is not a setting: remove it"]),
+        (lambda text: "=" + text, ["it is not TOML: Invalid statement (at line 1, column 1)"]),
+    ],
+)
 def test_settings(tmp_path: Path, change: Callable[[str], str], wanted: list[str]) -> None:
     path = tmp_path / "settings.toml"
     path.write_text(change(GOOD))
@@ -221,7 +238,7 @@ def test_a_young_file_without_its_log(tmp_path: Path) -> None:
         connection.execute("PRAGMA wal_autocheckpoint = 0").fetchall()
         connection.execute("CREATE TABLE setting (name TEXT, value)")
         (tmp_path / "alone.db").write_bytes(path.read_bytes())
-    told, = told_of(tmp_path / "alone.db")
+    (told,) = told_of(tmp_path / "alone.db")
     assert told.startswith("it has no tables, and its log alone.db-wal is not next to it")
     status, said, _ = tools("doctor", "--tables", tmp_path / "alone.db")
     assert status == 1 and "put both here together" in said

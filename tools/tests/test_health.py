@@ -84,7 +84,8 @@ def test_all_is_good(made: MadeProject) -> None:
         told = found(made)
     free = told.pop("disk")  # that of this machine
     assert {one.check: one.level for one in told.values()} == dict.fromkeys(
-        ("scheduler", "bridge", "url", "tick", "copy", "limits"), Level.GOOD)
+        ("scheduler", "bridge", "url", "tick", "copy", "limits"), Level.GOOD
+    )
     assert "GB" in free.text
 
 
@@ -137,12 +138,18 @@ def test_certificates(made: MadeProject, tmp_path: Path, monkeypatch: pytest.Mon
             monkeypatch.delenv("SSL_CERT_FILE")
 
 
-@pytest.mark.parametrize("states, level, text", [
-    ({"ActiveState": "inactive", "Result": "success"}, Level.CRITICAL,
-     "systemctl enable --now bsched-tick@sums.timer"),
-    ({"ActiveState": "active", "Result": "exit-code"}, Level.WARNING, "journalctl -u bsched-tick@sums"),
-    ({"ActiveState": None, "Result": None}, Level.UNKNOWN, "ask as root"),
-])
+@pytest.mark.parametrize(
+    "states, level, text",
+    [
+        (
+            {"ActiveState": "inactive", "Result": "success"},
+            Level.CRITICAL,
+            "systemctl enable --now bsched-tick@sums.timer",
+        ),
+        ({"ActiveState": "active", "Result": "exit-code"}, Level.WARNING, "journalctl -u bsched-tick@sums"),
+        ({"ActiveState": None, "Result": None}, Level.UNKNOWN, "ask as root"),
+    ],
+)
 def test_ticks(
     made: MadeProject, monkeypatch: pytest.MonkeyPatch, states: dict[str, str], level: Level, text: str
 ) -> None:
@@ -166,7 +173,7 @@ def test_ticks_if_systemd_does_not_answer(
 
 @pytest.mark.parametrize("hours, level", [(2, Level.GOOD), (4, Level.WARNING), (25, Level.CRITICAL)])
 def test_old_copies(made: MadeProject, hours: int, level: Level) -> None:
-    copy, = (made.folder / "copies").iterdir()
+    (copy,) = (made.folder / "copies").iterdir()
     moment = time.strftime("%Y%m%dT%H%M%S.000Z", time.gmtime(time.time() - 3600 * hours))
     copy.rename(copy.with_name(f"project-{moment}.db"))
     assert found(made)["copy"].level is level
@@ -176,6 +183,7 @@ def test_old_copies(made: MadeProject, hours: int, level: Level) -> None:
 
 def test_a_table_that_is_nearly_full(made: MadeProject, monkeypatch: pytest.MonkeyPatch) -> None:
     from bsched_tools import counts
+
     monkeypatch.setitem(counts.MOST, "unit", 22)
     told = found(made)["limits"]
     assert told.level is Level.WARNING and told.text.startswith("20 of 22 workunits are used")
@@ -217,6 +225,7 @@ def test_mail_of_changes(made: MadeProject, tmp_path: Path, monkeypatch: pytest.
     os.remove(tmp_path / "broken")
     assert mailed(bad) and not mailed(bad)
     assert sent.read_text() == (
-        "To: op@sums.example\nSubject: [bsched] sums: critical\n\ncritical  scheduler    gives no answer\n")
+        "To: op@sums.example\nSubject: [bsched] sums: critical\n\ncritical  scheduler    gives no answer\n"
+    )
     assert mailed(good) and not mailed(good)
     assert sent.read_text().count("Subject: ") == 2

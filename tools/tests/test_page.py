@@ -61,7 +61,7 @@ class Read(HTMLParser):
 
     def rows(self, header: Iterable[str]) -> list[list[str]]:
         """Returns the rows of the table whose header begins with these cells."""
-        found, = [table[1:] for table in self.tables if table[0][:len(header)] == list(header)]
+        (found,) = [table[1:] for table in self.tables if table[0][: len(header)] == list(header)]
         return found
 
 
@@ -92,7 +92,7 @@ def lived_in_parts(tmp_path: Path, folder: Path, parts: int = 4) -> tuple[Projec
     lived = life_of(21, calls=600)
     stored, size = Stored(tmp_path / "project.db"), len(lived.lines) // parts + 1
     for part in range(parts):
-        stored.answer(lived.lines[part * size:][:size])
+        stored.answer(lived.lines[part * size :][:size])
         moment = lived.now - (parts - part - 1) * 40_000
         copy = stored.copy(tmp_path / f"{part}.db")
         read = reported(copy, folder, moment)
@@ -178,7 +178,10 @@ def test_turnaround_is_at_most_what_it_is_said(tmp_path: Path, folder: Path) -> 
 
 @pytest.mark.parametrize("writes", [0, 1])
 def test_a_stop_in_a_report_makes_no_result_count_twice(
-    tmp_path: Path, folder: Path, monkeypatch: pytest.MonkeyPatch, writes: int,
+    tmp_path: Path,
+    folder: Path,
+    monkeypatch: pytest.MonkeyPatch,
+    writes: int,
 ) -> None:
     path = make_tables(tmp_path / "project.db", units=4)
     called(path, 10_000, request(1, 1, work_req_seconds=1))
@@ -192,6 +195,7 @@ def test_a_stop_in_a_report_makes_no_result_count_twice(
                 raise Fault("a stop")
             left.pop()
             write(*words)
+
         return written
 
     for name in ("append_line", "replace_file"):

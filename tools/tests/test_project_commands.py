@@ -69,10 +69,13 @@ def test_an_import_by_the_program(
     assert len(told) == 1 and count_of(project, "unit") == 21
 
 
-@pytest.mark.parametrize("names, app, wanted", [
-    (["x", "w3"], "dock", "line 3: w3 exists already: choose another name"),
-    (["x", "y"], "none", "line 2: there is no application none: import it first"),
-])
+@pytest.mark.parametrize(
+    "names, app, wanted",
+    [
+        (["x", "w3"], "dock", "line 3: w3 exists already: choose another name"),
+        (["x", "y"], "none", "line 2: there is no application none: import it first"),
+    ],
+)
 def test_what_bsched_refuses(
     project: MadeProject, tmp_path: Path, names: list[str], app: str, wanted: str
 ) -> None:
@@ -220,9 +223,17 @@ def test_page_and_statistics_of_a_project(project: MadeProject, tmp_path: Path) 
     assert (status, told) == (0, f"{tmp_path}/stats: 4 users, 0 of them named, and 0 computers\n")
     assert [path.name for path in (tmp_path / "report").iterdir()] == ["index.html"]
     assert sorted(path.name for path in (tmp_path / "stats").iterdir()) == [
-        "host.gz", "tables.xml", "team.gz", "user.gz"]
+        "host.gz",
+        "tables.xml",
+        "team.gz",
+        "user.gz",
+    ]
     assert sorted(path.name for path in (project.folder / "units").iterdir()) == [
-        "averages.json", "counts.json", "held.json", "history.jsonl"]
+        "averages.json",
+        "counts.json",
+        "held.json",
+        "history.jsonl",
+    ]
     assert (project.folder / "units").stat().st_mode & 0o777 == 0o700
     assert "<h1>sums: status</h1>" in (tmp_path / "report" / "index.html").read_text()
 
@@ -277,16 +288,19 @@ def test_counts_into_a_file(project: MadeProject, tmp_path: Path) -> None:
 # ---- A project's folder
 
 
-@pytest.mark.parametrize("text, fault", [
-    ("[copies]\n", "copies is not known: the tables are copy, results, page, statistics, health"),
-    ("[copy]\nkeeps = 3\n", "[copy] keeps is not known: is keep meant?"),
-    ('[copy]\nkeep = "3"\n', "[copy] keep is '3', and must be a whole number"),
-    ("[copy]\nkeep = 0\n", "[copy] keep is 0, and must be from 1 to 100000"),
-    ("copy = 3\n", "copy is not a table [copy]"),
-    ('[results]\ncommand = "x"\n', "[results] command is 'x', and must be a list of texts"),
-    ("[results]\ncommand = [3]\n", "[results] command is not a list of texts"),
-    ("copy\n", "it is not TOML: "),
-])
+@pytest.mark.parametrize(
+    "text, fault",
+    [
+        ("[copies]\n", "copies is not known: the tables are copy, results, page, statistics, health"),
+        ("[copy]\nkeeps = 3\n", "[copy] keeps is not known: is keep meant?"),
+        ('[copy]\nkeep = "3"\n', "[copy] keep is '3', and must be a whole number"),
+        ("[copy]\nkeep = 0\n", "[copy] keep is 0, and must be from 1 to 100000"),
+        ("copy = 3\n", "copy is not a table [copy]"),
+        ('[results]\ncommand = "x"\n', "[results] command is 'x', and must be a list of texts"),
+        ("[results]\ncommand = [3]\n", "[results] command is not a list of texts"),
+        ("copy\n", "it is not TOML: "),
+    ],
+)
 def test_faults_of_the_settings_of_units(tmp_path: Path, text: str, fault: str) -> None:
     (tmp_path / "units.toml").write_text(text)
     with pytest.raises(Fault, match=re.escape(f"{tmp_path}/units.toml: {fault}")):

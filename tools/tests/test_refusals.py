@@ -11,7 +11,10 @@ import pytest
 from small_project import TOOLS, Twin, make_tables, tools
 
 COMMANDS = {
-    "results": [], "counts": [], "statistics": ["--to", "DIR"], "report": ["--to", "DIR"],
+    "results": [],
+    "counts": [],
+    "statistics": ["--to", "DIR"],
+    "report": ["--to", "DIR"],
 }
 
 
@@ -79,7 +82,10 @@ FILES = [
 @pytest.mark.parametrize("command", COMMANDS)
 @pytest.mark.parametrize("make, wanted", FILES, ids=[wanted for _, wanted in FILES])
 def test_what_is_no_copy(
-    tmp_path: Path, command: str, make: Callable[[Path, Path], object], wanted: str,
+    tmp_path: Path,
+    command: str,
+    make: Callable[[Path, Path], object],
+    wanted: str,
 ) -> None:
     good = make_tables(tmp_path / "good.db")
     path = tmp_path / "copy.db"
@@ -100,12 +106,15 @@ def test_tables_that_a_program_serves(project: Path, twin: Twin, tmp_path: Path,
     assert twin.call(1, 1)["hostid"] == 1
 
 
-@pytest.mark.parametrize("words, wanted", [
-    (["results", "--cursor", "DISK/cursor"], "cursor"),
-    (["results", "--to", "DISK/new"], "new"),
-    (["statistics", "--to", "DISK"], "user.gz"),
-    (["report", "--to", "DISK"], "held.json"),
-])
+@pytest.mark.parametrize(
+    "words, wanted",
+    [
+        (["results", "--cursor", "DISK/cursor"], "cursor"),
+        (["results", "--to", "DISK/new"], "new"),
+        (["statistics", "--to", "DISK"], "user.gz"),
+        (["report", "--to", "DISK"], "held.json"),
+    ],
+)
 def test_a_full_disk(project: Path, small_disk: Path, words: list[str], wanted: str) -> None:
     with (small_disk / "full").open("wb", buffering=0) as full, contextlib.suppress(OSError):
         while full.write(b"x" * 4096):

@@ -43,7 +43,8 @@ def lines_of(*paths: Path, **more: Any) -> list[dict[str, Any]]:
 @settings(max_examples=10, database=None)
 @given(seed=strategies.integers(0, 2**32))
 def test_results_are_those_of_the_plain_scheduler(
-    tmp_path_factory: pytest.TempPathFactory, seed: int,
+    tmp_path_factory: pytest.TempPathFactory,
+    seed: int,
 ) -> None:
     lived = life_of(seed)
     path = stored_life(lived, tmp_path_factory.mktemp("life") / "project.db")
@@ -64,19 +65,27 @@ def test_both_forms_have_the_hosts_users_and_credits_of_the_plain_scheduler(tmp_
     units = machine.rows["workunits"]
     wanted = {
         one.name(): (unit.app, unit.credit, one.host.number, one.host.account.name, one.verdict)
-        for unit in units.values() for one in unit.instances if one.verdict is not None
+        for unit in units.values()
+        for one in unit.instances
+        if one.verdict is not None
     }
     rows = [row for row in rows_of(path) if row["status"] == "done"]
     assert wanted == {
         row["result"]: (
-            row["app"], int(row["millicredits"]), int(row["host"]), row["user"], row["verdict"] == "valid"
+            row["app"],
+            int(row["millicredits"]),
+            int(row["host"]),
+            row["user"],
+            row["verdict"] == "valid",
         )
         for row in rows
     }
     assert wanted == {
         one["result"]: (line["app"], line["millicredits"], one["host"], one["user"], verdict == "valid")
-        for line in lines_of(path) if line["status"] == "done"
-        for verdict in ("valid", "invalid") for one in line[verdict]
+        for line in lines_of(path)
+        if line["status"] == "done"
+        for verdict in ("valid", "invalid")
+        for one in line[verdict]
     }
     assert {False, True} == {row["verdict"] == "valid" for row in rows}
 
@@ -84,14 +93,16 @@ def test_both_forms_have_the_hosts_users_and_credits_of_the_plain_scheduler(tmp_
 @settings(max_examples=6, database=None)
 @given(seed=strategies.integers(0, 2**32), parts=strategies.integers(2, 12))
 def test_with_a_cursor_each_result_comes_once(
-    tmp_path_factory: pytest.TempPathFactory, seed: int, parts: int,
+    tmp_path_factory: pytest.TempPathFactory,
+    seed: int,
+    parts: int,
 ) -> None:
     folder = tmp_path_factory.mktemp("cursor")
     lived = life_of(seed)
     stored, cursor, came = Stored(folder / "project.db"), folder / "cursor", []
     size = len(lived.lines) // parts + 1
     for part in range(parts):
-        stored.answer(lived.lines[part * size:][:size])
+        stored.answer(lived.lines[part * size :][:size])
         copy = stored.copy(folder / f"{part}.db")
         came += rows_of(copy, cursor=cursor)
         assert rows_of(copy, cursor=cursor) == []
@@ -112,20 +123,26 @@ def test_a_result_that_comes_late_is_marked(tmp_path: Path) -> None:
 
     def call(host: str, seqno: int, *reports: tuple[str, str]) -> None:
         said = {
-            "authenticator": host, "rpc_seqno": seqno, "platform_name": "x", "work_req_seconds": 1,
+            "authenticator": host,
+            "rpc_seqno": seqno,
+            "platform_name": "x",
+            "work_req_seconds": 1,
             "host_info": {"host_cpid": "c", "p_fpops": 1, "m_nbytes": 1, "d_free": 1},
             "results": [{"name": name, "exit_status": 0, "output": output} for name, output in reports],
         }
         answers.extend(stored.answer([f"{NOW} scheduler {json.dumps(said)}".encode()]))
 
-    answers = stored.answer(f"{NOW} {line}".encode() for line in (
-        "account k1",
-        "account k2",
-        "account k3",
-        f"import/apps/b {json.dumps('name,agreement' + NEXT + 'a,exact')}",
-        f"import/versions/b {json.dumps('app,platform,version_num' + NEXT + 'a,x,1')}",
-        f"import/workunits/b {json.dumps(WORKUNITS + NEXT + 'w,a,2,3,3,5,5,100,1,0,0,5000')}",
-    ))
+    answers = stored.answer(
+        f"{NOW} {line}".encode()
+        for line in (
+            "account k1",
+            "account k2",
+            "account k3",
+            f"import/apps/b {json.dumps('name,agreement' + NEXT + 'a,exact')}",
+            f"import/versions/b {json.dumps('app,platform,version_num' + NEXT + 'a,x,1')}",
+            f"import/workunits/b {json.dumps(WORKUNITS + NEXT + 'w,a,2,3,3,5,5,100,1,0,0,5000')}",
+        )
+    )
     for host in ("k1", "k2", "k3"):
         call(host, 1)
     call("k1", 2, ("w_0", "42"))
@@ -137,12 +154,19 @@ def test_a_result_that_comes_late_is_marked(tmp_path: Path) -> None:
     assert [(row["result"], row["verdict"], row["late"]) for row in first] == wanted
     assert rows_of(stored.copy(tmp_path / "2.db"), cursor=cursor) == []
     call("k3", 2, ("w_2", "7"))
-    line, = lines_of(stored.copy(tmp_path / "3.db"), cursor=cursor)
+    (line,) = lines_of(stored.copy(tmp_path / "3.db"), cursor=cursor)
     stored.close()
     assert {status for status, _ in answers} == {200}
     assert line == {
-        "workunit": "w", "app": "a", "late": True, "status": "done", "millicredits": 5000, "canonical": "w_0",
-        "output": "42", "valid": [], "invalid": [{"result": "w_2", "host": 3, "user": "k3"}],
+        "workunit": "w",
+        "app": "a",
+        "late": True,
+        "status": "done",
+        "millicredits": 5000,
+        "canonical": "w_0",
+        "output": "42",
+        "valid": [],
+        "invalid": [{"result": "w_2", "host": 3, "user": "k3"}],
     }
 
 
@@ -157,11 +181,22 @@ def test_the_worked_example_of_a_quorum() -> None:
     assert [workunits.agree(2, "10", one.text) for one in good] == [True, False, True]
 
 
-@pytest.mark.parametrize("agreement, one, other, wanted", [
-    (None, "1", "1", True), (None, "1", "2", False), (0, "1", "1.0", False), (1, "1", "2", True),
-    (1, "1", "3", False), (5, "-2", "3", True), (5, "01", "1", False), (5, "-0", "0", False),
-    (5, "", "", True), (5, "x", "x", True), (9, "1" + "0" * 18, "1" + "0" * 17 + "1", False),
-])
+@pytest.mark.parametrize(
+    "agreement, one, other, wanted",
+    [
+        (None, "1", "1", True),
+        (None, "1", "2", False),
+        (0, "1", "1.0", False),
+        (1, "1", "2", True),
+        (1, "1", "3", False),
+        (5, "-2", "3", True),
+        (5, "01", "1", False),
+        (5, "-0", "0", False),
+        (5, "", "", True),
+        (5, "x", "x", True),
+        (9, "1" + "0" * 18, "1" + "0" * 17 + "1", False),
+    ],
+)
 def test_outputs_that_agree(agreement: int | None, one: str, other: str, wanted: bool) -> None:
     assert workunits.agree(agreement, one, other) is wanted
 

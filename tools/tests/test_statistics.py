@@ -67,8 +67,11 @@ def test_the_files_of_a_life(tmp_path: Path, folder: Path) -> None:
             assert float(user[column]) == pytest.approx(sum(float(host[column]) for host in own), abs=1e-5)
     assert read(folder, "team.gz") == []
     assert totals(folder) == {
-        "update_time": str(lived.now), "nusers_total": str(len(users)), "nteams_total": "0",
-        "nhosts_total": str(len(hosts)), "total_credit": f"{sum(wanted.values()):.3f}",
+        "update_time": str(lived.now),
+        "nusers_total": str(len(users)),
+        "nteams_total": "0",
+        "nhosts_total": str(len(hosts)),
+        "total_credit": f"{sum(wanted.values()):.3f}",
     }
     said = (folder / "user.gz").read_bytes() + (folder / "host.gz").read_bytes()
     assert all(len(user["cpid"]) == 32 for user in users) and b"user0" not in gzip.decompress(said)
@@ -85,13 +88,17 @@ def test_averages_over_runs(tmp_path: Path, folder: Path) -> None:
         tables.connection.close()
         os.utime(path, (moment, moment))
         exports.export([path], folder, None)
-        host, = read(folder, "host.gz")
+        (host,) = read(folder, "host.gz")
         return round(float(host["expavg_credit"]), 5), int(host["create_time"]), int(host["rpc_time"])
 
     assert run(10 * DAY, 10_000, 1) == (10, 10 * DAY, 10 * DAY)
     assert run(11 * DAY, 15_000, 2) == (9.52862, 10 * DAY, 11 * DAY)
     assert run(11 * DAY, 15_000, 2) == (9.52862, 10 * DAY, 11 * DAY)
-    assert run(11 * DAY, 25_000, 2) == (9.52862, 10 * DAY, 11 * DAY)  # of the same moment, so it is left alone
+    assert run(11 * DAY, 25_000, 2) == (
+        9.52862,
+        10 * DAY,
+        11 * DAY,
+    )  # of the same moment, so it is left alone
     assert run(18 * DAY, 15_000, 2) == (4.76431, 10 * DAY, 11 * DAY)
 
 
@@ -103,7 +110,7 @@ def test_nobody_is_named_who_did_not_agree(tmp_path: Path, folder: Path) -> None
     agreed = tmp_path / "agreed"
     agreed.write_text("user1\n\nnobody\n")
     assert exports.export([path], folder, agreed_in(agreed)).agreed == 1
-    user, = read(folder, "user.gz")
+    (user,) = read(folder, "user.gz")
     assert user["name"] == "User 1"
     assert {host["userid"] for host in read(folder, "host.gz") if "userid" in host} == {user["id"]}
     with pytest.raises(Fault, match="No such file"):
@@ -150,7 +157,9 @@ def test_no_half_file(tmp_path: Path, folder: Path, monkeypatch: pytest.MonkeyPa
 
 
 def test_numbers_are_stored_before_they_are_published(
-    tmp_path: Path, folder: Path, monkeypatch: pytest.MonkeyPatch,
+    tmp_path: Path,
+    folder: Path,
+    monkeypatch: pytest.MonkeyPatch,
 ) -> None:
     path = stored_life(life_of(11), tmp_path / "project.db")
     replace_file = exports.replace_file

@@ -82,7 +82,11 @@ def test_the_files_are_named_in_both_forms(tables: Path, uploads: Path) -> None:
 
 @pytest.mark.parametrize("is_linked", [True, False])
 def test_the_files_are_put_into_a_folder_once(
-    tables: Path, uploads: Path, tmp_path: Path, monkeypatch: pytest.MonkeyPatch, is_linked: bool,
+    tables: Path,
+    uploads: Path,
+    tmp_path: Path,
+    monkeypatch: pytest.MonkeyPatch,
+    is_linked: bool,
 ) -> None:
     def refuse(*_paths: object) -> None:
         raise OSError(18, os.strerror(18))
@@ -150,9 +154,11 @@ def test_a_project_has_the_uploads_of_its_bridge(uploads: Path, tmp_path: Path) 
     assert project.uploads is None
     (project.folder / "bridge").mkdir(parents=True)
     for text, folder in (
-        ('name = "Sums"\n', None), (f'[uploads]\nfolder = "{uploads}"\n', uploads),
+        ('name = "Sums"\n', None),
+        (f'[uploads]\nfolder = "{uploads}"\n', uploads),
         ('[uploads]\nfolder = "../../uploads"\n', project.folder / "bridge" / ".." / ".." / "uploads"),
-        ('[uploads]\nfolder = "none"\n', None), ('uploads = "x"\n', None),
+        ('[uploads]\nfolder = "none"\n', None),
+        ('uploads = "x"\n', None),
     ):
         project.bridge_file.write_text(text)
         assert project.uploads == folder
