@@ -2,46 +2,53 @@
 """Serves the plain twin with Python's http.server, for `bench/serve speed`.
 
 usage: plain_server.py PROJECT PORT
-PROJECT is a folder with the CSV files of the imports. It prints the port once it listens. It knows only as much of HTTP as a
-call needs.
+PROJECT is a folder with the CSV files of the imports. It prints the port once it listens. It knows only as
+much of HTTP as a call needs.
 """
 import os
 import sys
 import time
 from http.server import BaseHTTPRequestHandler, HTTPServer
 
-sys.dont_write_bytecode = True
-sys.path.insert(0, os.path.dirname(os.path.abspath(__file__)))
 import plain
+from plain_formats import Refused
 from served import needs
+
+
+class Server(HTTPServer):
+    """A server with the service that answers for it."""
+
+    service: plain.Service
 
 
 class Handler(BaseHTTPRequestHandler):
     """Answers a POST to /scheduler."""
 
-    def do_POST(self):
+    server: Server
+
+    def do_POST(self) -> None:
         body = self.rfile.read(int(self.headers["content-length"]))
         try:
-            status, told = 200, self.server.service.scheduler(body, int(time.time()))
-        except plain.Refused as refusal:
-            status, told = refusal.status, refusal.body
-        told = told.encode()
+            status, answer = 200, self.server.service.scheduler(body, int(time.time()))
+        except Refused as refusal:
+            status, answer = refusal.status, refusal.body
+        content = answer.encode()
         self.send_response(status)
         self.send_header("content-type", "application/json")
-        self.send_header("content-length", str(len(told)))
+        self.send_header("content-length", str(len(content)))
         self.send_header("connection", "close")
         self.end_headers()
-        self.wfile.write(told)
+        self.wfile.write(content)
 
-    def log_message(self, *_words):
+    def log_message(self, *_args: object) -> None:
         """Prints nothing: there is no line for each message."""
 
 
-def main():
+def main() -> None:
     if len(sys.argv) != 3:
         needs("bench/plain_server.py", "it needs PROJECT, a folder with the CSV files of a project, and PORT")
     folder, port = sys.argv[1], int(sys.argv[2])
-    server = HTTPServer(("127.0.0.1", port), Handler)
+    server = Server(("127.0.0.1", port), Handler)
     server.service = plain.Service({**plain.SETTINGS, "max_hosts": 100})
     for kind in ("accounts", "apps", "versions", "workunits"):
         with open(os.path.join(folder, f"{kind}.csv"), newline="") as file:

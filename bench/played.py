@@ -24,7 +24,7 @@ OPENING = 900  # how many seconds an opening may take
 ANSWER = 120  # how many seconds an answer may take
 MOST_COUNT = 1_000_000  # how many connections a server takes
 DEADLINE = re.compile(rb'"report_deadline":(\d+)')
-Told = tuple[bytes, float, float]  # an answer, and the seconds before and after the call
+Answered = tuple[bytes, float, float]  # an answer, and the seconds before and after the call
 
 
 @dataclass
@@ -91,7 +91,7 @@ def message_of(body: bytes) -> bytes:
     return serve_life.HEAD % (0, len(body), body)
 
 
-def exchange(port: int, message: bytes) -> Told:
+def exchange(port: int, message: bytes) -> Answered:
     """Sends a message over a connection of its own. Returns the answer with its times."""
     start = time.time()
     with socket.create_connection(("127.0.0.1", port), timeout=ANSWER) as connection:
@@ -102,12 +102,12 @@ def exchange(port: int, message: bytes) -> Told:
     return answer, start, time.time()
 
 
-def exchange_timed(run: serve_life.Run, message: bytes) -> tuple[Told, float]:
+def exchange_timed(run: serve_life.Run, message: bytes) -> tuple[Answered, float]:
     """Sends a message, and waits until the server sleeps. Also returns the server's processor seconds."""
     before = processor_seconds(run.server)
-    told = exchange(run.port, message)
+    answer = exchange(run.port, message)
     wait_until_idle(run.server)
-    return told, processor_seconds(run.server) - before
+    return answer, processor_seconds(run.server) - before
 
 
 class Clock:
@@ -116,9 +116,9 @@ class Clock:
     def __init__(self) -> None:
         self.deadlines: dict[str, int] = {}
 
-    def without(self, told: Told) -> bytes:
+    def without(self, answered: Answered) -> bytes:
         """Returns an answer with zeros for its deadlines. If the name of a job is new, this call got it."""
-        answer, start, end = told
+        answer, start, end = answered
         for job in json.loads(answer.partition(b"\r\n\r\n")[2]).get("results", []):
             name, deadline = job["name"], job["report_deadline"]
             if name not in self.deadlines:
@@ -145,7 +145,7 @@ class Played(serve_life.Life):
         self.clocks = [Clock() for _ in runs]
         self.seconds: list[float] = []  # what each server took for the last call, if that is timed
 
-    def exchange_all(self, message: bytes) -> list[Told]:
+    def exchange_all(self, message: bytes) -> list[Answered]:
         """Sends a message to every server and returns the answers."""
         order = list(range(len(self.runs)))
         if self.count % 2:
@@ -160,7 +160,7 @@ class Played(serve_life.Life):
 
     def send(self, body: bytes) -> dict[str, Any] | None:
         """Makes one more call. Returns its reply, or None if it is refused."""
-        told = self.exchange_all(message_of(body))
-        same_answers(body, [clock.without(one) for clock, one in zip(self.clocks, told)])
-        head, _, said = told[0][0].partition(b"\r\n\r\n")
-        return json.loads(said) if head.startswith(b"HTTP/1.1 200 ") else None
+        answers = self.exchange_all(message_of(body))
+        same_answers(body, [clock.without(one) for clock, one in zip(self.clocks, answers)])
+        head, _, reply = answers[0][0].partition(b"\r\n\r\n")
+        return json.loads(reply) if head.startswith(b"HTTP/1.1 200 ") else None

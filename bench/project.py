@@ -8,6 +8,7 @@ import time
 from collections import Counter
 
 import plain
+from plain_formats import KINDS, Record
 
 SETTINGS = {"daily_result_quota": 12, "max_hosts": 100, "max_wus_in_progress": 8, "max_wus_to_send": 4}
 HOUR = 3600
@@ -38,7 +39,7 @@ LIMITS = [
 class Client:
     """A host, as its own software sees it."""
 
-    def __init__(self, number, pick):
+    def __init__(self, number: int, pick: random.Random) -> None:
         self.authenticator, self.cpid = f"user{number // 2}", f"host{number}"
         self.host_info = {
             "host_cpid": self.cpid,
@@ -50,53 +51,56 @@ class Client:
         self.faulty = 0.97 if number % 10 == 7 else 0.04  # the share of its jobs that end in a client error
         self.buffer = pick.choice([4, 8, 20, 20, 60]) * HOUR  # the seconds of work that it wants to have
         self.hostid = self.seqno = 0
-        self.jobs = {}  # when each job is finished, by name
+        self.jobs: dict[str, int] = {}  # when each job is finished, by name
         self.idle_from = START
-        self.unheard = None  # the request whose reply was lost
+        self.unheard: str | None = None  # the request whose reply was lost
 
 
 class Project:
     """The service, its clients, and the lines so far."""
 
-    def __init__(self, calls):
+    def __init__(self, calls: int) -> None:
         self.pick = random.Random(1)
-        self.now, self.calls, self.lines, self.seen = START, calls, [], Counter()
+        self.now, self.calls = START, calls
+        self.lines: list[bytes] = []
+        self.seen: Counter[str] = Counter()
         self.service = plain.Service({**plain.SETTINGS, **SETTINGS})
         hosts = max(20, min(SETTINGS["max_hosts"], calls // 200))
         self.pace = 2 * 6000 // hosts  # each host calls about every 6,000 seconds
         self.bring_rows(hosts // 2, max(150, calls // 10))
         self.clients = [Client(number, self.pick) for number in range(hosts)]
 
-    def send(self, said):
+    def send(self, message: str) -> tuple[int, str]:
         """Adds a line and returns its answer."""
         instant = time.strftime("%Y-%m-%dT%H:%M:%SZ", time.gmtime(self.now))
-        line = f"{instant} {said}".encode()
+        line = f"{instant} {message}".encode()
         self.lines.append(line + b"\n")
         return self.service.answer(line)
 
-    def bring(self, kind, header, rows):
+    def bring(self, kind: str, header: str, rows: list[str]) -> None:
         """Imports rows."""
-        said = json.dumps("\n".join([header, *rows, ""]))
-        assert self.send(f"import/{kind}/b1 {said}")[0] == 200
+        text = json.dumps("\n".join([header, *rows, ""]))
+        assert self.send(f"import/{kind}/b1 {text}")[0] == 200
 
-    def bring_rows(self, users, units):
+    def bring_rows(self, users: int, units: int) -> None:
         """Imports all rows of the project, in four imports."""
         self.bring(
             "accounts", "authenticator,name", [f"user{number},User {number}" for number in range(users)]
         )
         self.bring("apps", "name,agreement", ["dock,exact", "fold,within:2", "wave,exact"])
-        self.bring("versions", ",".join(plain.KINDS["versions"][0]), VERSIONS)
+        self.bring("versions", ",".join(KINDS["versions"][0]), VERSIONS)
         rows = []
         for number in range(units):
             days, hours = self.pick.choice([1, 2, 3]), self.pick.choice([3, 4, 5, 6])
             memory, disk = self.pick.choice([1, 1, 1, 3, 6]), self.pick.choice([1, 1, 10])
             rows.append(
-                f"unit-{number:05},{self.pick.choice(LIMITS)},{days * 24 * HOUR},{hours * HOUR * 10**9 + number},"
-                f"{memory}000000000,{disk}000000000,{self.pick.randrange(1000, 9000)}"
+                f"unit-{number:05},{self.pick.choice(LIMITS)},{days * 24 * HOUR},"
+                f"{hours * HOUR * 10**9 + number},{memory}000000000,{disk}000000000,"
+                f"{self.pick.randrange(1000, 9000)}"
             )
-        self.bring("workunits", ",".join(plain.KINDS["workunits"][0]), rows)
+        self.bring("workunits", ",".join(KINDS["workunits"][0]), rows)
 
-    def output(self, name):
+    def output(self, name: str) -> str:
         """Returns a job's output. Mostly it agrees with others of its workunit; for some workunits it never
         does."""
         number = int(name.split("_")[0].removeprefix("unit-"))
@@ -107,21 +111,22 @@ class Project:
             return str(right + self.pick.randrange(3, 9))
         return str(right + (self.pick.randrange(3) if self.is_fold(name) else 0))
 
-    def is_fold(self, name):
+    def is_fold(self, name: str) -> bool:
         """Returns whether the job's application compares outputs by nearness."""
-        return self.service.machine.rows["workunits"][name.split("_")[0]].app == "fold"
+        unit: plain.Unit = self.service.machine.rows["workunits"][name.split("_")[0]]
+        return unit.app == "fold"
 
-    def report(self, client, name):
+    def report(self, client: Client, name: str) -> Record:
         """Returns what the client reports of a finished job."""
         if self.pick.random() < client.faulty:
             return {"name": name, "exit_status": self.pick.choice([1, -9, 195])}
         return {"name": name, "exit_status": 0, "output": self.output(name)}
 
-    def request(self, client):
+    def request(self, client: Client) -> str:
         """Returns the client's next request: what it finished, what it has, and what it wants."""
         client.seqno += 1
         finished = [name for name, until in client.jobs.items() if until <= self.now]
-        said = {
+        fields = {
             "authenticator": client.authenticator,
             "hostid": client.hostid if self.pick.random() < 0.5 else 0,
             "rpc_seqno": client.seqno,
@@ -132,10 +137,10 @@ class Project:
             "results": [self.report(client, name) for name in finished],
         }
         if self.pick.random() < 0.9:
-            said["other_results"] = [name for name in client.jobs if name not in finished]
-        return json.dumps(said, separators=(",", ":"))
+            fields["other_results"] = [name for name in client.jobs if name not in finished]
+        return json.dumps(fields, separators=(",", ":"))
 
-    def take(self, client, reply):
+    def take(self, client: Client, reply: Record) -> None:
         """Takes a reply as the client does: it forgets jobs and begins new ones."""
         client.hostid, client.unheard = reply["hostid"], None
         for name in reply["result_ack"] + reply["result_abort"]:
@@ -147,11 +152,12 @@ class Project:
             until = job["report_deadline"] + self.pick.randrange(40 * HOUR) if late else client.idle_from
             client.jobs[job["name"]] = until
 
-    def call(self, client):
+    def call(self, client: Client) -> None:
         """Makes a call of the client: a new one, or, if a reply was lost, perhaps the same again."""
-        again = client.unheard is not None and self.pick.random() < 0.5
-        said = client.unheard if again else self.request(client)
-        status, body = self.send(f"scheduler {said}")
+        unheard = client.unheard
+        again = unheard is not None and self.pick.random() < 0.5
+        request = unheard if unheard is not None and again else self.request(client)
+        status, body = self.send(f"scheduler {request}")
         assert status == 200, body
         reply = json.loads(body)
         self.seen["repeats" if again else "fresh calls"] += 1
@@ -161,24 +167,24 @@ class Project:
             self.seen["names to forget"] += len(reply["result_abort"])
             self.seen["end word " + reply["end_word"]] += 1
         if self.pick.random() < 0.05:
-            client.unheard = said
+            client.unheard = request
             self.seen["replies lost"] += 1
             self.seen["replies lost that had jobs"] += reply["results"] != []
         else:
             self.take(client, reply)
 
-    def refused_call(self, client):
+    def refused_call(self, client: Client) -> None:
         """Makes a call with a number older than the kept ones, or with the last number and another text."""
         older = client.seqno > 4 and self.pick.random() < 0.5
-        said = {
+        fields = {
             **json.loads(self.request(client)),
             "rpc_seqno": client.seqno - 5 if older else client.seqno - 1,
         }
         client.seqno -= 1
-        status, body = self.send(f"scheduler {json.dumps({**said, 'work_req_seconds': 999_999_999})}")
+        status, body = self.send(f"scheduler {json.dumps({**fields, 'work_req_seconds': 999_999_999})}")
         self.seen[f"refused as {json.loads(body)['error']}"] += 1
 
-    def live(self):
+    def live(self) -> None:
         """Makes all the calls, and now and then a tick."""
         for _ in range(self.calls):
             self.now += self.pick.randrange(1, self.pace)
@@ -194,7 +200,7 @@ class Project:
                 self.seen["ticks"] += 1
                 self.seen["lapsed at ticks"] += json.loads(self.send("tick")[1])["lapsed"]
 
-    def mix(self):
+    def mix(self) -> dict[str, int]:
         """Returns how often each kind of thing happened."""
         machine, mix = self.service.machine, Counter(self.seen)
         for unit in machine.places:
@@ -218,7 +224,7 @@ class Project:
         return dict(sorted(mix.items()))
 
 
-def lines(calls):
+def lines(calls: int) -> tuple[bytes, dict[str, int]]:
     """Returns the lines of a project with so many calls, and their mix."""
     project = Project(calls)
     project.live()

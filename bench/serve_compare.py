@@ -25,7 +25,7 @@ MOST_LOG = 16 * 2**20  # the log of `row` stays below this, in bytes
 MOST_GROWTH = 16 * 1024  # the peak memory of its calls grows by less after the first tenth, in kilobytes
 
 
-def ratio_told(one: float, other: float) -> str:
+def ratio_text(one: float, other: float) -> str:
     """Returns the text that says how many times as much one is as the other."""
     return f"{one / other:.2f} times" if other else "no ratio"
 
@@ -69,10 +69,10 @@ class Pair:
         for number in order:
             server = self.runs[number].server
             before = processor_seconds(server)
-            told = [exchange(self.runs[number].port, message_of(body)) for body in bodies]
+            answered = [exchange(self.runs[number].port, message_of(body)) for body in bodies]
             wait_until_idle(server)
             took[number] = processor_seconds(server) - before
-            answers[number] = [self.clocks[number].without(one) for one in told]
+            answers[number] = [self.clocks[number].without(one) for one in answered]
         for body, *each in zip(bodies, *(answers[number] for number in range(len(self.runs)))):
             same_answers(body, each)
         self.seconds.append([took[number] for number in range(len(self.runs))])
@@ -86,15 +86,15 @@ class Pair:
     def tell(self) -> None:
         """Prints what a call took."""
         ours, *theirs = (sum(each) / self.calls * 1e6 for each in zip(*self.seconds))
-        told = f"compare: {self.units} workunits: a call takes {ours:.0f} microseconds of the processor"
+        line = f"compare: {self.units} workunits: a call takes {ours:.0f} microseconds of the processor"
         if theirs:
             ratios = [one / other for one, other in self.seconds]
-            told += (
-                f", by the reference {theirs[0]:.0f}: {ratio_told(ours, theirs[0])}; in the turns "
+            line += (
+                f", by the reference {theirs[0]:.0f}: {ratio_text(ours, theirs[0])}; in the turns "
                 f"{min(ratios):.2f} to {max(ratios):.2f} times, median {statistics.median(ratios):.2f}; "
                 f"{self.calls} answers are equal"
             )
-        print(told, flush=True)
+        print(line, flush=True)
 
 
 def opening_of(run: serve_life.Run) -> tuple[float, float]:
@@ -116,13 +116,13 @@ def openings_in_reverse(programs: list[str], units: int, folder: str) -> list[tu
 def tell_opening(units: int, openings: list[tuple[float, float]]) -> None:
     """Prints what an opening took: processor seconds, and peak memory in kilobytes."""
     (seconds, kilobytes), *theirs = openings
-    told = f"compare: {units} workunits: an opening takes {seconds:.2f} processor seconds"
+    line = f"compare: {units} workunits: an opening takes {seconds:.2f} processor seconds"
     for other, _ in theirs:
-        told += f", by the reference {other:.2f}: {ratio_told(seconds, other)}"
-    told += f"; its peak memory is {kilobytes / 1024:.1f} MB"
+        line += f", by the reference {other:.2f}: {ratio_text(seconds, other)}"
+    line += f"; its peak memory is {kilobytes / 1024:.1f} MB"
     for _, other in theirs:
-        told += f", of the reference {other / 1024:.1f}: {ratio_told(kilobytes, other)}"
-    print(told, flush=True)
+        line += f", of the reference {other / 1024:.1f}: {ratio_text(kilobytes, other)}"
+    print(line, flush=True)
 
 
 def compare(options: Options, folder: str) -> None:
@@ -203,7 +203,7 @@ def row(options: Options, folder: str) -> None:
     print(
         f"row: {calls} calls at {units} workunits, {seen['jobs given']} jobs, {seen['reports']} reports; "
         f"a call takes {first / each * 1e6:.0f} microseconds of the processor in the first {each} calls and "
-        f"{last / each * 1e6:.0f} in the last: {ratio_told(last, first)}"
+        f"{last / each * 1e6:.0f} in the last: {ratio_text(last, first)}"
     )
     print(
         f"row: the log reaches {early_log / 1e6:.1f} MB in the first {each} calls, {log / 1e6:.1f} in all; "

@@ -28,7 +28,7 @@ import plain
 import plain_tables
 import project
 from plain_formats import Refused, record_of, text
-from served import free_port, memory_told, ordered, peak, processor_seconds, started, wants
+from served import free_port, memory_of, ordered, peak, processor_seconds, started, wants
 
 TWIN = os.path.join(os.path.dirname(os.path.abspath(__file__)), "plain_tables.py")
 KEY = "change-this-key"
@@ -67,14 +67,14 @@ def user_of(host):
 
 def request(user, cpid, seqno, **more):
     """Returns the body of a call."""
-    said = {
+    fields = {
         "authenticator": f"user{user}",
         "rpc_seqno": seqno,
         "host_info": {"host_cpid": cpid, "p_fpops": FPOPS, "m_nbytes": 8 * 10**9, "d_free": 9 * 10**10},
         "platform_name": "x86_64-pc-linux-gnu",
         **more,
     }
-    return json.dumps(said, separators=(",", ":")).encode()
+    return json.dumps(fields, separators=(",", ":")).encode()
 
 
 def import_rows(service, kind, rows):
@@ -92,7 +92,7 @@ def import_users(service, hosts):
 def host_rows(host):
     """Returns the rows that the first call of a host leaves. It asked for nothing."""
     user, cpid = user_of(host), f"host{host}"
-    said = text(record_of(request(user, cpid, 1)))
+    body = text(record_of(request(user, cpid, 1)))
     reply = {
         "end_word": "enough",
         "host_total_credit": 0,
@@ -117,7 +117,7 @@ def host_rows(host):
         0,
         0,
     )
-    return [("host", row), ("kept4", (host, 0, 1, said, text(reply)))]
+    return [("host", row), ("kept4", (host, 0, 1, body, text(reply)))]
 
 
 def settings_file():
@@ -333,13 +333,13 @@ class Run:
 
     def __init__(self, server, port, begin):
         self.server, self.port, self.open_seconds = server, port, time.perf_counter() - begin
-        self.open_stays, self.open_peak, self.end_peak = memory_told(server, "VmRSS"), peak(server), None
-        self.told, self.seconds, self.server_seconds, self.client_seconds = [], 0, 0, 0
+        self.open_stays, self.open_peak, self.end_peak = memory_of(server, "VmRSS"), peak(server), None
+        self.answers, self.seconds, self.server_seconds, self.client_seconds = [], 0, 0, 0
         atexit.register(self.end)  # also if the run ends early
 
     def send(self, messages):
         """Sends messages, each over a connection of its own, one after the other."""
-        address, told = ("127.0.0.1", self.port), self.told
+        address, answers = ("127.0.0.1", self.port), self.answers
         before, own, begin = processor_seconds(self.server), time.process_time(), time.perf_counter()
         for message in messages:
             start = time.time()
@@ -349,7 +349,7 @@ class Run:
                 answer = connection.recv(65536)
                 while some := connection.recv(65536):
                     answer += some
-            told.append((answer, start, time.time()))
+            answers.append((answer, start, time.time()))
         self.seconds += time.perf_counter() - begin
         self.client_seconds += time.process_time() - own
         self.server_seconds += processor_seconds(self.server) - before
@@ -389,12 +389,12 @@ def messages_of(bodies, moments):
     return [HEAD % (moment, len(body), body) for body, moment in zip(bodies, moments)]
 
 
-def moments_in(bodies, told, seen):
+def moments_in(bodies, answers, seen):
     """Returns the second at which the program acted on each call: the one in which a new job was sent, else
     the one in which the call was made. A call that was seen before is a repeat, which gets an earlier
     reply."""
     moments = []
-    for body, (answer, start, end) in zip(bodies, told):
+    for body, (answer, start, end) in zip(bodies, answers):
         jobs = json.loads(answer.partition(b"\r\n\r\n")[2]).get("results", [])
         sent = {job["report_deadline"] - DELAY for job in jobs if not job["resent"]}
         if body in seen or not sent:
@@ -481,10 +481,12 @@ class Race:
         """Makes so many more calls, to one server after the other."""
         bodies, ran, (ours, *others) = self.bodies[self.at :][:count], self.ran[self.at :][:count], self.runs
         ours.send(messages_of(bodies, [0] * count))
-        messages = messages_of(bodies, moments_in(bodies, ours.told[self.at :], self.seen))
+        messages = messages_of(bodies, moments_in(bodies, ours.answers[self.at :], self.seen))
         for run in others:
             run.send(messages)
-            for body, (one, _, _), (other, _, _) in zip(bodies, ours.told[self.at :], run.told[self.at :]):
+            for body, (one, _, _), (other, _, _) in zip(
+                bodies, ours.answers[self.at :], run.answers[self.at :]
+            ):
                 if one != other:
                     raise SystemExit(
                         f"an answer differs\nthe call: {body!r}\nthe program: {one!r}\nthe twin: {other!r}"
@@ -512,11 +514,11 @@ class Race:
 
 def rates_of(runs):
     """Returns the calls per second of some runs: by the clock, and by the server's processor time."""
-    count = sum(len(run.told) for run in runs)
+    count = sum(len(run.answers) for run in runs)
     return count / sum(run.seconds for run in runs), count / sum(run.server_seconds for run in runs)
 
 
-def ratio_told(ours, theirs):
+def ratio_text(ours, theirs):
     """Returns the text that says how the first rates of calls compare with the others."""
     return (
         f"{ours[0] / theirs[0]:.2f} times as many calls a second ({ours[0]:.0f} and {theirs[0]:.0f}), "
@@ -524,7 +526,7 @@ def ratio_told(ours, theirs):
     )
 
 
-def memory_told_of(run):
+def memory_text(run):
     """Returns the text that says a run's memory."""
     return (
         f"peak memory {run.open_peak / 1024:.0f} MB then, of which {run.open_stays / 1024:.0f} MB stay, and "
@@ -541,10 +543,10 @@ def rows_read(path):
     return time.perf_counter() - begin
 
 
-def told_life(units, lived, race, runs, rates):
+def print_life(units, lived, race, runs, rates):
     """Prints what the calls took over tables of one size."""
     ours, theirs, once = zip(*runs)
-    calls = sum(len(run.told) for run in ours)
+    calls = sum(len(run.answers) for run in ours)
     rates[units], client, bare = (
         rates_of(ours),
         sum(run.client_seconds for run in ours) / calls,
@@ -558,10 +560,10 @@ def told_life(units, lived, race, runs, rates):
         + (" in each" if units == LEAST else "")
     )
     print(
-        f"life: all answers and rows are the twin's; the program answers {ratio_told(rates[units], rates_of(theirs))}"
+        f"life: all answers and rows are the twin's; the program answers {ratio_text(rates[units], rates_of(theirs))}"
     )
     print(
-        f"life: compared with the twin that runs no statement twice in a call {ratio_told(rates[units], rates_of(once))}"
+        f"life: compared with the twin that runs no statement twice in a call {ratio_text(rates[units], rates_of(once))}"
     )
     print(
         f"life: a call takes {1 / rates[units][1] / bare:.2f} times the processor time that its statements alone take by the "
@@ -570,7 +572,7 @@ def told_life(units, lived, race, runs, rates):
     opened, read = min(run.open_seconds for run in ours), rows_read(race.path)
     print(
         f"life: the tables are opened in {opened / read:.1f} times the time in which the module sqlite3 reads all rows "
-        f"({opened:.2f} and {read:.2f} seconds), {memory_told_of(ours[-1])}; of the twin {theirs[-1].end_peak / 1024:.0f} MB; "
+        f"({opened:.2f} and {read:.2f} seconds), {memory_text(ours[-1])}; of the twin {theirs[-1].end_peak / 1024:.0f} MB; "
         f"the file has {os.path.getsize(race.path) / 1e6:.1f} MB",
         flush=True,
     )
@@ -594,9 +596,9 @@ def life(program, folder):
     for units in [*SIZES][1:]:
         runs[units].append(races[units].end())
     for units in SIZES:
-        told_life(units, lives[units], races[units], runs[units], rates)
+        print_life(units, lives[units], races[units], runs[units], rates)
     print(
-        f"life: at {MOST} workunits beside {LEAST} the program answers {ratio_told(rates[MOST], rates[LEAST])}"
+        f"life: at {MOST} workunits beside {LEAST} the program answers {ratio_text(rates[MOST], rates[LEAST])}"
     )
 
 
@@ -610,10 +612,10 @@ print(done.returncode, time.perf_counter() - begin, resource.getrusage(resource.
 """
 
 
-def taken_by(status, *words):
+def taken_by(status, *args):
     """Returns the seconds, and the peak memory in kilobytes, of a command. It must end with this status."""
-    ended, seconds, kilobytes = ordered(sys.executable, "-c", PEAK, *words).split()
-    wants(int(ended), status, f"the status of {words}")
+    ended, seconds, kilobytes = ordered(sys.executable, "-c", PEAK, *args).split()
+    wants(int(ended), status, f"the status of {args}")
     return float(seconds), int(kilobytes)
 
 
@@ -705,9 +707,9 @@ def tick_seconds(program, path, folder):
         for run in runs:
             run.send([TICK])
     for run in runs:
-        for answer, _, _ in run.end().told:
+        for answer, _, _ in run.end().answers:
             wants(answer.rpartition(b"\r\n\r\n")[2], b'{"lapsed":0}', "a tick")
-    return [statistics.median(end - start for _, start, end in run.told) for run in runs]
+    return [statistics.median(end - start for _, start, end in run.answers) for run in runs]
 
 
 def ticks(program, folder):
@@ -746,7 +748,7 @@ def past(program, folder):
     for number, what in enumerate(whose):
         # the first round gives each client its first job; after it each call reports a job and gets one
         one, other = (
-            statistics.median(end - start for _, start, end in run.told[len(whose) + number :: len(whose)])
+            statistics.median(end - start for _, start, end in run.answers[len(whose) + number :: len(whose)])
             for run in (ours, theirs)
         )
         fresh = fresh or one
@@ -755,10 +757,10 @@ def past(program, folder):
             f"{one / fresh:.1f} times as long as of the first, {one / other:.2f} times as long as of the twin "
             f"({other * 1e3:.1f})"
         )
-    print(f"past: these tables are opened in {ours.open_seconds:.1f} seconds, {memory_told_of(ours)}")
+    print(f"past: these tables are opened in {ours.open_seconds:.1f} seconds, {memory_text(ours)}")
 
 
-def kind_of(said):
+def kind_of(text):
     """Returns the kind of a statement that was run."""
     kinds = {
         **plain_tables.LOOK_UPS,
@@ -766,9 +768,9 @@ def kind_of(said):
         **{f"change: {table}": change for table, change in plain_tables.CHANGES.items()},
     }
     for kind, statement in kinds.items():
-        if re.fullmatch(re.sub(r"\\\?\d+", ".*", re.escape(statement)), said, re.DOTALL):
+        if re.fullmatch(re.sub(r"\\\?\d+", ".*", re.escape(statement)), text, re.DOTALL):
             return kind
-    return said.split(" ")[0]
+    return text.split(" ")[0]
 
 
 def statements(program, folder):
@@ -820,10 +822,10 @@ def twins(_program, folder):
         print(f"twins: good, {len(lines)} answers of {what}")
 
 
-def under(words, program, path, folder, bodies):
+def under(before, program, path, folder, bodies):
     """Runs the program under a command, over a copy of tables with these calls, until it ends by itself."""
     # the probe that finds the listener counts as one connection, and so does the last one
-    run = run_ours(program, copied(path, folder), len(bodies) + 2, words)
+    run = run_ours(program, copied(path, folder), len(bodies) + 2, before)
     run.send(messages_of(bodies, [0] * len(bodies))).end_by_itself()
 
 
@@ -857,12 +859,12 @@ def profile(program, folder):
     else:
         under(["strace", "-c", "-S", "calls", "-o", found], program, path, folder, bodies)
         with open(found) as file:
-            told = "".join(file.readlines()[:10])
-        print(f"profile: the system calls of {len(bodies)} calls and of the opening\n{told}", end="")
+            lines = "".join(file.readlines()[:10])
+        print(f"profile: the system calls of {len(bodies)} calls and of the opening\n{lines}", end="")
     if shutil.which("valgrind") is None:
         print("profile: valgrind: not installed, not run")
         return
-    told = []
+    lines = []
     for some in ([], bodies):
         under(
             ["valgrind", "-q", "--tool=callgrind", f"--callgrind-out-file={found}"],
@@ -871,8 +873,8 @@ def profile(program, folder):
             folder,
             some,
         )
-        told.append(counted(found))
-    own, whole, calls = (after - before for before, after in zip(*told))
+        lines.append(counted(found))
+    own, whole, calls = (after - before for before, after in zip(*lines))
     twin = sum(
         statement.startswith("SELECT")
         for ran in Recorder(path, folder).ran_by(bodies)

@@ -178,15 +178,15 @@ class Slow(Played):
 def tell(what: str, took: list[float], fresh: Took, ratio: float, others: list[str]) -> None:
     """Prints what something took, compared with a call of a fresh host and with the reference. Another
     figure is printed for each program, too."""
-    told = []
+    lines = []
     for number, milliseconds in enumerate(took):
         one = f"{milliseconds:.2f} milliseconds"
         if took is not fresh.later:
             one += f", {milliseconds / fresh.later[number]:.2f} times a fresh host's call"
-        told.append(f"{'by the reference ' if number else ''}{one} ({others[number]})")
+        lines.append(f"{'by the reference ' if number else ''}{one} ({others[number]})")
     if len(took) > 1:
-        told.append(f"{ratio:.2f} times the reference")
-    print(f"slow: {what}: {'; '.join(told)}", flush=True)
+        lines.append(f"{ratio:.2f} times the reference")
+    print(f"slow: {what}: {'; '.join(lines)}", flush=True)
 
 
 def tell_calls(what: str, took: Took, fresh: Took) -> None:

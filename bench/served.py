@@ -1,9 +1,15 @@
-"""What the scripts of this folder share: the built program's path, and how to start and measure servers."""
+"""What scripts and tests share: the built program's path, free ports, and how to start, stop and measure
+programs."""
+import contextlib
 import os
+import random
 import socket
 import subprocess
 import sys
 import time
+from collections.abc import Sequence
+from pathlib import Path
+from typing import NoReturn
 
 BUILT = os.path.join(
     os.path.dirname(os.path.dirname(os.path.abspath(__file__))), "crates", "bsched", "out", "bsched"
@@ -11,13 +17,13 @@ BUILT = os.path.join(
 USAGE = 64  # the status of a script that lacks what it needs
 
 
-def needs(script, what):
+def needs(script: str, what: str) -> NoReturn:
     """Ends the script with one line that says what it needs, and status 64."""
     print(f"{script}: {what}", file=sys.stderr)
     sys.exit(USAGE)
 
 
-def program_at(script, path):
+def program_at(script: str, path: str) -> str:
     """Returns the program's path, from the root. If there is no program, the script ends with one line."""
     if not os.access(path, os.X_OK) or os.path.isdir(path):
         needs(
@@ -27,53 +33,79 @@ def program_at(script, path):
     return os.path.abspath(path)
 
 
-def free_port():
-    """Returns a port on which nothing listens."""
-    with socket.socket() as listener:
-        listener.bind(("127.0.0.1", 0))
-        return listener.getsockname()[1]
+def free_port(first: int = 10_000, count: int = 22_000) -> int:
+    """Returns a port on which nothing listens, chosen from some ports. They are below those that the system
+    gives to clients: from one of these a client that waits for a server could connect to itself."""
+    while True:
+        port = random.randrange(first, first + count)
+        with socket.socket() as listener, contextlib.suppress(OSError):
+            listener.bind(("127.0.0.1", port))
+            return port
 
 
-def ordered(program, *words):
-    """Runs the program with these words and returns what it prints. It must end with status 0."""
-    return subprocess.run([program, *words], check=True, capture_output=True, text=True).stdout
+def listens(port: int) -> bool:
+    """Returns whether something listens on a port of 127.0.0.1. A listener answers at once; this connection
+    counts as one that was served."""
+    with socket.socket() as probe:
+        probe.settimeout(1)
+        return probe.connect_ex(("127.0.0.1", port)) == 0
 
 
-def started(program, tables, port, count=1_000_000, before=(), seconds=10):
-    """Starts a server and returns it once it takes connections, within so many seconds. If `before` is given,
-    the server runs under that command."""
-    words = ["serve", "--tables", tables, "--port", str(port), "--count", str(count)]
-    server = subprocess.Popen([*before, program, *words])
-    for _ in range(200 * seconds):
-        with socket.socket() as probe:
-            # a listener answers at once; this connection counts as one that was served
-            if probe.connect_ex(("127.0.0.1", port)) == 0:
-                return server
-        if server.poll() is not None:
-            break
+def start(command: Sequence[str | Path], port: int, seconds: float = 10) -> "subprocess.Popen[bytes]":
+    """Starts a program, and returns it once it listens on a port. It ends the run if that takes longer."""
+    process = subprocess.Popen(command)
+    until = time.monotonic() + seconds
+    while time.monotonic() < until and process.poll() is None:
+        if listens(port):
+            return process
         time.sleep(0.005)
-    server.kill()
-    raise SystemExit("the server does not start")
+    stop(process)
+    raise SystemExit(f"{command[0]} does not start")
 
 
-def wants(told, wanted, what):
+def stop(process: "subprocess.Popen[bytes]") -> None:
+    """Kills a program and waits for its end."""
+    process.kill()
+    process.wait(timeout=60)
+
+
+def ordered(program: str, *args: str) -> str:
+    """Runs the program with these arguments and returns what it prints. It must end with status 0."""
+    return subprocess.run([program, *args], check=True, capture_output=True, text=True).stdout
+
+
+def started(
+    program: str,
+    tables: str,
+    port: int,
+    count: int = 1_000_000,
+    before: Sequence[str] = (),
+    seconds: float = 10,
+) -> "subprocess.Popen[bytes]":
+    """Starts the program as a server of tables, for a number of connections. If `before` is given, it runs
+    under that command."""
+    args = ["serve", "--tables", tables, "--port", str(port), "--count", str(count)]
+    return start([*before, program, *args], port, seconds)
+
+
+def wants(found: object, wanted: object, what: str) -> None:
     """Ends the run if something is not what it must be."""
-    if told != wanted:
-        raise SystemExit(f"{what}: {told!r} instead of {wanted!r}")
+    if found != wanted:
+        raise SystemExit(f"{what}: {found!r} instead of {wanted!r}")
 
 
-def processor_seconds(process):
+def processor_seconds(process: "subprocess.Popen[bytes]") -> float:
     """Returns the processor time that a process of one thread has used, in seconds."""
     with open(f"/proc/{process.pid}/schedstat") as file:
         return int(file.read().split()[0]) / 1e9
 
 
-def memory_told(process, word):
+def memory_of(process: "subprocess.Popen[bytes]", word: str) -> int:
     """Returns what the kernel says about the memory of a process under a word, in kilobytes."""
     with open(f"/proc/{process.pid}/status") as file:
         return next(int(line.split()[1]) for line in file if line.startswith(f"{word}:"))
 
 
-def peak(process):
+def peak(process: "subprocess.Popen[bytes]") -> int:
     """Returns the peak memory of a process, in kilobytes."""
-    return memory_told(process, "VmHWM")
+    return memory_of(process, "VmHWM")

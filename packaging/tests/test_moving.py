@@ -41,37 +41,39 @@ def machines(tmp_path: Path) -> tuple[Machine, Machine]:
         (tmp_path / name).mkdir()
         made.append(Machine(tmp_path / name))
     first, second = made
-    told = first.make("--settings", first.settings("operator_key = 'my-own.key_1'"), "sums", stubs=MORE_STUBS)
-    assert told.returncode == 0, told.stderr
+    completed = first.make(
+        "--settings", first.settings("operator_key = 'my-own.key_1'"), "sums", stubs=MORE_STUBS
+    )
+    assert completed.returncode == 0, completed.stderr
     bridge = first.projects / "sums" / "bridge"
     (bridge / "files" / "sum_1").write_text("program\n")
-    words = [sys.executable, "-m", "bsched_bridge", "keygen"]
-    subprocess.run(words, check=True, cwd=bridge, env={"PYTHONPATH": f"{TOP}/bridge"})
-    words[1:] = ["-c", MAKE_STATE]
-    subprocess.run(words, check=True, cwd=bridge, env={"PYTHONPATH": f"{TOP}/bridge"})
+    command = [sys.executable, "-m", "bsched_bridge", "keygen"]
+    subprocess.run(command, check=True, cwd=bridge, env={"PYTHONPATH": f"{TOP}/bridge"})
+    command[1:] = ["-c", MAKE_STATE]
+    subprocess.run(command, check=True, cwd=bridge, env={"PYTHONPATH": f"{TOP}/bridge"})
     return first, second
 
 
-def run(machine: Machine, *words: str) -> "subprocess.CompletedProcess[str]":
+def run(machine: Machine, *args: str) -> "subprocess.CompletedProcess[str]":
     """Runs bsched-project with the tools."""
-    return machine.make(*words, stubs=MORE_STUBS)
+    return machine.make(*args, stubs=MORE_STUBS)
 
 
 def test_a_project_moves_to_another_machine(machines: tuple[Machine, Machine], tmp_path: Path) -> None:
     first, second = machines
     file = tmp_path / "sums.tar.gz"
-    told = run(first, "export", "sums", str(file))
-    assert (told.returncode, told.stderr) == (0, "")
-    assert "The project still runs here" in told.stdout and file.stat().st_mode & 0o777 == 0o600
+    completed = run(first, "export", "sums", str(file))
+    assert (completed.returncode, completed.stderr) == (0, "")
+    assert "The project still runs here" in completed.stdout and file.stat().st_mode & 0o777 == 0o600
     with tarfile.open(file) as archive:
         names = archive.getnames()
     assert "sums/project.db" in names and "sums/bridge/bridge.db" in names
     assert not [name for name in names if name.endswith(("-wal", "-shm", ".lock"))]
-    told = run(second, "import", str(file))
-    assert (told.returncode, told.stderr) == (0, "")
+    completed = run(second, "import", str(file))
+    assert (completed.returncode, completed.stderr) == (0, "")
     assert (
-        "systemctl enable --now bsched@sums bsched-tick@sums.timer" in told.stdout
-        or "enabled and started: bsched@sums bsched-tick@sums.timer" in told.stdout
+        "systemctl enable --now bsched@sums bsched-tick@sums.timer" in completed.stdout
+        or "enabled and started: bsched@sums bsched-tick@sums.timer" in completed.stdout
     )
     for name in ("settings.toml", "environment", "bridge/bridge.toml", "bridge/files/sum_1", "units.toml"):
         assert (second.projects / "sums" / name).read_bytes() == (first.projects / "sums" / name).read_bytes()
@@ -84,8 +86,8 @@ def test_a_project_moves_to_another_machine(machines: tuple[Machine, Machine], t
 
 def test_an_export_that_stops_the_project(machines: tuple[Machine, Machine], tmp_path: Path) -> None:
     first, _ = machines
-    told = run(first, "export", "--stop", "sums", str(tmp_path / "x.tar.gz"))
-    assert told.returncode == 0 and "are stopped here and stay so" in told.stdout
+    completed = run(first, "export", "--stop", "sums", str(tmp_path / "x.tar.gz"))
+    assert completed.returncode == 0 and "are stopped here and stay so" in completed.stdout
     asked = (first.folder / "systemctl").read_text().splitlines()
     stopped = [line for line in asked if line.startswith("disable")]
     assert stopped == ["disable --now bsched-tick@sums.timer", "disable --now bsched@sums"]
@@ -95,8 +97,8 @@ def test_ports_that_are_taken(machines: tuple[Machine, Machine], tmp_path: Path)
     first, second = machines
     assert run(first, "export", "sums", str(tmp_path / "x.tar.gz")).returncode == 0
     assert run(second, "others").returncode == 0
-    told = run(second, "import", str(tmp_path / "x.tar.gz"))
-    assert told.returncode == 0 and "Its ports are taken here" in told.stdout
+    completed = run(second, "import", str(tmp_path / "x.tar.gz"))
+    assert completed.returncode == 0 and "Its ports are taken here" in completed.stdout
     ports = re.findall(r"\d+", (second.projects / "sums" / "environment").read_text())
     bridge = (second.projects / "sums" / "bridge" / "bridge.toml").read_text()
     assert f'scheduler = "127.0.0.1:{ports[0]}"' in bridge and f'listen = "127.0.0.1:{ports[1]}"' in bridge
@@ -122,15 +124,15 @@ def test_a_file_that_is_no_export(machines: tuple[Machine, Machine], tmp_path: P
             archive.add(tmp_path / "sums", "sums")
             if spoil == "above":
                 archive.add(tmp_path / "sums" / "project.db", "../above")
-    told = run(second, "import", str(file))
-    assert told.returncode == 1 and told.stderr.count("\n") == 1
+    completed = run(second, "import", str(file))
+    assert completed.returncode == 1 and completed.stderr.count("\n") == 1
     assert list(second.projects.iterdir()) == [] and not (second.folder / "above").exists()
 
 
-def test_words_that_are_not_possible(machines: tuple[Machine, Machine]) -> None:
+def test_commands_that_are_not_possible(machines: tuple[Machine, Machine]) -> None:
     first, _ = machines
-    for words in (["export"], ["import"], ["nginx"], ["export", "sums"], ["export", "../sums", "x"]):
-        assert run(first, *words).returncode == 64, words
+    for args in (["export"], ["import"], ["nginx"], ["export", "sums"], ["export", "../sums", "x"]):
+        assert run(first, *args).returncode == 64, args
     assert run(first, "export", "none", "x").returncode == 1
     assert run(first, "import", "/none").returncode == 1
     assert os.listdir(first.projects) == ["sums"] and STUBS

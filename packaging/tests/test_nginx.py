@@ -13,6 +13,7 @@ from http.server import BaseHTTPRequestHandler, ThreadingHTTPServer
 from pathlib import Path
 
 import pytest
+from served import free_port
 from test_project import Machine
 
 NGINX = shutil.which("nginx", path="/usr/sbin:/usr/bin")
@@ -28,8 +29,8 @@ def machine(tmp_path: Path) -> Machine:
 def written(machine: Machine, name: str, url: str) -> Path:
     """Makes a project with its files for nginx, and returns their folder."""
     assert machine.make("--url", url, name).returncode == 0
-    told = machine.make("nginx", name)
-    assert (told.returncode, told.stderr) == (0, "")
+    completed = machine.make("nginx", name)
+    assert (completed.returncode, completed.stderr) == (0, "")
     return machine.projects / name / "nginx"
 
 
@@ -48,8 +49,8 @@ def test_the_files_of_a_project(machine: Machine, url: str, port: int) -> None:
 
 def test_what_has_no_files(machine: Machine) -> None:
     assert machine.make("--url", "http://sums.example/", "sums").returncode == 0
-    told = machine.make("nginx", "sums")
-    assert told.returncode == 1 and "these files are for https" in told.stderr
+    completed = machine.make("nginx", "sums")
+    assert completed.returncode == 1 and "these files are for https" in completed.stderr
     assert machine.make("nginx", "others").returncode == 1
     assert machine.make("nginx", "../sums").returncode == 64
     (machine.projects / "sums" / "bridge" / "bridge.toml").write_text("name = 1\n")
@@ -64,13 +65,13 @@ class Bridge(BaseHTTPRequestHandler):
 
     def do_GET(self) -> None:
         """Answers."""
-        body = f"{self.server.server_port} {self.path} {self.headers['X-Real-IP']}".encode()
+        body = f"{self.connection.getsockname()[1]} {self.path} {self.headers['X-Real-IP']}".encode()
         self.send_response(200)
         self.send_header("content-length", str(len(body)))
         self.end_headers()
         self.wfile.write(body)
 
-    def log_message(self, *_words: object) -> None:
+    def log_message(self, *_args: object) -> None:
         """Prints nothing."""
 
 
@@ -88,12 +89,6 @@ def bridge() -> Iterator[int]:
         server.server_close()
 
 
-def free_port() -> int:
-    """Returns a port that is free."""
-    with socket.create_server(("127.0.0.1", 0)) as made:
-        return int(made.getsockname()[1])
-
-
 @contextmanager
 def served(folder: Path, files: list[Path], ports: dict[int, int]) -> Iterator[None]:
     """Runs nginx with the files of some projects. A port in them is replaced by another one."""
@@ -101,16 +96,16 @@ def served(folder: Path, files: list[Path], ports: dict[int, int]) -> Iterator[N
         (folder / name).mkdir()
     for host in ("sums.example", "others.example"):
         where = folder / "live" / host
-        words = ["openssl", "req", "-x509", "-newkey", "rsa:2048", "-nodes", "-subj", f"/CN={host}"]
-        words += ["-keyout", str(where / "privkey.pem"), "-out", str(where / "fullchain.pem")]
-        subprocess.run(words, check=True, capture_output=True, timeout=60)
+        command = ["openssl", "req", "-x509", "-newkey", "rsa:2048", "-nodes", "-subj", f"/CN={host}"]
+        command += ["-keyout", str(where / "privkey.pem"), "-out", str(where / "fullchain.pem")]
+        subprocess.run(command, check=True, capture_output=True, timeout=60)
     for number, path in enumerate(files):
         text = re.sub(r" *listen \[::\].*\n", "", path.read_text()).replace("/etc/letsencrypt", str(folder))
         for old, new in ports.items():
             text = re.sub(rf"(listen |127\.0\.0\.1:){old}\b", rf"\g<1>{new}", text)
         project = path.parent.parent.name
-        name = {"limits.conf": "conf.d/limits.conf", "site.conf": f"conf.d/{number}.conf"}.get(path.name)
-        (folder / (name or f"snippets/bsched-{project}.conf")).write_text(text)
+        place = {"limits.conf": "conf.d/limits.conf", "site.conf": f"conf.d/{number}.conf"}.get(path.name)
+        (folder / (place or f"snippets/bsched-{project}.conf")).write_text(text)
     main = f"daemon off; pid {folder}/pid; error_log {folder}/log/error; events {{}}\n"
     temporary = "".join(
         f"{kind}_temp_path {folder}/log/{kind};\n"
@@ -136,9 +131,9 @@ def asked(connection: http.client.HTTPConnection, host: str, path: str) -> tuple
     """Returns the status of an answer, and where it leads or what it says."""
     connection.request("GET", path, headers={"Host": host})
     response = connection.getresponse()
-    said = response.read().decode()
+    body = response.read().decode()
     connection.close()
-    return response.status, response.headers.get("Location") or said
+    return response.status, response.headers.get("Location") or body
 
 
 @pytest.mark.skipif(NGINX is None, reason="nginx is not installed")

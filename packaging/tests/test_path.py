@@ -1,15 +1,12 @@
 """Tests the page of the first volunteer, and how packaging/try reads it."""
 import subprocess
-import sys
 from pathlib import Path
 
 import pytest
+from debian_trial.path import Block, steps_of
 
 TOP = Path(__file__).resolve().parent.parent.parent
 PAGE = TOP / "docs" / "FIRST_VOLUNTEER.md"
-sys.path.insert(0, str(TOP / "packaging"))
-
-from trial.path import Block, steps_of  # noqa: E402
 
 
 def test_the_page_has_twelve_steps_with_commands() -> None:
@@ -24,8 +21,8 @@ def test_the_page_has_twelve_steps_with_commands() -> None:
 def test_each_block_is_a_script() -> None:
     for step in steps_of(PAGE):
         for block in step.blocks:
-            told = subprocess.run(["bash", "-n"], input=block.commands, text=True, capture_output=True)
-            assert (told.returncode, told.stderr) == (0, ""), step.title
+            completed = subprocess.run(["bash", "-n"], input=block.commands, text=True, capture_output=True)
+            assert (completed.returncode, completed.stderr) == (0, ""), step.title
 
 
 @pytest.mark.parametrize(

@@ -42,24 +42,24 @@ class Machine:
         (self.templates / "example" / "bridge").mkdir()
         shutil.copy(EXAMPLE / "bridge.toml", self.templates / "example" / "bridge")
 
-    def words(self, *words: str, stubs: str = "") -> list[str]:
+    def command(self, *args: str, stubs: str = "") -> list[str]:
         """Returns the command line that runs bsched-project."""
         script = (
             f". {PACKAGING}/bsched-project\n"
             f"PROJECTS={self.projects} TEMPLATES={self.templates} SERVICE={SERVICE}\n"
             f'TURN_SECONDS=0\n{STUBS}{stubs}\nmain "$@"\n'
         )
-        return ["bash", "-c", script, "bsched-project", *words]
+        return ["bash", "-c", script, "bsched-project", *args]
 
-    def make(self, *words: str, stubs: str = "") -> "subprocess.CompletedProcess[str]":
+    def make(self, *args: str, stubs: str = "") -> "subprocess.CompletedProcess[str]":
         """Runs bsched-project without a terminal."""
-        command = self.words(*words, stubs=stubs)
+        command = self.command(*args, stubs=stubs)
         return subprocess.run(command, stdin=subprocess.DEVNULL, capture_output=True, text=True, timeout=60)
 
-    def answered(self, answers: str, *words: str) -> tuple[int, str]:
+    def answered(self, answers: str, *args: str) -> tuple[int, str]:
         """Runs bsched-project on a terminal, types the answers, and returns its status and what it shows."""
         leader, terminal = os.openpty()
-        process = subprocess.Popen(self.words(*words), stdin=terminal, stdout=terminal, stderr=terminal)
+        process = subprocess.Popen(self.command(*args), stdin=terminal, stdout=terminal, stderr=terminal)
         os.close(terminal)
         os.write(leader, answers.encode())
         shown = b""
@@ -78,8 +78,8 @@ class Machine:
 
     def key(self, name: str) -> str:
         """Returns the key of a project, as the units read it."""
-        words = [SERVICE / "operator-key", self.projects / name / "settings.toml"]
-        return subprocess.run(words, capture_output=True, text=True, timeout=30, check=True).stdout.strip()
+        command = [SERVICE / "operator-key", self.projects / name / "settings.toml"]
+        return subprocess.run(command, capture_output=True, text=True, timeout=30, check=True).stdout.strip()
 
 
 @pytest.fixture
@@ -98,8 +98,8 @@ def machine(tmp_path: Path) -> Machine:
     ],
 )
 def test_a_new_key(machine: Machine, line: str) -> None:
-    told = machine.make("--settings", machine.settings(line), "sums")
-    assert (told.returncode, told.stderr) == (0, "")
+    completed = machine.make("--settings", machine.settings(line), "sums")
+    assert (completed.returncode, completed.stderr) == (0, "")
     key = machine.key("sums")
     assert MADE_KEY.fullmatch(key)
     assert f'operator_key = "{key}"' in (machine.projects / "sums" / "bridge" / "bridge.toml").read_text()
@@ -122,21 +122,23 @@ def test_a_key_of_ones_own(machine: Machine) -> None:
     ],
 )
 def test_settings_without_a_key_that_can_be_read(machine: Machine, line: str) -> None:
-    told = machine.make("--settings", machine.settings(line), "sums")
-    assert told.returncode == 1 and told.stderr.count("\n") == 1 and "operator_key" in told.stderr
+    completed = machine.make("--settings", machine.settings(line), "sums")
+    assert (
+        completed.returncode == 1 and completed.stderr.count("\n") == 1 and "operator_key" in completed.stderr
+    )
     assert list(machine.projects.iterdir()) == []
 
 
 @pytest.mark.parametrize("signal", ["INT", "TERM", "HUP"])
 def test_a_signal_leaves_nothing(machine: Machine, signal: str) -> None:
-    told = machine.make("sums", stubs=f"bsched() {{ kill -{signal} $$; sleep 0.2; }}")
-    assert (told.returncode, told.stderr) == (1, "bsched-project: ended by a signal\n")
+    completed = machine.make("sums", stubs=f"bsched() {{ kill -{signal} $$; sleep 0.2; }}")
+    assert (completed.returncode, completed.stderr) == (1, "bsched-project: ended by a signal\n")
     assert list(machine.projects.iterdir()) == []
 
 
 def test_a_fault_leaves_nothing(machine: Machine) -> None:
-    told = machine.make("sums", stubs="bsched() { echo 'bsched: settings' >&2; return 1; }")
-    assert told.returncode == 1 and told.stderr.endswith(": bsched: settings\n")
+    completed = machine.make("sums", stubs="bsched() { echo 'bsched: settings' >&2; return 1; }")
+    assert completed.returncode == 1 and completed.stderr.endswith(": bsched: settings\n")
     assert list(machine.projects.iterdir()) == []
 
 
@@ -144,10 +146,10 @@ def test_projects_are_made_one_after_the_other(machine: Machine) -> None:
     descriptor = os.open(machine.projects, os.O_RDONLY)
     try:
         fcntl.flock(descriptor, fcntl.LOCK_EX)
-        told = machine.make("sums")
+        completed = machine.make("sums")
     finally:
         os.close(descriptor)
-    assert told.returncode == 1 and "another bsched-project works" in told.stderr
+    assert completed.returncode == 1 and "another bsched-project works" in completed.stderr
     assert machine.make("sums").returncode == 0
     assert "exists already" in machine.make("sums").stderr
     assert machine.make("others").returncode == 0
@@ -181,9 +183,9 @@ def test_the_printed_commands_end_at_a_refused_import(
     commands = "\n".join(line for line in printed.splitlines() if line.startswith("  "))
     commands = commands.partition("bsched-copy@")[0].rpartition("\n")[0]
     stubs = f"bsched() {{ echo $5; [ $5 != {refused} ]; }}\nsystemctl() {{ echo systemctl; }}\n"
-    words = ["bash", "-c", f"{STUBS}{stubs}{commands}"]
-    told = subprocess.run(words, capture_output=True, text=True, timeout=30)
-    assert told.stdout.split() == done and told.stderr == ""
+    command = ["bash", "-c", f"{STUBS}{stubs}{commands}"]
+    completed = subprocess.run(command, capture_output=True, text=True, timeout=30)
+    assert completed.stdout.split() == done and completed.stderr == ""
 
 
 # ---- Settings
@@ -191,8 +193,8 @@ def test_the_printed_commands_end_at_a_refused_import(
 
 def of_project(machine: Machine, name: str) -> dict[str, int]:
     """Returns the settings of a project that are numbers."""
-    told = tomllib.loads((machine.projects / name / "settings.toml").read_text())
-    return {key: value for key, value in told.items() if type(value) is int}
+    settings = tomllib.loads((machine.projects / name / "settings.toml").read_text())
+    return {key: value for key, value in settings.items() if type(value) is int}
 
 
 def shown_in(text: str, begins: str) -> dict[str, int]:
@@ -204,7 +206,7 @@ def shown_in(text: str, begins: str) -> dict[str, int]:
 def test_the_settings_of_jobs_and_computers(machine: Machine) -> None:
     """A computer of 64 processors with jobs of 600 seconds has one job for each processor, and what it does
     in twice 60 seconds: 64 * (1 + 120 / 600) = 76.8. It does 9,216 jobs a day, and may get twice as many."""
-    told = machine.make("--job-time", "10m", "--processors", "64", "sums")
+    completed = machine.make("--job-time", "10m", "--processors", "64", "sums")
     assert of_project(machine, "sums") == {
         "daily_result_quota": 18432,
         "max_hosts": 100000,
@@ -212,7 +214,7 @@ def test_the_settings_of_jobs_and_computers(machine: Machine) -> None:
         "max_wus_to_send": 39,
         "request_delay": 60,
     }
-    lines = [line for line in told.stdout.splitlines() if line.startswith("- with")]
+    lines = [line for line in completed.stdout.splitlines() if line.startswith("- with")]
     assert lines == [
         "- with 1 processor it is kept busy by jobs of 5 seconds and more",
         "- with 4 processors it is kept busy by jobs of 19 seconds and more",
@@ -235,14 +237,14 @@ def test_the_pages_have_the_settings_that_a_project_gets_without_options(machine
 @given(st.integers(1, 100 * 86400), st.integers(1, 256))
 def test_the_rule_of_the_settings(machine: Machine, job: int, processors: int) -> None:
     shutil.rmtree(machine.projects / "sums", ignore_errors=True)
-    told = machine.make("--job-time", str(job), "--processors", str(processors), "sums")
-    assert (told.returncode, told.stderr) == (0, "")
+    completed = machine.make("--job-time", str(job), "--processors", str(processors), "sums")
+    assert (completed.returncode, completed.stderr) == (0, "")
     numbers = of_project(machine, "sums")
     needed = processors * (1 + Fraction(2 * 60, job))
-    assert numbers["max_wus_in_progress"] >= min(needed, 1000)
+    assert numbers["max_wus_in_progress"] >= min(needed, Fraction(1000))
     assert numbers["max_wus_in_progress"] < needed + 1
-    assert numbers["max_wus_to_send"] >= min(Fraction(numbers["max_wus_in_progress"], 2), 100)
-    assert numbers["daily_result_quota"] >= min(2 * Fraction(processors * 86400, job), 1_000_000)
+    assert numbers["max_wus_to_send"] >= min(Fraction(numbers["max_wus_in_progress"], 2), Fraction(100))
+    assert numbers["daily_result_quota"] >= min(2 * Fraction(processors * 86400, job), Fraction(1_000_000))
     assert numbers["daily_result_quota"] >= 2 * numbers["max_wus_in_progress"]
     ranges = {"max_wus_in_progress": 1000, "max_wus_to_send": 100, "daily_result_quota": 1_000_000}
     assert all(1 <= numbers[name] <= most for name, most in ranges.items())
@@ -292,8 +294,8 @@ def test_questions_on_a_terminal(machine: Machine) -> None:
 
 
 def test_no_question_if_the_options_say_all(machine: Machine) -> None:
-    words = ("--job-time", "1d", "--processors", "8", "--url", "http://sums.example/p/", "sums")
-    assert machine.answered("", *words)[0] == 0
+    args = ("--job-time", "1d", "--processors", "8", "--url", "http://sums.example/p/", "sums")
+    assert machine.answered("", *args)[0] == 0
 
 
 def test_the_fault_in_a_file_of_settings_is_named(machine: Machine) -> None:
@@ -302,13 +304,13 @@ def test_the_fault_in_a_file_of_settings_is_named(machine: Machine) -> None:
         f'bsched-tools() {{ PYTHONPATH={TOP}/tools /usr/bin/python3 -m bsched_tools "$@"; }}\n'
     )
     path = machine.settings("max_host = 7\noperator_key = 'my-own.key_1'")
-    told = machine.make("--settings", path, "sums", stubs=stubs)
-    assert told.returncode == 1 and told.stderr.count("\n") == 1
-    assert "max_host is not a setting" in told.stderr
+    completed = machine.make("--settings", path, "sums", stubs=stubs)
+    assert completed.returncode == 1 and completed.stderr.count("\n") == 1
+    assert "max_host is not a setting" in completed.stderr
 
 
 @pytest.mark.parametrize(
-    "words",
+    "args",
     [
         ["--job-time", "0", "x"],
         ["--job-time", "5w", "x"],
@@ -322,6 +324,6 @@ def test_the_fault_in_a_file_of_settings_is_named(machine: Machine) -> None:
         ["--example", "--url", "https://sums.example/", "x"],
     ],
 )
-def test_options_that_are_not_possible(machine: Machine, words: list[str]) -> None:
-    told = machine.make(*words)
-    assert told.returncode == 64 and told.stderr.count("\n") == 1 and told.stdout == ""
+def test_options_that_are_not_possible(machine: Machine, args: list[str]) -> None:
+    completed = machine.make(*args)
+    assert completed.returncode == 64 and completed.stderr.count("\n") == 1 and completed.stdout == ""

@@ -9,6 +9,8 @@ from pathlib import Path
 
 import pytest
 
+from bsched_tools import projects
+
 TOP = Path(__file__).resolve().parent.parent.parent
 VERSION = (TOP / "VERSION").read_text().strip()
 COMMANDS = ["create", "serve", "import", "tick", "statement", "upgrade", "replay"]
@@ -55,12 +57,12 @@ def synopsis(page: str) -> dict[str, set[str]]:
     return found
 
 
-def offered_by(*words: str) -> set[str]:
+def offered_by(*args: str) -> set[str]:
     """Returns the options that the help of a command names."""
     path = {"PYTHONPATH": f"{TOP}/bridge:{TOP}/tools", "PYTHONDONTWRITEBYTECODE": "1"}
-    command = [*words, "--help"]
-    told = subprocess.run(command, env=path, capture_output=True, text=True, timeout=60, check=True)
-    return set(re.findall(r"(?<![a-z])--[a-z-]+", told.stdout)) - {"--help"}
+    command = [*args, "--help"]
+    completed = subprocess.run(command, env=path, capture_output=True, text=True, timeout=60, check=True)
+    return set(re.findall(r"(?<![a-z])--[a-z-]+", completed.stdout)) - {"--help"}
 
 
 @pytest.mark.parametrize("module", ["bsched_tools", "bsched_bridge"])
@@ -68,15 +70,15 @@ def test_each_synopsis_has_the_options_of_the_help(module: str) -> None:
     page = synopsis(f"{module.replace('_', '-')}.1")
     assert len(page) > 2
     for command, options in page.items():
-        words = [command] if command else []
-        assert offered_by(sys.executable, "-m", module, *words) == options, command
+        args = [command] if command else []
+        assert offered_by(sys.executable, "-m", module, *args) == options, command
 
 
 def test_the_synopsis_of_bsched_project_has_the_options_of_its_help() -> None:
     page = synopsis("bsched-project.8")
     assert set().union(*page.values()) == offered_by(f"{TOP}/packaging/bsched-project")
-    words = [f"{TOP}/packaging/bsched-project", "--help"]
-    usage = subprocess.run(words, capture_output=True, text=True, timeout=60).stdout
+    help_command = [f"{TOP}/packaging/bsched-project", "--help"]
+    usage = subprocess.run(help_command, capture_output=True, text=True, timeout=60).stdout
     for command in page:
         assert f" bsched-project {command}" in usage
 
@@ -84,9 +86,9 @@ def test_the_synopsis_of_bsched_project_has_the_options_of_its_help() -> None:
 def test_the_synopsis_of_bsched_has_the_options_of_the_profile() -> None:
     profile = (TOP / "docs" / "PROFILE.md").read_text()
     commands = re.findall(r"^\| `bsched (\w+)([^`]*)`", profile, re.MULTILINE)
-    told = {command: set(re.findall(r"--[a-z-]+", rest)) for command, rest in commands}
+    documented = {command: set(re.findall(r"--[a-z-]+", rest)) for command, rest in commands}
     page = synopsis("bsched.1")
-    assert set(told) == set(COMMANDS) and page | {"replay": page[""]} == told | {"": page[""]}
+    assert set(documented) == set(COMMANDS) and page | {"replay": page[""]} == documented | {"": page[""]}
 
 
 # ---- Installed pages
@@ -167,22 +169,31 @@ class Clone:
         path.write_text(text)
         return path
 
-    def run(self, *words: str) -> "subprocess.CompletedProcess[str]":
+    def run(self, *command: str) -> "subprocess.CompletedProcess[str]":
         """Runs a command in the repository."""
         path = {"PATH": f"{self.tools}:/usr/sbin:/usr/bin:/sbin:/bin", "HOME": str(self.tools)}
-        return subprocess.run(words, cwd=self.folder, env=path, capture_output=True, text=True, timeout=60)
+        return subprocess.run(command, cwd=self.folder, env=path, capture_output=True, text=True, timeout=60)
 
     def commit(self) -> None:
         """Commits all files."""
         self.run("git", "add", "--all")
-        words = ["git", "-c", "user.name=T", "-c", "user.email=t@t", "commit", "--quiet", "--message=Change"]
-        assert self.run(*words).returncode == 0
+        command = [
+            "git",
+            "-c",
+            "user.name=T",
+            "-c",
+            "user.email=t@t",
+            "commit",
+            "--quiet",
+            "--message=Change",
+        ]
+        assert self.run(*command).returncode == 0
 
-    def build(self, *words: str) -> str:
+    def build(self, *args: str) -> str:
         """Begins to make packages, and returns why that ends. It ends at the latest for want of a package."""
-        told = self.run("packaging/build", *words, "../made")
-        assert told.returncode == 1
-        return told.stderr
+        completed = self.run("packaging/build", *args, "../made")
+        assert completed.returncode == 1
+        return completed.stderr
 
 
 @pytest.fixture
@@ -219,8 +230,8 @@ def change(clone: Clone, name: str, text: str) -> None:
 )
 def test_what_is_no_release(clone: Clone, spoil: Callable[[Clone], object], wanted: str) -> None:
     spoil(clone)
-    said = clone.build()
-    assert wanted in said and "--trial" in said.splitlines()[-1]
+    refusal = clone.build()
+    assert wanted in refusal and "--trial" in refusal.splitlines()[-1]
     assert GOOD.fullmatch(clone.build("--trial"))
 
 
@@ -240,8 +251,8 @@ def test_a_version_that_differs_is_refused_in_a_trial_too(clone: Clone) -> None:
 
 def test_no_program_of_sources_that_are_not_committed(clone: Clone) -> None:
     clone.write("crates/bsched/main.rt", "two\n")
-    told = clone.run("packaging/program")
-    assert told.returncode == 1 and "are not committed" in told.stderr
+    completed = clone.run("packaging/program")
+    assert completed.returncode == 1 and "are not committed" in completed.stderr
     assert clone.program.read_text() == "one\n"
 
 
@@ -252,9 +263,6 @@ def test_no_program_if_the_proof_fails(clone: Clone) -> None:
 
 
 def test_the_manual_has_the_defaults_of_the_units() -> None:
-    sys.path.insert(0, str(TOP / "tools"))
-    from bsched_tools import projects
-
     page = (TOP / "packaging" / "man" / "bsched-tools.1").read_text().replace("\\-", "-")
     text = page[page.index("\n[copy]\n") : page.index("\ncopy_hours")] + "\ncopy_hours = 3\n"
     folder = projects.Project(Path("/nowhere/NAME"))

@@ -15,11 +15,11 @@ KEY = "a-key_of.8"
 
 
 def done(
-    *words: str | Path, folder: Path | None = None, **environment: str
+    *args: str | Path, folder: Path | None = None, **environment: str
 ) -> "subprocess.CompletedProcess[str]":
     """Runs a script and returns how it ended."""
     return subprocess.run(
-        [str(word) for word in words],
+        [str(word) for word in args],
         cwd=folder,
         env={**os.environ, **environment},
         capture_output=True,
@@ -46,26 +46,30 @@ def listener() -> Iterator[socket.socket]:
 def test_a_port_that_is_free(listener: socket.socket) -> None:
     port = listener.getsockname()[1]
     listener.close()
-    told = done(SERVICE / "port-is-free", "PORT", str(port))
-    assert (told.returncode, told.stdout, told.stderr) == (0, "", "")
+    completed = done(SERVICE / "port-is-free", "PORT", str(port))
+    assert (completed.returncode, completed.stdout, completed.stderr) == (0, "", "")
 
 
 def test_a_port_that_is_in_use(listener: socket.socket) -> None:
     port = listener.getsockname()[1]
-    told = done(SERVICE / "port-is-free", "BRIDGE_PORT", str(port))
-    assert told.returncode == 1 and is_one_line(told.stderr)
-    assert f"port {port} is in use" in told.stderr and "BRIDGE_PORT" in told.stderr
+    completed = done(SERVICE / "port-is-free", "BRIDGE_PORT", str(port))
+    assert completed.returncode == 1 and is_one_line(completed.stderr)
+    assert f"port {port} is in use" in completed.stderr and "BRIDGE_PORT" in completed.stderr
 
 
 @pytest.mark.parametrize("port", ["", "0", "080", "65536", "100000", "80 ", "-1", "abc"])
 def test_what_is_no_port(port: str) -> None:
-    told = done(SERVICE / "port-is-free", "PORT", port)
-    assert told.returncode == 1 and is_one_line(told.stderr) and f"PORT is '{port}'" in told.stderr
+    completed = done(SERVICE / "port-is-free", "PORT", port)
+    assert (
+        completed.returncode == 1
+        and is_one_line(completed.stderr)
+        and f"PORT is '{port}'" in completed.stderr
+    )
 
 
 def test_a_port_that_answers_ends_the_wait(listener: socket.socket) -> None:
-    told = done(SERVICE / "wait-for-port", str(listener.getsockname()[1]), MAINPID=str(os.getpid()))
-    assert told.returncode == 0
+    completed = done(SERVICE / "wait-for-port", str(listener.getsockname()[1]), MAINPID=str(os.getpid()))
+    assert completed.returncode == 0
 
 
 def test_a_process_that_has_ended_ends_the_wait(listener: socket.socket) -> None:
@@ -91,7 +95,7 @@ class Answering(BaseHTTPRequestHandler):
         self.end_headers()
         self.wfile.write(body)
 
-    def log_message(self, *_words: object) -> None:
+    def log_message(self, *_args: object) -> None:
         """Prints nothing."""
 
 
@@ -117,35 +121,37 @@ def scheduler_port() -> Iterator[str]:
 )
 def test_a_tick(tmp_path: Path, scheduler_port: str, line: str) -> None:
     (tmp_path / "settings.toml").write_text(f"max_hosts = 3\n{line}\nrequest_delay = 60\n")
-    told = done(SERVICE / "tick", scheduler_port, folder=tmp_path)
-    assert (told.returncode, told.stdout, told.stderr) == (0, '{"lapsed":2}\n', "")
+    completed = done(SERVICE / "tick", scheduler_port, folder=tmp_path)
+    assert (completed.returncode, completed.stdout, completed.stderr) == (0, '{"lapsed":2}\n', "")
 
 
 def test_a_tick_with_another_key(tmp_path: Path, scheduler_port: str) -> None:
     (tmp_path / "settings.toml").write_text('operator_key = "another-key"\n')
-    told = done(SERVICE / "tick", scheduler_port, folder=tmp_path)
-    assert told.returncode == 1 and is_one_line(told.stderr) and scheduler_port in told.stderr
+    completed = done(SERVICE / "tick", scheduler_port, folder=tmp_path)
+    assert completed.returncode == 1 and is_one_line(completed.stderr) and scheduler_port in completed.stderr
 
 
 def test_a_tick_that_nobody_answers(tmp_path: Path, listener: socket.socket) -> None:
     port = str(listener.getsockname()[1])
     listener.close()
     (tmp_path / "settings.toml").write_text(f'operator_key = "{KEY}"\n')
-    told = done(SERVICE / "tick", port, folder=tmp_path)
-    assert told.returncode == 1 and is_one_line(told.stderr) and "no good answer" in told.stderr
+    completed = done(SERVICE / "tick", port, folder=tmp_path)
+    assert (
+        completed.returncode == 1 and is_one_line(completed.stderr) and "no good answer" in completed.stderr
+    )
 
 
 def test_settings_without_a_key(tmp_path: Path) -> None:
     (tmp_path / "settings.toml").write_text("operator_key = 7\n")
-    told = done(SERVICE / "tick", "1", folder=tmp_path)
-    assert told.returncode == 1 and is_one_line(told.stderr) and str(tmp_path) in told.stderr
+    completed = done(SERVICE / "tick", "1", folder=tmp_path)
+    assert completed.returncode == 1 and is_one_line(completed.stderr) and str(tmp_path) in completed.stderr
 
 
 # ---- bsched-project
 
 
 @pytest.mark.parametrize(
-    "words",
+    "args",
     [
         [],
         ["one", "two"],
@@ -161,11 +167,15 @@ def test_settings_without_a_key(tmp_path: Path) -> None:
         ["x.timer"],
     ],
 )
-def test_a_bad_command_line(words: list[str]) -> None:
-    told = done(PACKAGING / "bsched-project", *words)
-    assert told.returncode == 64 and is_one_line(told.stderr) and told.stdout == ""
+def test_a_bad_command_line(args: list[str]) -> None:
+    completed = done(PACKAGING / "bsched-project", *args)
+    assert completed.returncode == 64 and is_one_line(completed.stderr) and completed.stdout == ""
 
 
 def test_help() -> None:
-    told = done(PACKAGING / "bsched-project", "--help")
-    assert told.returncode == 0 and told.stdout.startswith("usage: bsched-project") and told.stderr == ""
+    completed = done(PACKAGING / "bsched-project", "--help")
+    assert (
+        completed.returncode == 0
+        and completed.stdout.startswith("usage: bsched-project")
+        and completed.stderr == ""
+    )

@@ -20,5 +20,5 @@ projects, volunteers  a project's folder, and which users agreed to be named, an
 handing               new results for a program of the operator
 import_files, imports files that are imported: what is wrong with them, and how they are sent
 health                what answers, and what is old or nearly full
-command_line          the words of the command line
+command_line          the arguments of the command line
 """

@@ -93,8 +93,8 @@ def copy_state(project: Project, folder: Path, keep: int | None) -> None:
     """Copies the state of the project's bridge, too, if there is one."""
     state = project.bridge_state
     if state is not None and state.exists():
-        words = ["copy", "--config", str(project.bridge_file), "--to", str(folder)]
-        print(asked_of_bridge([*words, *([] if keep is None else ["--keep", str(keep)])]), end="")
+        args = ["copy", "--config", str(project.bridge_file), "--to", str(folder)]
+        print(asked_of_bridge([*args, *([] if keep is None else ["--keep", str(keep)])]), end="")
 
 
 def results(args: Arguments) -> None:
@@ -167,8 +167,8 @@ def doctor(args: Arguments) -> int:
 def statistics(args: Arguments) -> None:
     """Writes the files for statistics sites, and prints how many users they name."""
     project = project_named(args)
-    said = chosen(project)
-    to, agreed, averages, everybody = args.to, said.agreed, None, args.everybody
+    publication = chosen(project)
+    to, agreed, averages, everybody = args.to, publication.agreed, None, args.everybody
     if project is not None:
         units = project.units()
         everybody = everybody or units.is_everybody_named and args.agreed is None
@@ -177,7 +177,7 @@ def statistics(args: Arguments) -> None:
     if args.agreed is not None:
         agreed = frozenset(agreed_in(args.agreed))
     folder, copies = needed(args, "to", to), copies_of(args, project)
-    made = export(copies, folder, None if everybody else agreed, said.names, averages)
+    made = export(copies, folder, None if everybody else agreed, publication.names, averages)
     print(f"{folder}: {made.users} users, {made.agreed} of them named, and {made.hosts} computers")
 
 

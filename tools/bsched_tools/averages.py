@@ -62,20 +62,20 @@ class Averages:
     def _read(self) -> None:
         """Reads the file."""
         try:
-            told = json.loads(self.path.read_text())
-            if told["format"] != FORMAT:
+            fields = json.loads(self.path.read_text())
+            if fields["format"] != FORMAT:
                 raise ValueError
-            self.salt, self.users = str(told["salt"]), dict(told["users"])
-            self.hosts = {name: Kept(**said) for name, said in told["hosts"].items()}
+            self.salt, self.users = str(fields["salt"]), dict(fields["users"])
+            self.hosts = {name: Kept(**values) for name, values in fields["hosts"].items()}
         except OSError as error:
             raise Fault(f"{self.path}: {error.strerror}") from None
         except (ValueError, KeyError, TypeError, AttributeError):
             raise Fault(f"{self.path}: it has no averages: move it away, or restore a copy") from None
 
-    def digest(self, *words: str) -> str:
+    def digest(self, *texts: str) -> str:
         """Returns the name of a user or a host, 32 digits, the same in each run."""
-        said = "\0".join(words).encode()
-        return hmac.new(self.salt.encode(), said, hashlib.sha256).hexdigest()[:32]
+        text = "\0".join(texts).encode()
+        return hmac.new(self.salt.encode(), text, hashlib.sha256).hexdigest()[:32]
 
     def user(self, user: User, moment: int) -> tuple[int, int]:
         """Returns the number of a user, and since when the user is known."""
@@ -95,10 +95,10 @@ class Averages:
 
     def write(self) -> None:
         """Writes the file, whole or not at all."""
-        told = {
+        fields = {
             "format": FORMAT,
             "salt": self.salt,
             "users": self.users,
             "hosts": {name: asdict(kept) for name, kept in self.hosts.items()},
         }
-        replace_file(self.path, [json.dumps(told).encode()], mode=0o600)
+        replace_file(self.path, [json.dumps(fields).encode()], mode=0o600)

@@ -155,7 +155,7 @@ def add_functions(connection: sqlite3.Connection) -> None:
     def matches(form: re.Pattern[str]) -> Any:
         return lambda value: isinstance(value, str) and form.fullmatch(value) is not None
 
-    connection.text_factory = lambda told: told.decode(errors="surrogateescape")
+    connection.text_factory = lambda text: text.decode(errors="surrogateescape")
     connection.create_function("word", 1, matches(WORD), deterministic=True)
     connection.create_function("platforms", 1, matches(PLATFORMS), deterministic=True)
     connection.create_function("size", 1, lambda value: len(str(value).encode(errors="surrogateescape")))
@@ -176,8 +176,8 @@ def settings_rows(tables: Tables) -> Iterator[Wrong]:
         if name not in KEYS:
             yield Wrong("setting", name, "there is no such setting")
             continue
-        said = bool(value) if name == "resend_lost_results" and value in (0, 1) else value
-        if fault := value_fault(name, said):
+        typed = bool(value) if name == "resend_lost_results" and value in (0, 1) else value
+        if fault := value_fault(name, typed):
             yield Wrong("setting", name, f"value is {shown(name, value)}: {fault}")
 
 
@@ -187,8 +187,8 @@ def values_of_rows(tables: Tables) -> Iterator[Wrong]:
         for column, rule in columns.items():
             query = f"SELECT {key}, {column} FROM {table} WHERE NOT ({rule}) LIMIT {MOST_TOLD}"
             for *values, value in tables.rows(query):
-                said = value if column not in ("auth", "text") else "a value"
-                yield Wrong(table, key_text(tuple(values)), f"{column} is {said!r}, and out of its range")
+                shown = value if column not in ("auth", "text") else "a value"
+                yield Wrong(table, key_text(tuple(values)), f"{column} is {shown!r}, and out of its range")
 
 
 def gaps(tables: Tables) -> Iterator[Wrong]:
@@ -290,8 +290,8 @@ def workunits(tables: Tables) -> Iterator[Wrong]:
     """Yields what is wrong with workunits, and with the credit of hosts, which follows from them."""
     credit: Counter[int | None] = Counter()
     for _, group in groupby(tables.rows(UNITS), key=lambda row: int(row[0])):
-        told = list(group)
-        unit, rows = Unit(*told[0][:10]), [Row(*row[10:]) for row in told if row[10] is not None]
+        of_unit = list(group)
+        unit, rows = Unit(*of_unit[0][:10]), [Row(*row[10:]) for row in of_unit if row[10] is not None]
         good = good_of(rows)
         yield from workunit_faults(unit, rows, good)
         for host in valid_hosts(unit, good):

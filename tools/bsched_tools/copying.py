@@ -36,27 +36,27 @@ def check_whole(path: Path) -> None:
     with tables.faults_of(path), closing(sqlite3.connect(path, isolation_level=None)) as connection:
         if fault := tables.schema_fault(connection):
             raise Fault(fault)
-        (told,), *_ = connection.execute("PRAGMA quick_check(1)").fetchall()
-        if told != "ok":
-            raise Fault(f"SQLite finds: {' '.join(told.split())}")
+        (result,), *_ = connection.execute("PRAGMA quick_check(1)").fetchall()
+        if result != "ok":
+            raise Fault(f"SQLite finds: {' '.join(result.split())}")
 
 
 def check_by_program(program: Path, path: Path) -> None:
     """Has the program open the copy. It must say what host 1 was given, or that there is no such host."""
-    words = [str(program), "statement", "--tables", str(path), "--host", "1"]
+    args = [str(program), "statement", "--tables", str(path), "--host", "1"]
     try:
-        told = subprocess.run(
-            words, capture_output=True, text=True, timeout=CHECK_SECONDS, stdin=subprocess.DEVNULL
+        completed = subprocess.run(
+            args, capture_output=True, text=True, timeout=CHECK_SECONDS, stdin=subprocess.DEVNULL
         )
     except (OSError, subprocess.TimeoutExpired) as error:
         raise Fault(f"{program}: {getattr(error, 'strerror', None) or error}") from None
-    if told.returncode == 0 and told.stdout.startswith("result,"):
+    if completed.returncode == 0 and completed.stdout.startswith("result,"):
         return
     with suppress(ValueError):
-        if told.returncode == 1 and json.loads(told.stdout).get("error") == "no_such_host":
+        if completed.returncode == 1 and json.loads(completed.stdout).get("error") == "no_such_host":
             return
-    said = (told.stderr or told.stdout).strip()
-    raise Fault(f"{program} does not accept it: {said} (status {told.returncode})")
+    message = (completed.stderr or completed.stdout).strip()
+    raise Fault(f"{program} does not accept it: {message} (status {completed.returncode})")
 
 
 def check(taken: Taken, program: Path | None) -> None:
@@ -100,8 +100,8 @@ def copy_tables(path: Path, target: Path, keep: int | None = None, program: Path
             try:
                 check(taken, program)
             except Fault as fault:
-                told = str(fault).removeprefix(f"{taken.path}: ").removesuffix(tables.TAKE_ANOTHER)
-                raise Fault(f"{path}: the copy was not good, and is not kept: {told}") from None
+                message = str(fault).removeprefix(f"{taken.path}: ").removesuffix(tables.TAKE_ANOTHER)
+                raise Fault(f"{path}: the copy was not good, and is not kept: {message}") from None
             with turn(folder, TURN_SECONDS):
                 name = target if folder != target else folder / copy_name(source, taken.moment)
                 place(taken, source, name)

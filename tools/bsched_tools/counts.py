@@ -52,7 +52,7 @@ class Counts:
     limits: dict[str, Limit] = field(default_factory=dict)  # of the tables that were named last
     bytes: int = 0
 
-    def said(self) -> dict[str, object]:
+    def as_fields(self) -> dict[str, object]:
         """Returns all counts, for JSON."""
         return {
             "schema": SCHEMA_NUMBER,
@@ -169,7 +169,7 @@ def as_lines(counts: Counts) -> Iterator[str]:
         rows.append((f"{name} used", f"{limit.used} of {limit.most} ({share} %)"))
     rows += [("bytes", str(counts.bytes)), ("schema", str(SCHEMA_NUMBER))]
     width = max(len(what) for what, _ in rows)
-    return (f"{what:{width}}  {told}" for what, told in rows)
+    return (f"{what:{width}}  {value}" for what, value in rows)
 
 
 def metric(name: str, help_text: str, samples: dict[str, object]) -> Iterator[str]:
@@ -202,4 +202,4 @@ def as_metrics(counts: Counts) -> Iterator[str]:
 
 def as_json(counts: Counts) -> Iterator[str]:
     """Yields the counts as one line of JSON."""
-    yield json.dumps(counts.said())
+    yield json.dumps(counts.as_fields())

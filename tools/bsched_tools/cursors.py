@@ -51,8 +51,8 @@ def former_mark(tables: Tables) -> str:
     unit = next(tables.rows("SELECT * FROM unit WHERE id = 1"), None)
     left_out = ("schema", "operator_key")
     settings = sorted(item for item in tables.settings.items() if item[0] not in left_out)
-    said = json.dumps([settings, unit[:-1] if unit else None])
-    return hashlib.sha256(said.encode()).hexdigest()[:32]
+    text = json.dumps([settings, unit[:-1] if unit else None])
+    return hashlib.sha256(text.encode()).hexdigest()[:32]
 
 
 def written(projects: dict[str, Given]) -> dict[str, object]:
@@ -75,16 +75,16 @@ class Cursor:
     def _read(self) -> None:
         """Reads the file."""
         try:
-            told: dict[str, Any] = json.loads(self.path.read_text())
-            if told["format"] not in (FORMAT, FORMER):
+            fields: dict[str, Any] = json.loads(self.path.read_text())
+            if fields["format"] not in (FORMAT, FORMER):
                 raise ValueError
-            given = self.projects if told["format"] == FORMAT else self.former
-            for mark, said in told["given"].items():
-                places = {int(unit): int(place) for unit, place in said["places"].items()}
-                given[mark] = Given(numbers_of(said["closed"]), places)
-            for mark, said in told.get("former", {}).items():
-                places = {int(unit): int(place) for unit, place in said["places"].items()}
-                self.former[mark] = Given(numbers_of(said["closed"]), places)
+            given = self.projects if fields["format"] == FORMAT else self.former
+            for mark, entry in fields["given"].items():
+                places = {int(unit): int(place) for unit, place in entry["places"].items()}
+                given[mark] = Given(numbers_of(entry["closed"]), places)
+            for mark, entry in fields.get("former", {}).items():
+                places = {int(unit): int(place) for unit, place in entry["places"].items()}
+                self.former[mark] = Given(numbers_of(entry["closed"]), places)
         except OSError as error:
             raise Fault(f"{self.path}: {error.strerror}") from None
         except (ValueError, KeyError, TypeError, AttributeError):
@@ -100,8 +100,8 @@ class Cursor:
 
     def write(self) -> None:
         """Writes the file, whole or not at all."""
-        told = {"format": FORMAT, "given": written(self.projects), "former": written(self.former)}
-        replace_file(self.path, [json.dumps(told).encode()])
+        fields = {"format": FORMAT, "given": written(self.projects), "former": written(self.former)}
+        replace_file(self.path, [json.dumps(fields).encode()])
 
     def why_nothing(self) -> str | None:
         """Returns why a run printed nothing, if it left results out."""

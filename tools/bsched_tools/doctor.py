@@ -85,9 +85,9 @@ def content_faults(path: Path) -> Iterator[str]:
         if fault := schema_fault(connection):
             yield without_log(path) if fault == EMPTY and not log_size(path) else fault
             return
-        told = [row[0] for row in connection.execute("PRAGMA integrity_check(5)")]
-        if told != ["ok"]:
-            yield f"SQLite finds: {' '.join('; '.join(told).split())}: {RESTORE}"
+        messages = [row[0] for row in connection.execute("PRAGMA integrity_check(5)")]
+        if messages != ["ok"]:
+            yield f"SQLite finds: {' '.join('; '.join(messages).split())}: {RESTORE}"
             return
         settings = dict(connection.execute("SELECT name, value FROM setting"))
         found = list(islice(wrong_rows(Tables(path, connection, moment_of(path), settings)), MOST_ROWS))
@@ -129,10 +129,10 @@ def settings_differences(tables: Path, settings: Path) -> Iterator[str]:
     """Yields each setting of a file that is not the one with which the tables were made. The tables count."""
     stored = stored_settings(Path(os.path.realpath(tables)))
     try:
-        told = tomllib.loads(settings.read_text(encoding="utf-8"))
+        values = tomllib.loads(settings.read_text(encoding="utf-8"))
     except (OSError, ValueError):
         return
-    for name, value in told.items():
+    for name, value in values.items():
         if stored is None or name not in stored or stored[name] == value:
             continue
         if name == "operator_key":

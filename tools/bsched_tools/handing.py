@@ -39,11 +39,13 @@ def handed_on(project: Project, settings: UnitSettings, names: dict[str, str]) -
     return f"{count} workunits were handed on"
 
 
-def run(words: list[str]) -> None:
+def run(command: list[str]) -> None:
     """Runs the program. Whatever it prints goes where the tool's own output goes."""
     try:
-        told = subprocess.run(words, stdin=subprocess.DEVNULL)
+        completed = subprocess.run(command, stdin=subprocess.DEVNULL)
     except OSError as error:
-        raise Fault(f"{words[0]}: {error.strerror}") from None
-    if told.returncode:
-        raise Fault(f"{words[0]}: status {told.returncode}: the same results come again at the next run")
+        raise Fault(f"{command[0]}: {error.strerror}") from None
+    if completed.returncode:
+        raise Fault(
+            f"{command[0]}: status {completed.returncode}: the same results come again at the next run"
+        )

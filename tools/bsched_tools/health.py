@@ -140,11 +140,11 @@ def certificate(project: Project, _settings: UnitSettings) -> Iterator[Finding]:
         with socket.create_connection((parts.hostname, parts.port or 443), SECONDS) as made:
             context = ssl.create_default_context()
             with context.wrap_socket(made, server_hostname=parts.hostname) as tls:
-                told = tls.getpeercert() or {}
+                fields = tls.getpeercert() or {}
     except OSError as error:
         yield Finding("certificate", Level.CRITICAL, f"{parts.hostname}: {reason_of(error)}")
         return
-    days = int((ssl.cert_time_to_seconds(str(told["notAfter"])) - time.time()) // DAY)
+    days = int((ssl.cert_time_to_seconds(str(fields["notAfter"])) - time.time()) // DAY)
     level = level_of(-days, -CERTIFICATE_DAYS[0], -CERTIFICATE_DAYS[1])
     yield Finding("certificate", level, f"that of {parts.hostname} is valid for {days} days")
 
@@ -180,12 +180,12 @@ def last_tick(name: str) -> Finding:
 
 def shown_by_systemd(unit: str, key: str) -> str | None:
     """Returns what systemd says about a unit; None if it can't be asked."""
-    words = ["systemctl", "show", "--value", f"--property={key}", unit]
+    command = ["systemctl", "show", "--value", f"--property={key}", unit]
     try:
-        told = subprocess.run(words, capture_output=True, text=True, timeout=SECONDS)
+        completed = subprocess.run(command, capture_output=True, text=True, timeout=SECONDS)
     except (OSError, subprocess.TimeoutExpired):
         return None
-    return told.stdout.strip() if told.returncode == 0 else None
+    return completed.stdout.strip() if completed.returncode == 0 else None
 
 
 def newest_copy(project: Project, settings: UnitSettings) -> Path | None:
@@ -213,15 +213,15 @@ def limits(project: Project, settings: UnitSettings) -> Iterator[Finding]:
     newest = newest_copy(project, settings)
     if newest is None:
         return
-    told = counted([newest])
-    for name, limit in told.limits.items():
+    counts = counted([newest])
+    for name, limit in counts.limits.items():
         share = limit.used / limit.most
         level = level_of(share, *USED_SHARE)
         if level is not Level.GOOD:
             advice = 'see "Limits" in docs/OPERATING.md'
             yield Finding("limits", level, f"{limit.used} of {limit.most} {name} are used: {advice}")
             return
-    name, limit = max(told.limits.items(), key=lambda item: item[1].used / item[1].most)
+    name, limit = max(counts.limits.items(), key=lambda item: item[1].used / item[1].most)
     yield Finding("limits", Level.GOOD, f"at most {100 * limit.used // limit.most} % are used ({name})")
 
 
@@ -303,9 +303,11 @@ def send(subject: str, lines: Iterable[str], to: str) -> None:
     text = "\n".join([f"To: {to}", f"Subject: [bsched] {subject}", "", *lines, ""])
     command = str(SENDMAIL)
     try:
-        told = subprocess.run([command, "-t"], input=text, text=True, capture_output=True, timeout=SECONDS)
+        completed = subprocess.run(
+            [command, "-t"], input=text, text=True, capture_output=True, timeout=SECONDS
+        )
     except (OSError, subprocess.TimeoutExpired) as error:
         reason = getattr(error, "strerror", None) or error
         raise Fault(f"{command}: {reason}: install a mailer, such as postfix or msmtp-mta") from None
-    if told.returncode:
-        raise Fault(f"{command}: status {told.returncode}: {told.stderr.strip()}")
+    if completed.returncode:
+        raise Fault(f"{command}: status {completed.returncode}: {completed.stderr.strip()}")

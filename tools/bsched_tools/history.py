@@ -40,8 +40,8 @@ class Entry:
 def entry_of(line: str) -> Entry | None:
     """Returns the entry in a line, or None if a stop left the line half written."""
     try:
-        told = json.loads(line)
-        return Entry(**told)
+        fields = json.loads(line)
+        return Entry(**fields)
     except (ValueError, KeyError, TypeError):
         return None
 
@@ -78,8 +78,8 @@ class History:
     def held_before(self) -> tuple[int, set[str]] | None:
         """Returns when the last report was, and which instances were held then."""
         try:
-            told: dict[str, Any] = json.loads(self.held_path.read_text())
-            return int(told["moment"]), set(told["held"])
+            fields: dict[str, Any] = json.loads(self.held_path.read_text())
+            return int(fields["moment"]), set(fields["held"])
         except (OSError, ValueError, KeyError, TypeError):
             return None
 
@@ -110,6 +110,6 @@ class History:
             self.turnaround(tables),
         )
         held = [f"{unit}.{num}" for unit, num in tables.rows(HELD)]
-        told = {"moment": tables.moment, "held": held, "entry": asdict(entry)}
-        replace_file(self.held_path, [json.dumps(told).encode()])
+        fields = {"moment": tables.moment, "held": held, "entry": asdict(entry)}
+        replace_file(self.held_path, [json.dumps(fields).encode()])
         self._append(entry)

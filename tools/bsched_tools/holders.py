@@ -59,13 +59,13 @@ def process_name(pid: int) -> str:
 def lock_of(pid: int, descriptor: str) -> str:
     """Returns the lock that an open file has on the bytes that SQLite locks: READ, WRITE, or empty."""
     try:
-        told = (PROC / str(pid) / "fdinfo" / descriptor).read_text()
+        text = (PROC / str(pid) / "fdinfo" / descriptor).read_text()
     except OSError:
         return ""
     last = LOCKS_START + LOCKS_LENGTH - 1
     kinds = {
         kind
-        for kind, start, end in LOCK.findall(told)
+        for kind, start, end in LOCK.findall(text)
         if int(start) <= last and (end == "EOF" or int(end) >= LOCKS_START)
     }
     return "WRITE" if "WRITE" in kinds else "READ" if kinds else ""

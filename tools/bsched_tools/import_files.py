@@ -90,8 +90,8 @@ def whole(least: int | str, most: int | str) -> Check:
         """Checks a number."""
         ends: list[int] = []
         for end in (least, most):
-            told = row[WORKUNIT_COLUMNS.index(end)] if isinstance(end, str) else str(end)
-            ends.append(int(told) if COUNT.fullmatch(told) else 0)
+            limit = row[WORKUNIT_COLUMNS.index(end)] if isinstance(end, str) else str(end)
+            ends.append(int(limit) if COUNT.fullmatch(limit) else 0)
         if COUNT.fullmatch(value) and ends[0] <= int(value) <= ends[1]:
             return None
         low = f"{least}, which is {ends[0]}," if isinstance(least, str) else least
@@ -184,19 +184,21 @@ def header_fault(row: Row, kind: Kind | None) -> str | None:
     """Returns what is wrong with a header, or None."""
     if kind is not None and row.fields in kind.headers():
         return None
-    said = f"line {row.line}: "
+    where = f"line {row.line}: "
     for other, name in ((";", "semicolons"), ("\t", "tabs")):
         if len(row.fields) == 1 and other in row.fields[0]:
-            return f"{said}{name} separate the fields: write commas"
+            return f"{where}{name} separate the fields: write commas"
     headers = [",".join(header) for one in ([kind] if kind else KINDS.values()) for header in one.headers()]
     if kind is None:
-        return f"{said}the first line must name the columns: {' or '.join(headers)}"
+        return f"{where}the first line must name the columns: {' or '.join(headers)}"
     for header in kind.headers():
         if len(row.fields) == len(header):
-            at = next(at for at, (told, name) in enumerate(zip(row.fields, header)) if told != name)
-            return f"{said}column {at + 1} is {shown(row.fields[at])}, and must be {header[at]!r}"
+            at = next(at for at, (field, name) in enumerate(zip(row.fields, header)) if field != name)
+            return f"{where}column {at + 1} is {shown(row.fields[at])}, and must be {header[at]!r}"
     wanted = " or ".join(str(len(header)) for header in kind.headers())
-    return f"{said}there are {len(row.fields)} columns, and {kind.name} have {wanted}: {' or '.join(headers)}"
+    return (
+        f"{where}there are {len(row.fields)} columns, and {kind.name} have {wanted}: {' or '.join(headers)}"
+    )
 
 
 def row_faults(row: Row, header: list[str], kind: Kind) -> Iterator[str]:

@@ -81,19 +81,19 @@ class Sender:
     def answer(self, kind: str, batch: Batch) -> dict[str, Any]:
         """Returns the answer to a batch. If the scheduler is unavailable, the batch is sent again, some
         times."""
-        said: dict[str, Any] = {"error": NO_SCHEDULER}
+        answer: dict[str, Any] = {"error": NO_SCHEDULER}
         for attempt in range(ATTEMPTS):
             if attempt:
                 time.sleep(PAUSE_SECONDS)
             try:
-                said = self.by_http(kind, batch)
+                answer = self.by_http(kind, batch)
             except ConnectionRefusedError:
-                said = self.by_program(kind, batch)
+                answer = self.by_program(kind, batch)
             except (OSError, http.client.HTTPException):
                 continue
-            if said.get("error") != NO_SCHEDULER:
+            if answer.get("error") != NO_SCHEDULER:
                 break
-        return said
+        return answer
 
     def by_http(self, kind: str, batch: Batch) -> dict[str, Any]:
         """Returns the answer of the scheduler."""
@@ -111,10 +111,10 @@ class Sender:
         with tempfile.NamedTemporaryFile(prefix="bsched-import-") as file:
             file.write(batch.text)
             file.flush()
-            words = ["import", "--tables", str(self.project.tables), "--kind", kind, "--batch", batch.name]
+            args = ["import", "--tables", str(self.project.tables), "--kind", kind, "--batch", batch.name]
             try:
-                told = subprocess.run(
-                    [str(PROGRAM), *words, "--file", file.name],
+                completed = subprocess.run(
+                    [str(PROGRAM), *args, "--file", file.name],
                     capture_output=True,
                     text=True,
                     timeout=10 * ANSWER_SECONDS,
@@ -122,29 +122,29 @@ class Sender:
                 )
             except (OSError, subprocess.TimeoutExpired) as error:
                 raise Fault(f"{PROGRAM}: {getattr(error, 'strerror', None) or error}") from None
-        if not told.stdout:
+        if not completed.stdout:
             tables = self.project.tables
             raise Fault(
                 f"{tables}: no scheduler answers on port {self.project.port()}, and the program says "
-                f"`{told.stderr.strip()}`: run `bsched-tools doctor --project {self.project.name}`"
+                f"`{completed.stderr.strip()}`: run `bsched-tools doctor --project {self.project.name}`"
             )
-        return read_answer(told.stdout, str(PROGRAM))
+        return read_answer(completed.stdout, str(PROGRAM))
 
 
 def read_answer(text: str, who: str) -> dict[str, Any]:
     """Returns an answer of bsched."""
     try:
-        said = json.loads(text)
-        if isinstance(said, dict) and ("error" in said or "rows" in said):
-            return said
+        answer = json.loads(text)
+        if isinstance(answer, dict) and ("error" in answer or "rows" in answer):
+            return answer
     except ValueError:
         pass
     raise Fault(f"{who}: this is no answer of bsched: {text[:100]!r}")
 
 
-def refusal_text(said: dict[str, Any], file: ImportFile, batch: Batch) -> str:
+def refusal_text(answer: dict[str, Any], file: ImportFile, batch: Batch) -> str:
     """Returns what a refusal means, with the line of the file."""
-    error, number = said["error"], said.get("row")
+    error, number = answer["error"], answer.get("row")
     row = batch.rows[number - 1] if isinstance(number, int) and 1 <= number <= len(batch.rows) else None
     where = "" if row is None else f"line {row.line}: "
     if row is not None and error == "duplicate_name":
@@ -164,9 +164,9 @@ def imported(project: Project, file: ImportFile, name: str | None = None) -> Ite
     sender, batches = Sender(project), list(batches_of(file, name))
     done = 0
     for batch in batches:
-        said = sender.answer(file.kind.name, batch)
-        if "error" in said:
+        answer = sender.answer(file.kind.name, batch)
+        if "error" in answer:
             kept = f" ({done} rows before it are imported)" if done else ""
-            raise Fault(f"{file.path}: {refusal_text(said, file, batch)}{kept}")
-        done += int(said["rows"])
-        yield f"{file.path}: {said['rows']} rows of {file.kind.name}, as the batch {batch.name}"
+            raise Fault(f"{file.path}: {refusal_text(answer, file, batch)}{kept}")
+        done += int(answer["rows"])
+        yield f"{file.path}: {answer['rows']} rows of {file.kind.name}, as the batch {batch.name}"

@@ -54,8 +54,8 @@ class Given:
         ]
         if one.output is not None:
             what = "output" if one.outcome == SUCCESS else "the client says"
-            told = one.text.splitlines() or ["(nothing)"]
-            lines += [f"  {what}: {told[0]}", *(f"    {line}" for line in told[1:])]
+            text_lines = one.text.splitlines() or ["(nothing)"]
+            lines += [f"  {what}: {text_lines[0]}", *(f"    {line}" for line in text_lines[1:])]
         return lines
 
 
@@ -112,8 +112,8 @@ def workunit_lines(tables: Tables, name: str) -> Iterator[str]:
         raise Fault(f"{tables.path}: there is no workunit {name}")
     given, best = given_of(tables, unit)
     _, own, app, _, quorum, credit, status, marked, version_class = unit
-    said = {OPEN: "open", DONE: "done"}.get(status) or f"failed: too many {REASONS.get(status, 'faults')}"
-    yield f"workunit {own} of the application {app}: {said}"
+    outcome = {OPEN: "open", DONE: "done"}.get(status) or f"failed: too many {REASONS.get(status, 'faults')}"
+    yield f"workunit {own} of the application {app}: {outcome}"
     if marked:
         yield f"it keeps to one class of versions: {version_class or 'none yet'}"
     yield f"needs {quorum} successes, and gives {credit_text(credit)} credit for each valid result"

@@ -54,14 +54,14 @@ def moment_text(moment: int) -> str:
 
 def table(header: Sequence[str], rows: Iterable[Sequence[Cell]]) -> str:
     """Returns a table. Numbers are aligned to the right."""
-    told = [list(row) for row in rows]
-    if not told:
+    body_rows = [list(row) for row in rows]
+    if not body_rows:
         return "<p>None.</p>\n"
-    is_number = [all(isinstance(row[at], int) for row in told) for at in range(len(header))]
+    is_number = [all(isinstance(row[at], int) for row in body_rows) for at in range(len(header))]
     kinds = [' class="number"' if one else "" for one in is_number]
     head = "".join(f'<th scope="col"{kind}>{escape(cell)}</th>' for kind, cell in zip(kinds, header))
     body = ""
-    for row in told:
+    for row in body_rows:
         cells = (f"<td{kind}>{escape(str(cell))}</td>" for kind, cell in zip(kinds, row))
         body += f"<tr>{''.join(cells)}</tr>\n"
     head = f"<thead><tr>{head}</tr></thead>"
@@ -80,8 +80,8 @@ def hidden(numbers: str) -> str:
 
 def figure(svg: str, caption: str, numbers: str) -> str:
     """Returns a plot with its numbers."""
-    said = f"<figcaption>{escape(caption)}</figcaption>\n" if caption else ""
-    return f"<figure>\n{svg}\n{said}</figure>\n{hidden(numbers)}"
+    caption_line = f"<figcaption>{escape(caption)}</figcaption>\n" if caption else ""
+    return f"<figure>\n{svg}\n{caption_line}</figure>\n{hidden(numbers)}"
 
 
 # ---- The parts
@@ -112,8 +112,8 @@ def counts_part(counts: Counts, entries: list[Entry]) -> str:
     when = f"since {moment_text(older.moment)}" if older else "within a day"
     parts = [table(("what", "number", when), rows)]
     if counts.calls_unknown:
-        said = "no copy that is a day older can be read"
-        parts.append(f"<p>How many hosts called in the last day is unknown: {said}.</p>\n")
+        reason = "no copy that is a day older can be read"
+        parts.append(f"<p>How many hosts called in the last day is unknown: {reason}.</p>\n")
     return section("Counts", *parts)
 
 
@@ -162,8 +162,8 @@ def turnaround_part(entries: list[Entry], moment: int) -> str:
     labels = [f"{hours} h" if hours < 24 else f"{hours // 24} d" for hours in TURNAROUND_HOURS] + ["more"]
     if not any(numbers):
         return section("Turnaround", "<p>No result was reported between two reports so far.</p>\n")
-    said = ", ".join(f"{label} {number}" for label, number in zip(labels, numbers))
-    text = f"Turnaround of {sum(numbers)} results, from sending to report, at most: {said}."
+    shares = ", ".join(f"{label} {number}" for label, number in zip(labels, numbers))
+    text = f"Turnaround of {sum(numbers)} results, from sending to report, at most: {shares}."
     svg = plots.columns("turnaround", text, labels, numbers, "from sending to report, at most")
     caption = "Of results of the last 30 days, from sending to the first copy with the report."
     return section("Turnaround", figure(svg, caption, table(("at most", "results"), zip(labels, numbers))))
@@ -214,8 +214,8 @@ def marked_part(tables: Tables) -> str:
     rows = [(name or "none yet", units, waiting) for name, units, waiting in marked_by_class(tables)]
     parts = [table(("class", "open workunits", "instances that wait"), rows)]
     if stuck := stuck_workunits(tables):
-        said = "These wait for a class that no newest version has: import a version of the class."
-        parts += [f'<p class="warn">{said}</p>\n', table(("workunit", "class"), stuck)]
+        warning = "These wait for a class that no newest version has: import a version of the class."
+        parts += [f'<p class="warn">{warning}</p>\n', table(("workunit", "class"), stuck)]
     return section("Marked workunits", *parts)
 
 

@@ -37,15 +37,15 @@ class UnitSettings:
 class Table:
     """A table of a TOML file. Each key is taken once, and a key that is left over is a fault."""
 
-    def __init__(self, path: Path, name: str, said: Any) -> None:
-        if not isinstance(said, dict):
+    def __init__(self, path: Path, name: str, fields: Any) -> None:
+        if not isinstance(fields, dict):
             raise Fault(f"{path}: {name} is not a table [{name}]")
-        self.path, self.name, self.said, self.known = path, name, said, set[str]()
+        self.path, self.name, self.fields, self.known = path, name, fields, set[str]()
 
     def taken(self, key: str, default: Any, kinds: str) -> Any:
         """Returns the value of a key, which is of the kind of its default."""
         self.known.add(key)
-        value = self.said.get(key, default)
+        value = self.fields.get(key, default)
         if type(value) is not type(default):
             raise Fault(f"{self.path}: [{self.name}] {key} is {value!r}, and must be {kinds}")
         return value
@@ -63,7 +63,7 @@ class Table:
 
     def end(self) -> None:
         """Refuses the keys that nobody took."""
-        for key in sorted(self.said.keys() - self.known):
+        for key in sorted(self.fields.keys() - self.known):
             close = difflib.get_close_matches(key, self.known, 1)
             advice = f": is {close[0]} meant?" if close else f"; the keys are {', '.join(sorted(self.known))}"
             raise Fault(f"{self.path}: [{self.name}] {key} is not known{advice}")
@@ -121,34 +121,34 @@ class Project:
     @property
     def title(self) -> str:
         """The name of the project for people: that of its bridge, or that of its folder."""
-        said = toml_of(self.bridge_file).get("name") if self.bridge_file.exists() else None
-        return said if isinstance(said, str) and said.strip() else self.name
+        name = toml_of(self.bridge_file).get("name") if self.bridge_file.exists() else None
+        return name if isinstance(name, str) and name.strip() else self.name
 
     @property
     def url(self) -> str | None:
         """The master URL, or None if there is no bridge."""
-        said = toml_of(self.bridge_file).get("url") if self.bridge_file.exists() else None
-        return said if isinstance(said, str) else None
+        url = toml_of(self.bridge_file).get("url") if self.bridge_file.exists() else None
+        return url if isinstance(url, str) else None
 
     @property
     def uploads(self) -> Path | None:
         """The bridge's folder of uploads, or None if there is none."""
-        said = toml_of(self.bridge_file).get("uploads") if self.bridge_file.exists() else None
-        folder = said.get("folder") if isinstance(said, dict) else None
+        name = toml_of(self.bridge_file).get("uploads") if self.bridge_file.exists() else None
+        folder = name.get("folder") if isinstance(name, dict) else None
         path = self.bridge_file.parent / folder if isinstance(folder, str) else None
         return path if path is not None and (path / "uploads.db").exists() else None
 
     @property
     def bridge_state(self) -> Path | None:
         """The state file of the bridge, or None if there is no bridge."""
-        said = toml_of(self.bridge_file).get("state") if self.bridge_file.exists() else None
-        return self.bridge_file.parent / said if isinstance(said, str) else None
+        file = toml_of(self.bridge_file).get("state") if self.bridge_file.exists() else None
+        return self.bridge_file.parent / file if isinstance(file, str) else None
 
     @property
     def archives(self) -> list[Path]:
         """The earlier files of the project, which its bridge names."""
-        said = toml_of(self.bridge_file).get("archives", []) if self.bridge_file.exists() else []
-        return [self.bridge_file.parent / name for name in said if isinstance(name, str)]
+        names = toml_of(self.bridge_file).get("archives", []) if self.bridge_file.exists() else []
+        return [self.bridge_file.parent / name for name in names if isinstance(name, str)]
 
     def port(self, name: str = "PORT") -> int:
         """Returns a port: PORT is that of the scheduler, BRIDGE_PORT that of the bridge."""
@@ -166,11 +166,11 @@ class Project:
     def units(self) -> UnitSettings:
         """Reads `units.toml`. What it does not say has its default."""
         path = self.folder / "units.toml"
-        said = toml_of(path) if path.exists() else {}
+        tables_of_file = toml_of(path) if path.exists() else {}
         copy, results, page, statistics, health = (
-            Table(path, name, said.pop(name, {})) for name in UNIT_TABLES
+            Table(path, name, tables_of_file.pop(name, {})) for name in UNIT_TABLES
         )
-        for name in said:
+        for name in tables_of_file:
             raise Fault(f"{path}: {name} is not known: the tables are {', '.join(UNIT_TABLES)}")
         command = results.taken("command", [], "a list of texts")
         if not all(isinstance(word, str) for word in command):

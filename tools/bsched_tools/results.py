@@ -75,11 +75,11 @@ def member_of(result: Result) -> dict[str, object]:
 def as_json(line: Line) -> str:
     """Returns a workunit as a line of JSON."""
     unit = line.workunit
-    said: dict[str, object] = {"workunit": unit.name, "app": unit.app, "late": line.is_late}
+    fields: dict[str, object] = {"workunit": unit.name, "app": unit.app, "late": line.is_late}
     if unit.reason:
-        said |= {"status": "failed", "reason": unit.reason}
+        fields |= {"status": "failed", "reason": unit.reason}
     else:
-        said |= {
+        fields |= {
             "status": "done",
             "millicredits": unit.millicredits,
             "canonical": unit.canonical,
@@ -88,8 +88,8 @@ def as_json(line: Line) -> str:
             "invalid": [member_of(one) for one in unit.results if not one.is_valid],
         }
         if line.files is not None:
-            said["files"] = [file.as_member() for file in line.files]
-    return f"{json.dumps(said, ensure_ascii=False)}\n"
+            fields["files"] = [file.as_member() for file in line.files]
+    return f"{json.dumps(fields, ensure_ascii=False)}\n"
 
 
 def lines_of(tables: Tables, after: int, given: Given | None) -> Iterator[Line]:

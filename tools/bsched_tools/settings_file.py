@@ -45,7 +45,7 @@ def settings_faults(path: Path) -> Iterator[str]:
     """Yields everything that is wrong with a file of settings."""
     try:
         text = path.read_text(encoding="utf-8")
-        told = tomllib.loads(text)
+        settings = tomllib.loads(text)
     except OSError as error:
         yield str(error.strerror)
         return
@@ -55,10 +55,10 @@ def settings_faults(path: Path) -> Iterator[str]:
     except tomllib.TOMLDecodeError as error:
         yield f"it is not TOML: {error}"
         return
-    for name in sorted(told.keys() - KEYS):
+    for name in sorted(settings.keys() - KEYS):
         yield f"{line_of(text, name)}{name} is not a setting: remove it"
-    for name in sorted(KEYS - told.keys()):
+    for name in sorted(KEYS - settings.keys()):
         yield f"{name} is missing"
-    for name in sorted(KEYS & told.keys()):
-        if fault := value_fault(name, told[name]):
-            yield f"{line_of(text, name)}{name} is {shown(name, told[name])}: {fault}"
+    for name in sorted(KEYS & settings.keys()):
+        if fault := value_fault(name, settings[name]):
+            yield f"{line_of(text, name)}{name} is {shown(name, settings[name])}: {fault}"

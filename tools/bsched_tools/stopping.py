@@ -65,8 +65,8 @@ def threads_of(process: Process) -> Threads:
     try:
         for thread in os.listdir(folder):
             with open(f"{folder}/{thread}/status", errors="replace") as status:
-                told = status.read()
-            states[thread] = re.findall(r"^State:\s+(\w)", told, re.MULTILINE)[0], SWITCHES.findall(told)
+                text = status.read()
+            states[thread] = re.findall(r"^State:\s+(\w)", text, re.MULTILINE)[0], SWITCHES.findall(text)
     except (FileNotFoundError, ProcessLookupError):
         return {}
     return states

@@ -59,15 +59,17 @@ def faults_of(path: Path) -> Iterator[None]:
     try:
         yield
     except sqlite3.Error as error:
-        told = str(error)
-        if "locked" in told:
-            told = f"a program has it: run `bsched-tools copy --tables {path} --to FOLDER`, and read the copy"
-        elif "malformed" in told or "not a database" in told:
-            told = f"it is spoiled or cut off ({told}){TAKE_ANOTHER}"
-        elif "unable to open" in told or "readonly" in told:
+        message = str(error)
+        if "locked" in message:
+            message = (
+                f"a program has it: run `bsched-tools copy --tables {path} --to FOLDER`, and read the copy"
+            )
+        elif "malformed" in message or "not a database" in message:
+            message = f"it is spoiled or cut off ({message}){TAKE_ANOTHER}"
+        elif "unable to open" in message or "readonly" in message:
             next_step = "check the permissions of the file and its folder"
-            told = f"it can't be opened for reading ({told}): {next_step}"
-        raise Fault(f"{path}: {told}") from None
+            message = f"it can't be opened for reading ({message}): {next_step}"
+        raise Fault(f"{path}: {message}") from None
 
 
 def moment_of(path: Path) -> int:
@@ -200,8 +202,8 @@ def project_mark(tables: Tables) -> str:
     settings = sorted(item for item in tables.settings.items() if item[0] not in left_out)
     unit = next(tables.rows("SELECT * FROM unit WHERE id = 1"), None)
     host = next(tables.rows(FIRST_HOST), None)
-    said = json.dumps([settings, unit[:-1] if unit else None, host, tables.number(FIRST_SENT)])
-    return hashlib.sha256(said.encode()).hexdigest()[:32]
+    text = json.dumps([settings, unit[:-1] if unit else None, host, tables.number(FIRST_SENT)])
+    return hashlib.sha256(text.encode()).hexdigest()[:32]
 
 
 @contextmanager

@@ -26,18 +26,18 @@ def command_of_bridge() -> list[str]:
     return [installed] if installed else [sys.executable, "-m", "bsched_bridge"]
 
 
-def asked_of_bridge(words: list[str]) -> str:
+def asked_of_bridge(args: list[str]) -> str:
     """Returns what a command of the bridge prints."""
-    command = [*command_of_bridge(), *words]
+    command = [*command_of_bridge(), *args]
     try:
-        told = subprocess.run(
+        completed = subprocess.run(
             command, capture_output=True, text=True, timeout=SECONDS, stdin=subprocess.DEVNULL
         )
     except (OSError, subprocess.TimeoutExpired) as error:
         raise Fault(f"{command[0]}: {getattr(error, 'strerror', None) or error}") from None
-    if told.returncode:
-        raise Fault(f"{command[0]} {words[0]}: {told.stderr.strip()}")
-    return told.stdout
+    if completed.returncode:
+        raise Fault(f"{command[0]} {args[0]}: {completed.stderr.strip()}")
+    return completed.stdout
 
 
 def volunteers_of(project: Project) -> Volunteers:
@@ -45,8 +45,8 @@ def volunteers_of(project: Project) -> Volunteers:
     state = project.bridge_state
     if state is None or not state.exists():
         return Volunteers()
-    told = asked_of_bridge(["consented", "--config", str(project.bridge_file), "--json"])
-    rows = [json.loads(line) for line in told.splitlines()]
+    output = asked_of_bridge(["consented", "--config", str(project.bridge_file), "--json"])
+    rows = [json.loads(line) for line in output.splitlines()]
     return Volunteers(
         frozenset(row["authenticator"] for row in rows if not row["is_deleted"]),
         {row["authenticator"]: row["name"] for row in rows},

@@ -1,21 +1,10 @@
 """What the tests share."""
 import subprocess
-import sys
 from collections.abc import Iterator
 from pathlib import Path
 
 import pytest
-from hypothesis import settings
-
-sys.dont_write_bytecode = True
-TOOLS = Path(__file__).resolve().parent.parent
-sys.path[:0] = [str(TOOLS), str(TOOLS.parent / "bench"), str(TOOLS / "tests")]
-
-# a busy machine may take any time for an example
-settings.register_profile("without deadlines", deadline=None)
-settings.load_profile("without deadlines")
-
-from small_project import Twin, make_tables  # noqa: E402
+from small_project import Twin, make_tables
 
 
 @pytest.fixture
@@ -45,8 +34,8 @@ def small_disk(tmp_path: Path) -> Iterator[Path]:
     """Mounts a file system with little room."""
     folder = tmp_path / "small"
     folder.mkdir()
-    words = ["mount", "-t", "tmpfs", "-o", "size=64k", "tmpfs", str(folder)]
-    if subprocess.run(words, capture_output=True).returncode:
+    command = ["mount", "-t", "tmpfs", "-o", "size=64k", "tmpfs", str(folder)]
+    if subprocess.run(command, capture_output=True).returncode:
         pytest.skip("no file system may be mounted")
     yield folder
     subprocess.run(["umount", folder], check=True)

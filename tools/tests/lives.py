@@ -60,13 +60,13 @@ def stored_life(lived: bench_project.Project, path: Path) -> Path:
 def decided_by(lived: bench_project.Project) -> list[tuple[Any, ...]]:
     """Returns what the plain scheduler says about workunits that are done or have failed: for each its name,
     the reason or the canonical result, and the verdicts."""
-    machine, told = lived.service.machine, []
+    machine, decided = lived.service.machine, []
     for unit in machine.places:
         if unit.failed():
-            told.append((unit.name, unit.status, None, None, {}))
+            decided.append((unit.name, unit.status, None, None, {}))
         elif unit.status == "done":
             good = [one for one in unit.judged if one.exit_status == 0]
             best = plain.canonical(machine.rows["apps"][unit.app], unit, good)
             verdicts = {one.name(): one.verdict for one in unit.instances if one.verdict is not None}
-            told.append((unit.name, None, best.name(), best.output, verdicts))
-    return told
+            decided.append((unit.name, None, best.name(), best.output, verdicts))
+    return decided

@@ -1,9 +1,9 @@
 """A project's folder for the tests, as bsched-project makes it, with the twin in place of bsched."""
 import socket
 import subprocess
-import time
 from pathlib import Path
 
+from served import free_port, start, stop
 from small_project import KEY, TOOLS, make_tables, request, tools
 
 TWIN = TOOLS.parent / "bridge" / "trial" / "twin"
@@ -17,12 +17,6 @@ request_delay = 60
 resend_lost_results = true
 """
 CALL_SECONDS = 30
-
-
-def free_port() -> int:
-    """Returns a port that is free."""
-    with socket.create_server(("127.0.0.1", 0)) as made:
-        return int(made.getsockname()[1])
 
 
 class MadeProject:
@@ -40,21 +34,13 @@ class MadeProject:
 
     def serve(self) -> None:
         """Starts the scheduler."""
-        words = ["serve", "--tables", str(self.folder / "project.db"), "--port", str(self.port)]
-        self.scheduler = subprocess.Popen([str(TWIN), *words, "--count", "1000000"])
-        until = time.monotonic() + CALL_SECONDS
-        while time.monotonic() < until:
-            with socket.socket() as tried:
-                if tried.connect_ex(("127.0.0.1", self.port)) == 0:
-                    return
-            time.sleep(0.1)
-        raise AssertionError("the twin does not serve")
+        args = ["serve", "--tables", str(self.folder / "project.db"), "--port", str(self.port)]
+        self.scheduler = start([TWIN, *args, "--count", "1000000"], self.port, CALL_SECONDS)
 
     def end(self) -> None:
         """Kills the scheduler."""
         if self.scheduler is not None:
-            self.scheduler.kill()
-            self.scheduler.wait()
+            stop(self.scheduler)
             self.scheduler = None
 
     def call(self, user: int, seqno: int, host: str = "h", **more: object) -> bytes:
@@ -63,11 +49,11 @@ class MadeProject:
         head = f"POST /scheduler HTTP/1.1\r\nhost: x\r\ncontent-length: {len(body)}\r\n\r\n"
         with socket.create_connection(("127.0.0.1", self.port), CALL_SECONDS) as made:
             made.sendall(head.encode() + body)
-            told = b""
+            received = b""
             while part := made.recv(65536):
-                told += part
-        return told.partition(b"\r\n\r\n")[2]
+                received += part
+        return received.partition(b"\r\n\r\n")[2]
 
-    def tools(self, command: str, *words: object) -> tuple[int, str, str]:
+    def tools(self, command: str, *args: object) -> tuple[int, str, str]:
         """Runs a command of the tools for this project."""
-        return tools(command, "--project", f"{self.folder}/", *words)
+        return tools(command, "--project", f"{self.folder}/", *args)

@@ -69,16 +69,16 @@ class Twin:
     """The plain twin, which serves tables in another process."""
 
     def __init__(self, path: Path) -> None:
-        words = [sys.executable, str(BENCH / "plain_tables.py"), str(path), "0"]
-        self.process = subprocess.Popen(words, stdout=subprocess.PIPE, text=True)
+        command = [sys.executable, str(BENCH / "plain_tables.py"), str(path), "0"]
+        self.process = subprocess.Popen(command, stdout=subprocess.PIPE, text=True)
         self.port = int(self.process.stdout.readline())
 
     def call(self, user: int, seqno: int, **more: Any) -> Any:
         """Returns the reply to a call."""
         url = f"http://127.0.0.1:{self.port}/scheduler"
         message = urllib.request.Request(url, request(user, seqno, **more))
-        with urllib.request.urlopen(message, timeout=END) as told:
-            return json.load(told)
+        with urllib.request.urlopen(message, timeout=END) as response:
+            return json.load(response)
 
     def end(self) -> None:
         """Kills the process."""
@@ -86,12 +86,14 @@ class Twin:
         self.process.communicate(timeout=END)
 
 
-def tools(*words: object, seconds: float = 60) -> tuple[int, str, str]:
+def tools(*args: object, seconds: float = 60) -> tuple[int, str, str]:
     """Runs the tools, and returns their status and what they print."""
-    command = [sys.executable, "-m", "bsched_tools", *map(str, words)]
+    command = [sys.executable, "-m", "bsched_tools", *map(str, args)]
     own = {"PYTHONPATH": f"{TOOLS}:{TOOLS.parent / 'bridge'}", "PYTHONDONTWRITEBYTECODE": "1"}
-    told = subprocess.run(command, capture_output=True, text=True, timeout=seconds, env={**os.environ, **own})
-    return told.returncode, told.stdout, told.stderr
+    completed = subprocess.run(
+        command, capture_output=True, text=True, timeout=seconds, env={**os.environ, **own}
+    )
+    return completed.returncode, completed.stdout, completed.stderr
 
 
 def rows_of(path: Path, query: str) -> list[Any]:

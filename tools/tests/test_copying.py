@@ -51,8 +51,10 @@ class Load:
     """Clients that call all the time."""
 
     def __init__(self, twin: Twin, users: int = 3) -> None:
-        self.twin, self.told, self.is_over = twin, dict.fromkeys(range(1, users + 1), 0), False
-        self.threads = [threading.Thread(target=self.live, args=(user,), daemon=True) for user in self.told]
+        self.twin, self.answered, self.is_over = twin, dict.fromkeys(range(1, users + 1), 0), False
+        self.threads = [
+            threading.Thread(target=self.live, args=(user,), daemon=True) for user in self.answered
+        ]
         for thread in self.threads:
             thread.start()
 
@@ -61,7 +63,7 @@ class Load:
         while not self.is_over:
             seqno += 1
             self.twin.call(user, seqno)
-            self.told[user] = seqno
+            self.answered[user] = seqno
 
     def end(self) -> None:
         self.is_over = True
@@ -74,9 +76,9 @@ def test_copies_under_load_have_what_was_answered(project: Path, twin: Twin, cop
     load = Load(twin)
     try:
         for _ in range(15):
-            answered = dict(load.told)
+            answered = dict(load.answered)
             copied = copying.copy_tables(project, copies)
-            sent = {user: seqno + 1 for user, seqno in load.told.items()}
+            sent = {user: seqno + 1 for user, seqno in load.answered.items()}
             heard = {int(auth[1:]): seqno for auth, seqno in rows_of(copied.path, SEQNOS)}
             for user, seqno in answered.items():
                 assert seqno <= heard.get(user, 0) <= sent[user]
@@ -162,9 +164,9 @@ def test_times_of_whole_seconds_are_not_trusted_soon(project: Path) -> None:
 
 def killed_after(seconds: float, project: Path, copies: Path) -> None:
     """Begins a copy, and kills it after this many seconds."""
-    words = [sys.executable, "-m", "bsched_tools", "copy", "--tables", str(project), "--to", str(copies)]
+    command = [sys.executable, "-m", "bsched_tools", "copy", "--tables", str(project), "--to", str(copies)]
     path = {"PYTHONPATH": str(TOOLS)}
-    with subprocess.Popen(words, env=path, stdout=subprocess.DEVNULL) as copier:
+    with subprocess.Popen(command, env=path, stdout=subprocess.DEVNULL) as copier:
         time.sleep(seconds)
         copier.kill()
 
@@ -185,9 +187,9 @@ def test_serving_goes_on_where_the_tool_is_killed_while_it_stands_still(project:
         "    print('still', flush=True); time.sleep(60)\n"
     )
     for end in (signal.SIGKILL, signal.SIGTERM, signal.SIGINT):
-        words = [sys.executable, "-c", script]
+        command = [sys.executable, "-c", script]
         pipes = {"stdout": subprocess.PIPE, "stderr": subprocess.DEVNULL}
-        with subprocess.Popen(words, env={"PYTHONPATH": str(TOOLS)}, **pipes) as stopper:
+        with subprocess.Popen(command, env={"PYTHONPATH": str(TOOLS)}, **pipes) as stopper:
             assert stopper.stdout.readline() == b"still\n"
             assert state_of(twin.process.pid) == "T"
             stopper.send_signal(end)
@@ -243,8 +245,8 @@ def test_locks_of_open_files(project: Path, copies: Path) -> None:
     """bsched locks the file and its log with locks of the kind that names no process."""
     log = project.with_name("project.db-wal")
     log.write_bytes(b"")
-    words = [sys.executable, "-c", LIKE_THE_PROGRAM, str(project), str(log)]
-    with subprocess.Popen(words, env={"PYTHONPATH": str(TOOLS)}, stdout=subprocess.PIPE) as holder:
+    command = [sys.executable, "-c", LIKE_THE_PROGRAM, str(project), str(log)]
+    with subprocess.Popen(command, env={"PYTHONPATH": str(TOOLS)}, stdout=subprocess.PIPE) as holder:
         try:
             assert holder.stdout.readline() == b"locked\n"
             identity = holders.identity_of(project)
@@ -301,13 +303,13 @@ def test_nobody_begins_while_a_copy_is_made(
 ) -> None:
     rest, tried = taking.Work.copy_rest, []
 
-    def tries_to_begin(work: taking.Work, *words: Any) -> bytes:
+    def tries_to_begin(work: taking.Work, *args: Any) -> bytes:
         with pytest.raises(sqlite3.OperationalError, match="locked"):
             sqlite3.connect(project, timeout=0).execute("UPDATE setting SET value = 1")
         with open(project, "rb+") as file:  # as bsched does
             assert not taking.lock(file.fileno())
         tried.append(True)
-        return rest(work, *words)
+        return rest(work, *args)
 
     monkeypatch.setattr(taking.Work, "copy_rest", tries_to_begin)
     copying.copy_tables(project, copies)
@@ -409,7 +411,7 @@ def test_the_holder_is_looked_at_again_while_it_stands_still(
     with pytest.raises(taking.Retry, match="was made meanwhile"):
         taking.check_holder(source, holder, None)
     with monkeypatch.context() as patched:
-        patched.setattr(holders, "lock_of", lambda *_words: "READ")
+        patched.setattr(holders, "lock_of", lambda *_args: "READ")
         with pytest.raises(taking.Retry, match="gave up the file"):
             taking.check_holder(source, holder, 3)
     os.rename(project, project.with_name("moved.db"))
@@ -429,7 +431,7 @@ def test_a_link_in_the_place_of_a_copy_is_not_followed(tmp_path: Path) -> None:
         copies_module.give_to(tmp_path / "hard", target.stat())
 
 
-def test_a_copy_whose_name_lies_in_the_future_is_told(
+def test_a_copy_whose_name_lies_in_the_future_is_named(
     project: Path,
     copies: Path,
     capsys: pytest.CaptureFixture[str],
@@ -469,7 +471,7 @@ def test_a_bad_copy_removes_nothing_and_gets_no_name(project: Path, copies: Path
 
 
 @pytest.mark.parametrize(
-    "told, status, is_good",
+    "output, status, is_good",
     [
         ('{"error":"no_such_host","number":19}', 1, True),
         ("result,app\n", 0, True),
@@ -481,13 +483,13 @@ def test_the_program_opens_the_copy(
     project: Path,
     copies: Path,
     tmp_path: Path,
-    told: str,
+    output: str,
     status: int,
     is_good: bool,
 ) -> None:
     program = tmp_path / "program"
-    words = 'test "$1 $2 $4 $5" = "statement --tables --host 1" || exit 3'
-    program.write_text(f"#!/bin/sh\n{words}\ntouch $3-wal\nprintf '%s' '{told}'\nexit {status}\n")
+    test_of_args = 'test "$1 $2 $4 $5" = "statement --tables --host 1" || exit 3'
+    program.write_text(f"#!/bin/sh\n{test_of_args}\ntouch $3-wal\nprintf '%s' '{output}'\nexit {status}\n")
     program.chmod(0o755)
     if is_good:
         copied = copying.copy_tables(project, copies, program=program)
@@ -519,14 +521,14 @@ def test_what_a_killed_copy_left_is_cleared(project: Path, copies: Path) -> None
 
 
 def test_a_full_disk(project: Path, twin: Twin, small_disk: Path) -> None:
-    status, told, fault = tools("copy", "--tables", project, "--to", small_disk)
-    assert (status, told) == (1, "")
+    status, output, fault = tools("copy", "--tables", project, "--to", small_disk)
+    assert (status, output) == (1, "")
     assert fault == f"bsched-tools: {small_disk}: No space left on device\n"
     assert goes_on(twin) and list(small_disk.iterdir()) == []
 
 
 @pytest.mark.parametrize(
-    "cut, told",
+    "cut, message",
     [
         (lambda whole: whole[:-4096], "it is spoiled or cut off (database disk image is malformed)"),
         (lambda whole: whole[:-100], "SQLite finds: "),
@@ -539,11 +541,11 @@ def test_tables_that_are_not_whole(
     project: Path,
     copies: Path,
     cut: Callable[[bytes], bytes],
-    told: str,
+    message: str,
 ) -> None:
     project.write_bytes(cut(project.read_bytes()))
     status, _, fault = tools("copy", "--tables", project, "--to", copies)
-    wanted = f"bsched-tools: {project}: the copy was not good, and is not kept: {told}"
+    wanted = f"bsched-tools: {project}: the copy was not good, and is not kept: {message}"
     assert status == 1 and fault.startswith(wanted) and fault.count("\n") == 1
     assert list(copies.iterdir()) == []
 
@@ -553,12 +555,12 @@ def test_tables_of_another_program(tmp_path: Path, copies: Path) -> None:
     connection = sqlite3.connect(other)
     connection.execute("CREATE TABLE message (text TEXT)")
     connection.close()
-    for path, told in (
+    for path, fault in (
         (other, "it has no tables of bsched"),
         (tmp_path / "none.db", "no such file"),
         (tmp_path, "it is not a file"),
     ):
-        with pytest.raises(Fault, match=told):
+        with pytest.raises(Fault, match=fault):
             copying.copy_tables(path, copies)
     assert list(copies.iterdir()) == []
 
@@ -570,12 +572,12 @@ def test_a_journal_that_sqlite_left(project: Path, copies: Path) -> None:
 
 
 def test_the_command_line(project: Path, copies: Path) -> None:
-    status, told, fault = tools("copy", "--tables", project, "--to", copies, "--keep", "1")
+    status, output, fault = tools("copy", "--tables", project, "--to", copies, "--keep", "1")
     assert (status, fault) == (0, "")
-    assert told.endswith(" bytes, nobody had the tables\n")
-    for words in (["copy"], [], ["copy", "--tables", project, "--to", copies, "--keep", "0"], ["cop"]):
-        status, told, fault = tools(*words)
-        assert (status, told) == (64, "") and "bsched-tools: " in fault
+    assert output.endswith(" bytes, nobody had the tables\n")
+    for args in (["copy"], [], ["copy", "--tables", project, "--to", copies, "--keep", "0"], ["cop"]):
+        status, output, fault = tools(*args)
+        assert (status, output) == (64, "") and "bsched-tools: " in fault
     assert tools("copy", "--tables", project, "--to", copies / "none" / "x")[0] == 1
     assert tools("copy", "--tables", project, "--to", copies / "x.db", "--keep", "1")[0] == 1
 

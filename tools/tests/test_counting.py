@@ -31,15 +31,15 @@ def test_counts_are_those_of_the_plain_scheduler(tmp_path_factory: pytest.TempPa
     path = stored_life(lived, tmp_path_factory.mktemp("life") / "project.db")
     os.utime(path, (lived.now, lived.now))
     machine = lived.service.machine
-    told = counts.counted([path])
+    counted = counts.counted([path])
     units = machine.places
     every = [one for unit in units for one in unit.instances]
     held = [one for one in every if one.held()]
-    assert told.moment == lived.now
-    assert told.workunits == {
+    assert counted.moment == lived.now
+    assert counted.workunits == {
         name: sum(unit.status == status for unit in units) for status, name in STATUSES.items()
     }
-    assert told.instances == {
+    assert counted.instances == {
         "all": len(every),
         "waiting": sum(one.unit.status == "open" and one.host is None for one in every),
         "held": len(held),
@@ -48,14 +48,14 @@ def test_counts_are_those_of_the_plain_scheduler(tmp_path_factory: pytest.TempPa
         "lapsed": sum(one.lapse is not None and one.exit_status is None for one in every),
     }
     lately = {one.host for one in every if one.host is not None and one.sent >= lived.now - 86400}
-    assert told.people == {
+    assert counted.people == {
         "hosts": len(machine.hosts),
         "users": len(machine.rows["accounts"]),
         "hosts with a job of the last day": len(lately),
         "users with a job of the last day": len({host.account for host in lately}),
     }
-    assert told.millicredits == sum(host.credit for host in machine.hosts.values())
-    limits = {name: (limit.used, limit.most) for name, limit in told.limits.items()}
+    assert counted.millicredits == sum(host.credit for host in machine.hosts.values())
+    limits = {name: (limit.used, limit.most) for name, limit in counted.limits.items()}
     assert limits == {
         "accounts": (len(machine.rows["accounts"]), 10_000),
         "apps": (3, 100),
@@ -74,10 +74,10 @@ def test_who_called_in_the_last_day(project: Path, twin: Twin, copies: Path) -> 
     twin.call(3, 1)
     twin.call(3, 1, host="other")
     copying.copy_tables(project, copies)
-    told = counts.counted([copies]).people
-    assert told["hosts that called in the last day"] == 3
-    assert told["users that called in the last day"] == 2
-    assert told["hosts"] == 4
+    people = counts.counted([copies]).people
+    assert people["hosts that called in the last day"] == 3
+    assert people["users that called in the last day"] == 2
+    assert people["hosts"] == 4
 
 
 def of_an_older_schema(path: Path, project: Path) -> None:
@@ -97,14 +97,14 @@ def test_who_called_is_unknown_if_the_older_copy_is_no_help(
 ) -> None:
     make(copies / "project-20200101T000000.000Z.db", project)
     copying.copy_tables(project, copies)
-    status, told, fault = tools("counts", "--tables", copies)
+    status, output, fault = tools("counts", "--tables", copies)
     assert (status, fault) == (0, "")
-    (unknown,) = [line for line in told.splitlines() if "called in the last day" in line]
+    (unknown,) = [line for line in output.splitlines() if "called in the last day" in line]
     assert re.search(r" unknown: \S*20200101\S* is of another schema, or can't be read$", unknown)
-    status, told, _ = tools("counts", "--tables", copies, "--json")
-    assert status == 0 and set(json.loads(told)["people"]) == {"hosts", "users", *LATELY}
-    status, told, _ = tools("counts", "--tables", copies, "--prometheus")
-    assert status == 0 and "bsched_people" in told and "called" not in told
+    status, output, _ = tools("counts", "--tables", copies, "--json")
+    assert status == 0 and set(json.loads(output)["people"]) == {"hosts", "users", *LATELY}
+    status, output, _ = tools("counts", "--tables", copies, "--prometheus")
+    assert status == 0 and "bsched_people" in output and "called" not in output
     page = tmp_path / "page"
     page.mkdir()
     assert tools("report", "--tables", copies, "--to", page)[0] == 0
@@ -113,8 +113,8 @@ def test_who_called_is_unknown_if_the_older_copy_is_no_help(
 
 def test_who_called_is_unknown_without_an_older_copy(project: Path, copies: Path) -> None:
     copying.copy_tables(project, copies)
-    told = tools("counts", "--tables", copies)[1]
-    (unknown,) = [line for line in told.splitlines() if "called in the last day" in line]
+    output = tools("counts", "--tables", copies)[1]
+    (unknown,) = [line for line in output.splitlines() if "called in the last day" in line]
     assert re.search(r" unknown: no copy in the folder of \S*/project-\S* is a day older$", unknown)
 
 
@@ -133,17 +133,17 @@ def test_several_files_have_each_user_and_host_once(tmp_path: Path) -> None:
 
 def test_the_forms(tmp_path: Path) -> None:
     path = make_tables(tmp_path / "project.db")
-    status, told, fault = tools("counts", "--tables", path, "--json")
+    status, output, fault = tools("counts", "--tables", path, "--json")
     assert (status, fault) == (0, "")
-    said = json.loads(told)
-    assert said["schema"] == 3 and said["instances"]["waiting"] == 40
-    assert said["limits"]["workunits"] == {"used": 20, "most": 200_000}
-    status, told, _ = tools("counts", "--tables", path, "--prometheus")
-    lines = told.splitlines()
+    fields = json.loads(output)
+    assert fields["schema"] == 3 and fields["instances"]["waiting"] == 40
+    assert fields["limits"]["workunits"] == {"used": 20, "most": 200_000}
+    status, output, _ = tools("counts", "--tables", path, "--prometheus")
+    lines = output.splitlines()
     assert status == 0 and 'bsched_workunits{status="open"} 20' in lines
     assert all(line.startswith("# ") or SAMPLE.fullmatch(line) for line in lines)
-    status, told, _ = tools("counts", "--tables", path)
-    assert status == 0 and re.search(r"^workunits used +20 of 200000 \(0 %\)$", told, re.MULTILINE)
+    status, output, _ = tools("counts", "--tables", path)
+    assert status == 0 and re.search(r"^workunits used +20 of 200000 \(0 %\)$", output, re.MULTILINE)
     assert tools("counts", "--tables", path, "--json", "--prometheus")[0] == 64
 
 

@@ -35,7 +35,7 @@ def statements_of(name: str) -> list[str]:
     return re.findall(r'^    "(.*)",$', block, re.MULTILINE)
 
 
-def told_of(path: Path) -> list[str]:
+def findings_of(path: Path) -> list[str]:
     """Returns what the doctor says about tables."""
     return list(doctor.tables_faults(path))
 
@@ -58,15 +58,15 @@ def short_life(path: Path) -> Path:
 
 
 def test_good_tables(tmp_path: Path) -> None:
-    assert told_of(make_tables(tmp_path / "1.db")) == []
-    assert told_of(short_life(tmp_path / "2.db")) == []
+    assert findings_of(make_tables(tmp_path / "1.db")) == []
+    assert findings_of(short_life(tmp_path / "2.db")) == []
 
 
 @settings(max_examples=6, database=None)
 @given(seed=strategies.integers(0, 2**32))
 def test_the_tables_of_random_lives_are_good(tmp_path_factory: pytest.TempPathFactory, seed: int) -> None:
     path = stored_life(life_of(seed), tmp_path_factory.mktemp("life") / "project.db")
-    assert told_of(path) == []
+    assert findings_of(path) == []
 
 
 @pytest.mark.parametrize("statement", statements_of("SPOILED"))
@@ -74,11 +74,11 @@ def test_rows_that_the_program_refuses(tmp_path: Path, statement: str) -> None:
     path = short_life(tmp_path / "project.db")
     with closing(sqlite3.connect(path, isolation_level=None)) as connection:
         changed = connection.execute(statement).rowcount
-    told = told_of(path)
-    assert changed > 0 and told
+    lines = findings_of(path)
+    assert changed > 0 and lines
     table = re.search(r"(?:UPDATE|INTO|FROM) (\w+)", statement)[1]
-    assert re.search(rf"row \S.* of (?:{'|'.join(NAMED.get(table, [table]))}): ", told[0]), told
-    assert told[-1].startswith("no scheduler wrote such rows")
+    assert re.search(rf"row \S.* of (?:{'|'.join(NAMED.get(table, [table]))}): ", lines[0]), lines
+    assert lines[-1].startswith("no scheduler wrote such rows")
 
 
 def test_a_row_is_named_with_its_column(tmp_path: Path) -> None:
@@ -86,7 +86,7 @@ def test_a_row_is_named_with_its_column(tmp_path: Path) -> None:
     with closing(sqlite3.connect(path, isolation_level=None)) as connection:
         connection.execute("UPDATE unit SET delay_bound = 0 WHERE id = 2")
         connection.execute("UPDATE host SET held = 3")
-    assert told_of(path)[:-1] == [
+    assert findings_of(path)[:-1] == [
         "row 2 of unit: delay_bound is 0, and out of its range",
         "row 1 of host: held is not how many instances it holds",
     ]
@@ -96,12 +96,12 @@ def test_secrets_are_not_printed(tmp_path: Path) -> None:
     path = short_life(tmp_path / "project.db")
     with closing(sqlite3.connect(path, isolation_level=None)) as connection:
         connection.execute("UPDATE account SET auth = 'my secret' WHERE id = 1")
-    told = "\n".join(told_of(path))
-    assert "row 1 of account: auth is 'a value'" in told and "my secret" not in told
+    text = "\n".join(findings_of(path))
+    assert "row 1 of account: auth is 'a value'" in text and "my secret" not in text
     with closing(sqlite3.connect(path, isolation_level=None)) as connection:
         connection.execute("UPDATE setting SET value = 'short' WHERE name = 'operator_key'")
-    told = "\n".join(told_of(path))
-    assert "row operator_key of setting: value is another text" in told and "'short'" not in told
+    text = "\n".join(findings_of(path))
+    assert "row operator_key of setting: value is another text" in text and "'short'" not in text
 
 
 @pytest.mark.parametrize("value", ["'200'", "x'c8'", "2.5", "0"])
@@ -111,8 +111,8 @@ def test_settings_of_another_type(tmp_path: Path, name: str, value: str) -> None
     path = short_life(tmp_path / "project.db")
     with closing(sqlite3.connect(path, isolation_level=None)) as connection:
         connection.execute(f"UPDATE setting SET value = {value} WHERE name = '{name}'")
-    status, told, fault = tools("doctor", "--tables", path)
-    wrong, advice = told.splitlines()
+    status, output, fault = tools("doctor", "--tables", path)
+    wrong, advice = output.splitlines()
     assert (status, fault) == (1, "") and "restore a copy" in advice
     assert f": row {name} of setting: value is " in wrong
     assert ": it must be a whole number from 1 to " in wrong
@@ -123,35 +123,35 @@ def test_other_schemas(tmp_path: Path, statement: str) -> None:
     path = short_life(tmp_path / "project.db")
     with closing(sqlite3.connect(path, isolation_level=None)) as connection:
         connection.execute(statement)
-    (told,) = told_of(path)
-    assert "its tables are" in told
+    (line,) = findings_of(path)
+    assert "its tables are" in line
 
 
 def test_who_has_the_tables(project: Path, twin: Twin) -> None:
-    (told,) = told_of(project)
-    assert told.startswith(f"process {twin.process.pid} (python3")
-    assert "has it, so no other program can open it" in told
+    (line,) = findings_of(project)
+    assert line.startswith(f"process {twin.process.pid} (python3")
+    assert "has it, so no other program can open it" in line
 
 
 def test_files(tmp_path: Path) -> None:
     path = make_tables(tmp_path / "project.db")
-    (told,) = told_of(tmp_path / "none.db")
-    assert told == "no such file: make it with `bsched create`, or look at the name"
-    assert told_of(tmp_path) == ["it is not a regular file"]
+    (line,) = findings_of(tmp_path / "none.db")
+    assert line == "no such file: make it with `bsched create`, or look at the name"
+    assert findings_of(tmp_path) == ["it is not a regular file"]
     os.link(path, tmp_path / "second")
-    assert told_of(path) == ["it has 2 names (hard links), and bsched accepts a file with one"]
+    assert findings_of(path) == ["it has 2 names (hard links), and bsched accepts a file with one"]
     os.remove(tmp_path / "second")
     (tmp_path / "project.db-journal").write_bytes(b"\xd9")
-    (told,) = told_of(path)
-    assert "was left by SQLite" in told
+    (line,) = findings_of(path)
+    assert "was left by SQLite" in line
     os.remove(tmp_path / "project.db-journal")
     os.symlink("elsewhere", tmp_path / "project.db-wal")
-    assert told_of(path) == ["its log: it is not a regular file"]
+    assert findings_of(path) == ["its log: it is not a regular file"]
     os.remove(tmp_path / "project.db-wal")
-    assert told_of(path) == []
+    assert findings_of(path) == []
     path.write_bytes(path.read_bytes()[:-4096])
-    (told,) = told_of(path)
-    assert told.startswith("it is cut off")
+    (line,) = findings_of(path)
+    assert line.startswith("it is cut off")
 
 
 GOOD = """\
@@ -213,8 +213,8 @@ def test_settings_that_are_no_text(tmp_path: Path) -> None:
 
 def test_the_command_line(tmp_path: Path, project: Path) -> None:
     assert tools("doctor", "--tables", project) == (0, "good: nothing is found that bsched refuses\n", "")
-    status, told, fault = tools("doctor", "--tables", tmp_path / "none", "--settings", tmp_path / "none")
-    assert (status, fault) == (1, "") and len(told.splitlines()) == 2
+    status, output, fault = tools("doctor", "--tables", tmp_path / "none", "--settings", tmp_path / "none")
+    assert (status, fault) == (1, "") and len(output.splitlines()) == 2
     assert tools("doctor")[0] == 64
 
 
@@ -238,9 +238,9 @@ def test_a_young_file_without_its_log(tmp_path: Path) -> None:
         connection.execute("PRAGMA wal_autocheckpoint = 0").fetchall()
         connection.execute("CREATE TABLE setting (name TEXT, value)")
         (tmp_path / "alone.db").write_bytes(path.read_bytes())
-    (told,) = told_of(tmp_path / "alone.db")
-    assert told.startswith("it has no tables, and its log alone.db-wal is not next to it")
-    status, said, _ = tools("doctor", "--tables", tmp_path / "alone.db")
-    assert status == 1 and "put both here together" in said
+    (line,) = findings_of(tmp_path / "alone.db")
+    assert line.startswith("it has no tables, and its log alone.db-wal is not next to it")
+    status, output, _ = tools("doctor", "--tables", tmp_path / "alone.db")
+    assert status == 1 and "put both here together" in output
     status, _, fault = tools("results", "--tables", tmp_path / "alone.db")
     assert status == 1 and "a log (-wal) that has them is missing" in fault

@@ -31,7 +31,7 @@ class Bridge(BaseHTTPRequestHandler):
         self.end_headers()
         self.wfile.write(body)
 
-    def log_message(self, *_words: object) -> None:
+    def log_message(self, *_args: object) -> None:
         """Prints nothing."""
 
 
@@ -81,9 +81,9 @@ def test_all_is_good(made: MadeProject) -> None:
     url = f"http://127.0.0.1:{port}/project/"
     with_bridge(made, url)
     with served(port, url):
-        told = found(made)
-    free = told.pop("disk")  # that of this machine
-    assert {one.check: one.level for one in told.values()} == dict.fromkeys(
+        findings = found(made)
+    free = findings.pop("disk")  # that of this machine
+    assert {one.check: one.level for one in findings.values()} == dict.fromkeys(
         ("scheduler", "bridge", "url", "tick", "copy", "limits"), Level.GOOD
     )
     assert "GB" in free.text
@@ -95,14 +95,14 @@ def test_a_project_without_a_bridge(made: MadeProject) -> None:
 
 def test_a_scheduler_that_does_not_run(made: MadeProject) -> None:
     made.end()
-    told = found(made)["scheduler"]
-    assert told.level is Level.CRITICAL and "Connection refused" in told.text
+    finding = found(made)["scheduler"]
+    assert finding.level is Level.CRITICAL and "Connection refused" in finding.text
 
 
 def test_the_scheduler_of_another_project(made: MadeProject) -> None:
     (made.folder / "settings.toml").write_text(SETTINGS.replace("change-this-key", "another-key"))
-    told = found(made)["scheduler"]
-    assert told.level is Level.CRITICAL and "refuses the operator's key" in told.text
+    finding = found(made)["scheduler"]
+    assert finding.level is Level.CRITICAL and "refuses the operator's key" in finding.text
 
 
 def test_a_port_that_something_else_has(made: MadeProject) -> None:
@@ -116,25 +116,25 @@ def test_the_bridge_of_another_project(made: MadeProject) -> None:
     with_bridge(made, f"http://127.0.0.1:{port}/")
     assert "Connection refused" in found(made)["bridge"].text
     with served(port, "http://others.example/"):
-        told = found(made)
-    assert "is not this project" in told["bridge"].text and told["url"].level is Level.CRITICAL
+        findings = found(made)
+    assert "is not this project" in findings["bridge"].text and findings["url"].level is Level.CRITICAL
 
 
 def test_certificates(made: MadeProject, tmp_path: Path, monkeypatch: pytest.MonkeyPatch) -> None:
     """One that nobody knows, one for 30 days, and one for 2 days."""
     for days, level, text in ((30, Level.GOOD, "valid for 29 days"), (2, Level.CRITICAL, "valid for 1 days")):
-        words = ["openssl", "req", "-x509", "-newkey", "rsa:2048", "-nodes", "-days", str(days)]
-        words += ["-subj", "/CN=localhost", "-addext", "subjectAltName=DNS:localhost"]
-        words += ["-keyout", str(tmp_path / "key"), "-out", str(tmp_path / "pem")]
-        subprocess.run(words, check=True, capture_output=True)
+        command = ["openssl", "req", "-x509", "-newkey", "rsa:2048", "-nodes", "-days", str(days)]
+        command += ["-subj", "/CN=localhost", "-addext", "subjectAltName=DNS:localhost"]
+        command += ["-keyout", str(tmp_path / "key"), "-out", str(tmp_path / "pem")]
+        subprocess.run(command, check=True, capture_output=True)
         context = ssl.SSLContext(ssl.PROTOCOL_TLS_SERVER)
         context.load_cert_chain(tmp_path / "pem", tmp_path / "key")
         with served(0, "", context) as port:
             with_bridge(made, f"https://localhost:{port}/")
             assert "its certificate is not valid: self-signed" in found(made)["certificate"].text
             monkeypatch.setenv("SSL_CERT_FILE", str(tmp_path / "pem"))
-            told = found(made)["certificate"]
-            assert told.level is level and text in told.text
+            finding = found(made)["certificate"]
+            assert finding.level is level and text in finding.text
             monkeypatch.delenv("SSL_CERT_FILE")
 
 
@@ -154,8 +154,8 @@ def test_ticks(
     made: MadeProject, monkeypatch: pytest.MonkeyPatch, states: dict[str, str], level: Level, text: str
 ) -> None:
     monkeypatch.setattr(health, "shown_by_systemd", lambda _unit, key: states[key])
-    told = found(made)["tick"]
-    assert told.level is level and text in told.text
+    finding = found(made)["tick"]
+    assert finding.level is level and text in finding.text
 
 
 @pytest.mark.parametrize("minutes, level", [(3, Level.GOOD), (15, Level.WARNING), (45, Level.CRITICAL)])
@@ -167,8 +167,8 @@ def test_ticks_if_systemd_does_not_answer(
     stamp = tmp_path / "stamp-bsched-tick@sums.timer"
     stamp.touch()
     os.utime(stamp, (time.time() - 60 * minutes,) * 2)
-    told = found(made)["tick"]
-    assert told.level is level and f"{minutes} minutes ago" in told.text
+    finding = found(made)["tick"]
+    assert finding.level is level and f"{minutes} minutes ago" in finding.text
 
 
 @pytest.mark.parametrize("hours, level", [(2, Level.GOOD), (4, Level.WARNING), (25, Level.CRITICAL)])
@@ -185,8 +185,8 @@ def test_a_table_that_is_nearly_full(made: MadeProject, monkeypatch: pytest.Monk
     from bsched_tools import counts
 
     monkeypatch.setitem(counts.MOST, "unit", 22)
-    told = found(made)["limits"]
-    assert told.level is Level.WARNING and told.text.startswith("20 of 22 workunits are used")
+    finding = found(made)["limits"]
+    assert finding.level is Level.WARNING and finding.text.startswith("20 of 22 workunits are used")
     monkeypatch.setitem(counts.MOST, "unit", 20)
     assert found(made)["limits"].level is Level.CRITICAL
 
@@ -194,14 +194,14 @@ def test_a_table_that_is_nearly_full(made: MadeProject, monkeypatch: pytest.Monk
 def test_a_disk_that_is_nearly_full(made: MadeProject, monkeypatch: pytest.MonkeyPatch) -> None:
     usage = type("Usage", (), {"free": 2 * 10**9, "total": 100 * 10**9})
     monkeypatch.setattr(health.shutil, "disk_usage", lambda _folder: usage)
-    told = found(made)["disk"]
-    assert told.level is Level.CRITICAL and "2.0 GB of 100.0 GB" in told.text
+    finding = found(made)["disk"]
+    assert finding.level is Level.CRITICAL and "2.0 GB of 100.0 GB" in finding.text
 
 
 def test_the_command(made: MadeProject) -> None:
     made.end()
-    status, told, fault = made.tools("health")
-    assert (status, fault) == (2, "") and told.splitlines()[0].startswith("critical  scheduler    port ")
+    status, output, fault = made.tools("health")
+    assert (status, fault) == (2, "") and output.splitlines()[0].startswith("critical  scheduler    port ")
 
 
 def test_mail_of_changes(made: MadeProject, tmp_path: Path, monkeypatch: pytest.MonkeyPatch) -> None:

@@ -17,8 +17,8 @@ GOOD = "w,dock,2,2,3,8,6,7200,3600000000000,1000,1000,5000"
 
 def faults_of(text: str | bytes) -> list[str]:
     """Returns the faults of a file with a text."""
-    told = text if isinstance(text, bytes) else text.encode()
-    file = import_files.read_import(Path("x.csv"), told)
+    content = text if isinstance(text, bytes) else text.encode()
+    file = import_files.read_import(Path("x.csv"), content)
     return [file] if isinstance(file, str) else list(import_files.faults_of_rows(file))
 
 
@@ -137,9 +137,9 @@ def test_it_refuses_what_bsched_refuses(data: st.DataObject) -> None:
         rows_of(kind.name, file.getvalue())
         assert faults == []
     except Refused as refusal:
-        said = json.loads(refusal.body)
-        row = found.rows[said["row"] - 1]
-        column = header[said["column"] - 1] if said["column"] else "there are"
+        fields = json.loads(refusal.body)
+        row = found.rows[fields["row"] - 1]
+        column = header[fields["column"] - 1] if fields["column"] else "there are"
         assert faults[0].startswith(f"line {row.line}: {column} ")
 
 
@@ -148,11 +148,11 @@ def test_the_command(tmp_path: Path) -> None:
     good.write_text("name,agreement\nsum,exact\n")
     bad.write_text("authenticator,name\n" + "a b,Ann\n" * 30)
     assert tools("check", good) == (0, f"{good}: good: 1 rows of apps\n", "")
-    status, told, fault = tools("check", good, bad)
-    lines = told.splitlines()
+    status, output, fault = tools("check", good, bad)
+    lines = output.splitlines()
     assert (status, fault, len(lines)) == (1, "", 22)
     wanted = "line 2: authenticator is 'a b', and must be 1 to 64 letters, digits, '_', '-' or '.'"
     assert lines[0] == f"{bad}: {wanted}"
     assert lines[20:] == [f"{bad}: there are more faults", f"{good}: good: 1 rows of apps"]
-    status, told, fault = tools("check", tmp_path / "none.csv")
+    status, output, fault = tools("check", tmp_path / "none.csv")
     assert status == 1 and fault == f"bsched-tools: {tmp_path}/none.csv: No such file or directory\n"

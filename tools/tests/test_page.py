@@ -162,7 +162,7 @@ def test_the_history(tmp_path: Path, folder: Path) -> None:
     assert len(history.History(folder).entries) == 5
 
 
-def test_turnaround_is_at_most_what_it_is_said(tmp_path: Path, folder: Path) -> None:
+def test_turnaround_is_at_most_what_is_printed(tmp_path: Path, folder: Path) -> None:
     path = tmp_path / "project.db"
     make_tables(path, units=4)
 
@@ -190,11 +190,11 @@ def test_a_stop_in_a_report_makes_no_result_count_twice(
     left = [None] * writes
 
     def stopped_after(write: Callable[..., None]) -> Callable[..., None]:
-        def written(*words: Any) -> None:
+        def written(*args: Any) -> None:
             if not left:
                 raise Fault("a stop")
             left.pop()
-            write(*words)
+            write(*args)
 
         return written
 
@@ -248,7 +248,7 @@ def test_no_half_page(tmp_path: Path, folder: Path, monkeypatch: pytest.MonkeyPa
     reported(path, folder)
     before = (folder / "index.html").read_bytes()
 
-    def full(*_words: object) -> None:
+    def full(*_args: object) -> None:
         raise Fault("index.html: No space left on device")
 
     monkeypatch.setattr(page, "replace_file", full)

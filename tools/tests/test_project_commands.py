@@ -2,23 +2,20 @@
 import gzip
 import json
 import os
-import sys
 import re
 from collections.abc import Iterator
 from pathlib import Path
 
 import pytest
 from made_project import SETTINGS, TWIN, MadeProject
-from small_project import LIMITS, TOOLS, WORKUNITS, rows_of, tools
+from small_project import LIMITS, WORKUNITS, rows_of, tools
 
-sys.path.insert(0, str(TOOLS.parent / "bridge"))
-
-from bsched_bridge.barring import Barring  # noqa: E402
-from bsched_bridge.members import Members, first_heard  # noqa: E402
-from bsched_bridge.state_file import StateFile  # noqa: E402
-from bsched_tools import imports, projects  # noqa: E402
-from bsched_tools.faults import Fault  # noqa: E402
-from bsched_tools.import_files import read_import  # noqa: E402
+from bsched_bridge.barring import Barring
+from bsched_bridge.members import Members, first_heard
+from bsched_bridge.state_file import StateFile
+from bsched_tools import imports, projects
+from bsched_tools.faults import Fault
+from bsched_tools.import_files import read_import
 
 
 @pytest.fixture
@@ -48,12 +45,12 @@ def test_an_import_while_it_serves(project: MadeProject, tmp_path: Path) -> None
     more = workunits(tmp_path / "more.csv", ["x1", "x2"])
     apps = tmp_path / "apps.csv"
     apps.write_text("name,agreement\nsum,exact\n")
-    status, told, fault = project.tools("import", more, apps)
+    status, output, fault = project.tools("import", more, apps)
     assert (status, fault) == (0, "")
-    lines = told.splitlines()
+    lines = output.splitlines()
     assert re.fullmatch(rf"{apps}: 1 rows of apps, as the batch apps-[0-9a-f]{{16}}", lines[0])
     assert re.fullmatch(rf"{more}: 2 rows of workunits, as the batch more-[0-9a-f]{{16}}", lines[1])
-    assert project.tools("import", more, apps) == (0, told, "")  # the same batches add nothing
+    assert project.tools("import", more, apps) == (0, output, "")  # the same batches add nothing
     project.end()
     assert (count_of(project, "unit"), count_of(project, "app")) == (22, 3)
 
@@ -65,8 +62,8 @@ def test_an_import_by_the_program(
     path = workunits(tmp_path / "more.csv", ["x1"])
     file = read_import(path, path.read_bytes())
     assert not isinstance(file, str)
-    told = list(imports.imported(projects.Project(project.folder), file))
-    assert len(told) == 1 and count_of(project, "unit") == 21
+    lines = list(imports.imported(projects.Project(project.folder), file))
+    assert len(lines) == 1 and count_of(project, "unit") == 21
 
 
 @pytest.mark.parametrize(
@@ -81,15 +78,15 @@ def test_what_bsched_refuses(
 ) -> None:
     project.serve()
     path = workunits(tmp_path / "more.csv", names, app)
-    status, told, fault = project.tools("import", path)
-    assert (status, told, fault) == (1, "", f"bsched-tools: {path}: {wanted}\n")
+    status, output, fault = project.tools("import", path)
+    assert (status, output, fault) == (1, "", f"bsched-tools: {path}: {wanted}\n")
 
 
 def test_a_faulty_file_imports_nothing(project: MadeProject, tmp_path: Path) -> None:
     project.serve()
     good, bad = workunits(tmp_path / "good.csv", ["x"]), workunits(tmp_path / "bad.csv", ["a b"])
-    status, told, fault = project.tools("import", good, bad)
-    assert (status, fault) == (1, "") and told.startswith(f"{bad}: line 2: name is 'a b'")
+    status, output, fault = project.tools("import", good, bad)
+    assert (status, fault) == (1, "") and output.startswith(f"{bad}: line 2: name is 'a b'")
     header = tmp_path / "header.csv"
     header.write_text("authenticator,name\n")
     assert project.tools("import", header) == (0, f"{header}: it has no rows, so nothing is imported\n", "")
@@ -102,9 +99,9 @@ def test_a_large_file_is_split(project: MadeProject, tmp_path: Path) -> None:
     names = [f"{'n' * 50}{number}" for number in range(6000)]
     path = workunits(tmp_path / "large.csv", names)
     assert path.stat().st_size > 2 * imports.MOST_BATCH
-    status, told, fault = project.tools("import", "--batch", "big", path)
+    status, output, fault = project.tools("import", "--batch", "big", path)
     assert (status, fault) == (0, "")
-    rows = re.findall(rf"^{path}: (\d+) rows of workunits, as the batch (\S+)$", told, re.MULTILINE)
+    rows = re.findall(rf"^{path}: (\d+) rows of workunits, as the batch (\S+)$", output, re.MULTILINE)
     assert [name for _, name in rows] == [f"big-{number}" for number in range(1, len(rows) + 1)]
     assert sum(int(count) for count, _ in rows) == 6000 and len(rows) > 2
     project.end()
@@ -141,9 +138,9 @@ def test_what_happened_to_a_workunit(project: MadeProject) -> None:
     assert [job["name"] for job in reply["results"]] == ["w1_2"]
     project.call(3, 2, results=[{"name": "w1_2", "exit_status": 0, "output": "42"}], work_req_seconds=1)
     assert project.tools("copy")[0] == 0
-    status, told, fault = project.tools("job", "w1_1")
+    status, output, fault = project.tools("job", "w1_1")
     assert (status, fault) == (0, "")
-    lines = [re.sub(r"\d{4}-\d\d-\d\d \d\d:\d\d:\d\d", "MOMENT", line) for line in told.splitlines()]
+    lines = [re.sub(r"\d{4}-\d\d-\d\d \d\d:\d\d:\d\d", "MOMENT", line) for line in output.splitlines()]
     assert lines == [
         "workunit w1 of the application dock: done",
         "needs 2 successes, and gives 5.000 credit for each valid result",
@@ -156,11 +153,11 @@ def test_what_happened_to_a_workunit(project: MadeProject) -> None:
         "w1_2: valid; computer 3 of User 3, sent MOMENT, deadline MOMENT",
         "  output: 42",
     ]
-    told = project.tools("job", "w2")[1]
-    assert "w2 of the application dock: open" in told and "in work; computer 3 of User 3" in told
-    assert "w2_1: waits for a computer" in told
-    told = project.tools("host", 1)[1]
-    assert told.startswith("computer 1 of User 1 (h): 0.000 credit\n") and "w1_0: client error" in told
+    output = project.tools("job", "w2")[1]
+    assert "w2 of the application dock: open" in output and "in work; computer 3 of User 3" in output
+    assert "w2_1: waits for a computer" in output
+    output = project.tools("host", 1)[1]
+    assert output.startswith("computer 1 of User 1 (h): 0.000 credit\n") and "w1_0: client error" in output
     assert project.tools("job", "none")[0] == 1 and project.tools("host", 9)[0] == 1
     assert project.tools("host", 0)[0] == 64
 
@@ -219,8 +216,8 @@ def test_page_and_statistics_of_a_project(project: MadeProject, tmp_path: Path) 
     units = f'[copy]\nfolder = "copies"\n[page]\nfolder = "{tmp_path}/report"\n'
     (project.folder / "units.toml").write_text(f'{units}[statistics]\nfolder = "{tmp_path}/stats"\n')
     assert project.tools("report") == (0, f"{tmp_path}/report/index.html\n", "")
-    status, told, _ = project.tools("statistics")
-    assert (status, told) == (0, f"{tmp_path}/stats: 4 users, 0 of them named, and 0 computers\n")
+    status, output, _ = project.tools("statistics")
+    assert (status, output) == (0, f"{tmp_path}/stats: 4 users, 0 of them named, and 0 computers\n")
     assert [path.name for path in (tmp_path / "report").iterdir()] == ["index.html"]
     assert sorted(path.name for path in (tmp_path / "stats").iterdir()) == [
         "host.gz",
@@ -258,8 +255,8 @@ def test_names_that_volunteers_chose(project: MadeProject, tmp_path: Path) -> No
         project.call(user, 1, work_req_seconds=1)
         project.call(user, 2, results=[{"name": f"w1_{user - 1}", "exit_status": 0, "output": "7"}])
     project.call(3, 1, work_req_seconds=1)
-    status, told, fault = project.tools("copy")
-    assert (status, fault) == (0, "") and ".state: " in told
+    status, output, fault = project.tools("copy")
+    assert (status, fault) == (0, "") and ".state: " in output
     rows = [line.split(",")[-2] for line in project.tools("results")[1].splitlines()[1:]]
     assert rows == ["Chosen 1", "User 2"]
     assert "of deleted, sent" in project.tools("job", "w2")[1]
@@ -274,8 +271,8 @@ def test_names_that_volunteers_chose(project: MadeProject, tmp_path: Path) -> No
 
 
 def test_a_page_with_a_title(project: MadeProject, tmp_path: Path) -> None:
-    words = "--tables", project.folder / "project.db", "--to", tmp_path, "--title", "Sums & more"
-    assert tools("report", *words)[0] == 0
+    args = "--tables", project.folder / "project.db", "--to", tmp_path, "--title", "Sums & more"
+    assert tools("report", *args)[0] == 0
     assert "<h1>Sums &amp; more: status</h1>" in (tmp_path / "index.html").read_text()
 
 
@@ -315,8 +312,8 @@ def test_defaults_of_the_settings_of_units(tmp_path: Path) -> None:
 
 
 def test_what_is_no_project(tmp_path: Path) -> None:
-    status, told, fault = tools("health", "--project", f"{tmp_path}/")
-    assert (status, told) == (1, "") and "it is no project of bsched-project" in fault
+    status, output, fault = tools("health", "--project", f"{tmp_path}/")
+    assert (status, output) == (1, "") and "it is no project of bsched-project" in fault
     assert tools("counts")[0] == 64 and tools("counts", "--project", "x", "--tables", "y")[0] == 64
     assert tools("report", "--tables", tmp_path)[0] == 64
 

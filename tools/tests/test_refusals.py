@@ -33,9 +33,9 @@ def cut_in_a_page(path: Path, good: Path) -> None:
 
 
 def spoiled(path: Path, good: Path) -> None:
-    told = bytearray(good.read_bytes())
-    told[4096:] = b"\xa5" * (len(told) - 4096)
-    path.write_bytes(told)
+    content = bytearray(good.read_bytes())
+    content[4096:] = b"\xa5" * (len(content) - 4096)
+    path.write_bytes(content)
 
 
 def older(path: Path, good: Path) -> None:
@@ -90,24 +90,24 @@ def test_what_is_no_copy(
     good = make_tables(tmp_path / "good.db")
     path = tmp_path / "copy.db"
     make(path, good)
-    words = [str(word).replace("DIR", str(tmp_path)) for word in COMMANDS[command]]
-    status, told, fault = tools(command, "--tables", path, *words)
-    assert (status, told) == (1, "")
+    args = [str(word).replace("DIR", str(tmp_path)) for word in COMMANDS[command]]
+    status, output, fault = tools(command, "--tables", path, *args)
+    assert (status, output) == (1, "")
     assert fault.startswith(f"bsched-tools: {path}: {wanted}") and fault.count("\n") == 1
 
 
 @pytest.mark.parametrize("command", COMMANDS)
 def test_tables_that_a_program_serves(project: Path, twin: Twin, tmp_path: Path, command: str) -> None:
-    words = [str(word).replace("DIR", str(tmp_path)) for word in COMMANDS[command]]
-    status, told, fault = tools(command, "--tables", project, *words)
-    assert (status, told) == (1, "")
+    args = [str(word).replace("DIR", str(tmp_path)) for word in COMMANDS[command]]
+    status, output, fault = tools(command, "--tables", project, *args)
+    assert (status, output) == (1, "")
     wanted = f"a program has it: run `bsched-tools copy --tables {project} --to FOLDER`, and read the copy"
     assert fault == f"bsched-tools: {project}: {wanted}\n"
     assert twin.call(1, 1)["hostid"] == 1
 
 
 @pytest.mark.parametrize(
-    "words, wanted",
+    "raw_args, wanted",
     [
         (["results", "--cursor", "DISK/cursor"], "cursor"),
         (["results", "--to", "DISK/new"], "new"),
@@ -115,19 +115,22 @@ def test_tables_that_a_program_serves(project: Path, twin: Twin, tmp_path: Path,
         (["report", "--to", "DISK"], "held.json"),
     ],
 )
-def test_a_full_disk(project: Path, small_disk: Path, words: list[str], wanted: str) -> None:
+def test_a_full_disk(project: Path, small_disk: Path, raw_args: list[str], wanted: str) -> None:
     with (small_disk / "full").open("wb", buffering=0) as full, contextlib.suppress(OSError):
         while full.write(b"x" * 4096):
             pass
-    said = [word.replace("DISK", str(small_disk)) for word in words]
-    status, _, fault = tools(said[0], "--tables", project, *said[1:])
+    args = [word.replace("DISK", str(small_disk)) for word in raw_args]
+    status, _, fault = tools(args[0], "--tables", project, *args[1:])
     assert (status, fault) == (1, f"bsched-tools: {small_disk / wanted}: No space left on device\n")
 
 
 @pytest.mark.parametrize("command", ["results", "counts"])
 def test_a_full_output(project: Path, command: str) -> None:
-    words = [sys.executable, "-m", "bsched_tools", command, "--tables", str(project)]
+    full_command = [sys.executable, "-m", "bsched_tools", command, "--tables", str(project)]
     path = {"PYTHONPATH": str(TOOLS)}
     with open("/dev/full", "w") as full:
-        told = subprocess.run(words, stdout=full, stderr=subprocess.PIPE, text=True, env=path)
-    assert (told.returncode, told.stderr) == (1, "bsched-tools: standard output: No space left on device\n")
+        completed = subprocess.run(full_command, stdout=full, stderr=subprocess.PIPE, text=True, env=path)
+    assert (completed.returncode, completed.stderr) == (
+        1,
+        "bsched-tools: standard output: No space left on device\n",
+    )

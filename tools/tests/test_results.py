@@ -49,12 +49,12 @@ def test_results_are_those_of_the_plain_scheduler(
     lived = life_of(seed)
     path = stored_life(lived, tmp_path_factory.mktemp("life") / "project.db")
     with tables.opened(path) as opened:
-        told = [
+        printed = [
             (unit.name, unit.reason, unit.canonical, unit.output, verdicts_of(unit))
             for unit in workunits.decided(opened)
         ]
     wanted = [(name, reason and REASONS[reason], *more) for name, reason, *more in decided_by(lived)]
-    assert told == wanted
+    assert printed == wanted
     assert wanted  # a life in which nothing was decided would show nothing
 
 
@@ -122,7 +122,7 @@ def test_a_result_that_comes_late_is_marked(tmp_path: Path) -> None:
     stored = Stored(tmp_path / "project.db")
 
     def call(host: str, seqno: int, *reports: tuple[str, str]) -> None:
-        said = {
+        fields = {
             "authenticator": host,
             "rpc_seqno": seqno,
             "platform_name": "x",
@@ -130,7 +130,7 @@ def test_a_result_that_comes_late_is_marked(tmp_path: Path) -> None:
             "host_info": {"host_cpid": "c", "p_fpops": 1, "m_nbytes": 1, "d_free": 1},
             "results": [{"name": name, "exit_status": 0, "output": output} for name, output in reports],
         }
-        answers.extend(stored.answer([f"{NOW} scheduler {json.dumps(said)}".encode()]))
+        answers.extend(stored.answer([f"{NOW} scheduler {json.dumps(fields)}".encode()]))
 
     answers = stored.answer(
         f"{NOW} {line}".encode()
@@ -207,10 +207,10 @@ def test_the_query_of_the_profile(tmp_path: Path, seed: int) -> None:
     path = stored_life(life_of(seed), tmp_path / "project.db")
     page = (TOOLS.parent / "docs" / "PROFILE.md").read_text()
     query = page.partition("-- the canonical result of each workunit that is done")[2].partition(";")[0]
-    told = [tuple(row[:3]) for row in stored_rows(path, query.partition("\n")[2])]
+    selected = [tuple(row[:3]) for row in stored_rows(path, query.partition("\n")[2])]
     lines = [line for line in lines_of(path) if line["status"] == "done" and line["app"] != "fold"]
-    assert told == [(line["workunit"], line["canonical"], line["output"]) for line in lines]
-    assert len(told) > 4
+    assert selected == [(line["workunit"], line["canonical"], line["output"]) for line in lines]
+    assert len(selected) > 4
 
 
 def test_after_a_workunit(tmp_path: Path) -> None:
@@ -243,8 +243,8 @@ def test_tables_that_are_named_twice_are_refused(tmp_path: Path, kind: str, orde
         second.write_bytes(first.read_bytes())
     (tmp_path / "out").mkdir()
     target = ["--to", tmp_path / "out", "--everybody"] if order == "statistics" else []
-    status, told, fault = tools(order, "--tables", first, second, *target)
-    assert (status, told) == (1, "")
+    status, output, fault = tools(order, "--tables", first, second, *target)
+    assert (status, output) == (1, "")
     assert fault == f"bsched-tools: {second}: it has the same tables as {first}: name one of them\n"
 
 
@@ -274,9 +274,9 @@ def test_a_cursor_of_format_1_is_kept(tmp_path: Path) -> None:
     path = stored_life(life_of(3), tmp_path / "project.db")
     cursor = tmp_path / "cursor"
     assert rows_of(path, cursor=cursor) != []
-    told = json.loads(cursor.read_text())
+    fields = json.loads(cursor.read_text())
     with opened(path) as tables:
-        former = {former_mark(tables): said for said in told["given"].values()}
+        former = {former_mark(tables): entry for entry in fields["given"].values()}
     other = stored_life(life_of(4), tmp_path / "other.db")
     cursor.write_text(json.dumps({"format": 1, "given": former}))
     assert rows_of(other, cursor=cursor) != []  # what is not used yet stays
@@ -355,14 +355,14 @@ def test_what_is_no_cursor(tmp_path: Path) -> None:
 
 def test_the_command_line(tmp_path: Path) -> None:
     path = stored_life(life_of(3), tmp_path / "project.db")
-    status, told, fault = tools("results", "--tables", path)
+    status, output, fault = tools("results", "--tables", path)
     assert (status, fault) == (0, "")
-    assert list(csv.DictReader(io.StringIO(told))) == rows_of(path)
-    status, told, fault = tools("results", "--tables", path, "--json", "--cursor", tmp_path / "cursor")
-    assert (status, fault) == (0, "") and len(told.splitlines()) == len(lines_of(path))
-    status, told, said = tools("results", "--tables", path, "--json", "--cursor", tmp_path / "cursor")
+    assert list(csv.DictReader(io.StringIO(output))) == rows_of(path)
+    status, output, fault = tools("results", "--tables", path, "--json", "--cursor", tmp_path / "cursor")
+    assert (status, fault) == (0, "") and len(output.splitlines()) == len(lines_of(path))
+    status, output, message = tools("results", "--tables", path, "--json", "--cursor", tmp_path / "cursor")
     decided = len(lines_of(path))
-    assert (status, told) == (0, "") and said == (
+    assert (status, output) == (0, "") and message == (
         f"bsched-tools: nothing is new: {tmp_path / 'cursor'} says that the results of all {decided} decided "
         "workunits were given out before\n"
     )

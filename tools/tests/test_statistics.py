@@ -73,8 +73,8 @@ def test_the_files_of_a_life(tmp_path: Path, folder: Path) -> None:
         "nhosts_total": str(len(hosts)),
         "total_credit": f"{sum(wanted.values()):.3f}",
     }
-    said = (folder / "user.gz").read_bytes() + (folder / "host.gz").read_bytes()
-    assert all(len(user["cpid"]) == 32 for user in users) and b"user0" not in gzip.decompress(said)
+    content = (folder / "user.gz").read_bytes() + (folder / "host.gz").read_bytes()
+    assert all(len(user["cpid"]) == 32 for user in users) and b"user0" not in gzip.decompress(content)
     assert len({host["host_cpid"] for host in hosts}) == len(hosts)
 
 
@@ -164,10 +164,10 @@ def test_numbers_are_stored_before_they_are_published(
     path = stored_life(life_of(11), tmp_path / "project.db")
     replace_file = exports.replace_file
 
-    def full_at_the_end(path: Path, *words: Any) -> None:
+    def full_at_the_end(path: Path, *args: Any) -> None:
         if path.name == "tables.xml":
             raise Fault("tables.xml: No space left on device")
-        replace_file(path, *words)
+        replace_file(path, *args)
 
     monkeypatch.setattr(exports, "replace_file", full_at_the_end)
     with pytest.raises(Fault, match="tables.xml"):
@@ -192,8 +192,8 @@ def test_what_is_kept(tmp_path: Path, folder: Path) -> None:
 
 def test_the_command_line(tmp_path: Path, folder: Path) -> None:
     path = make_tables(tmp_path / "project.db")
-    status, told, fault = tools("statistics", "--tables", path, "--to", folder)
+    status, output, fault = tools("statistics", "--tables", path, "--to", folder)
     assert (status, fault) == (0, "")
-    assert told == f"{folder}: 4 users, 0 of them named, and 0 computers\n"
+    assert output == f"{folder}: 4 users, 0 of them named, and 0 computers\n"
     assert tools("statistics", "--tables", path, "--to", folder, "--everybody", "--agreed", "x")[0] == 64
     assert tools("statistics", "--tables", path, "--to", folder / "none")[0] == 1

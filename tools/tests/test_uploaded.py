@@ -3,21 +3,17 @@ import hashlib
 import json
 import os
 import sqlite3
-import sys
 from pathlib import Path
 from typing import Any
 
 import pytest
 from lives import life_of, stored_life
-from small_project import TOOLS
 from test_results import lines_of, rows_of
 
+from bsched_bridge.upload_tables import UploadTables
 from bsched_tools import uploaded
 from bsched_tools.faults import Fault
 from bsched_tools.projects import Project
-
-sys.path.append(str(TOOLS.parent / "bridge"))
-from bsched_bridge.upload_tables import UploadTables  # noqa: E402
 
 
 def content(folder: Path, data: bytes) -> str:
@@ -75,8 +71,8 @@ def test_the_files_are_named_in_both_forms(tables: Path, uploads: Path) -> None:
             data = Path(file["path"]).read_bytes()
             assert (len(data), hashlib.sha256(data).hexdigest()) == (file["nbytes"], file["sha256"])
             assert data == f"{file['name']} of {line['workunit']}\n".encode()
-    told = {row["workunit"]: json.loads(row["files"]) for row in rows_of(tables, uploads=uploads)}
-    assert told == {line["workunit"]: line.get("files", []) for line in lines}
+    named = {row["workunit"]: json.loads(row["files"]) for row in rows_of(tables, uploads=uploads)}
+    assert named == {line["workunit"]: line.get("files", []) for line in lines}
     assert "files" not in rows_of(tables)[0] and "files" not in lines_of(tables)[0]
 
 

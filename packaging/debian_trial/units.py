@@ -17,35 +17,35 @@ class Units:
         if self.machine.boots:
             self.machine.run(f"systemctl enable --now {unit}", 120)
         else:
-            done, said = self.begin_by_hand(unit)
+            done, journal = self.begin_by_hand(unit)
             if not done:
-                raise TrialFault(f"{unit} does not start: {said}")
+                raise TrialFault(f"{unit} does not start: {journal}")
 
-    def refused(self, unit: str, words: str) -> str:
+    def refused(self, unit: str, text: str) -> str:
         """Returns the line of a unit that must not start. The line must have these words."""
         if self.machine.boots:
             # systemd keeps trying, so the command does not wait
             self.machine.run(f"systemctl start --no-block {unit}")
-            said = self.line_in_journal(unit, words)
+            journal = self.line_in_journal(unit, text)
             self.machine.run(f"systemctl stop {unit}")
         else:
-            done, said = self.begin_by_hand(unit)
+            done, journal = self.begin_by_hand(unit)
             if done:
                 raise TrialFault(f"{unit} started, though it should not")
-        lines = [line for line in said.splitlines() if words in line]
+        lines = [line for line in journal.splitlines() if text in line]
         if not lines:
-            raise TrialFault(f"{unit} says {said!r}, and not {words!r}")
+            raise TrialFault(f"{unit} says {journal!r}, and not {text!r}")
         return lines[0]
 
-    def line_in_journal(self, unit: str, words: str) -> str:
+    def line_in_journal(self, unit: str, text: str) -> str:
         """Returns what the journal has of a unit, once it has these words."""
-        said = ""
+        journal = ""
         for _ in range(40):
-            said = self.machine.run(f"journalctl --no-pager --output=cat --unit={unit}")
-            if words in said:
-                return said
+            journal = self.machine.run(f"journalctl --no-pager --output=cat --unit={unit}")
+            if text in journal:
+                return journal
             time.sleep(0.5)
-        return said
+        return journal
 
     def stop(self, unit: str) -> None:
         """Stops a unit."""

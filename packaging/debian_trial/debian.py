@@ -22,19 +22,19 @@ class TrialFault(Exception):
     """Something is not as it must be."""
 
 
-def run(words: list[str], seconds: int = 60, environment: dict[str, str] | None = None) -> str:
+def run(command: list[str], seconds: int = 60, environment: dict[str, str] | None = None) -> str:
     """Returns what a command prints on both outputs. A command that fails ends the trial."""
-    done = finished(words, seconds, environment)
+    done = finished(command, seconds, environment)
     if done.returncode:
-        raise TrialFault(f"{' '.join(words)}: status {done.returncode}\n{done.stdout[-3000:]}")
+        raise TrialFault(f"{' '.join(command)}: status {done.returncode}\n{done.stdout[-3000:]}")
     return done.stdout
 
 
-def finished(words: list[str], seconds: int = 60, environment: dict[str, str] | None = None) -> Done:
+def finished(command: list[str], seconds: int = 60, environment: dict[str, str] | None = None) -> Done:
     """Runs a command for at most so many seconds and returns how it ended."""
     try:
         return subprocess.run(
-            words,
+            command,
             stdin=subprocess.DEVNULL,
             stdout=subprocess.PIPE,
             stderr=subprocess.STDOUT,
@@ -43,7 +43,7 @@ def finished(words: list[str], seconds: int = 60, environment: dict[str, str] | 
             env=environment,
         )
     except subprocess.TimeoutExpired as late:
-        raise TrialFault(f"{' '.join(words)}: not done after {seconds} seconds") from late
+        raise TrialFault(f"{' '.join(command)}: not done after {seconds} seconds") from late
 
 
 class Root:
@@ -82,7 +82,7 @@ class Machine:
         self.boots = boots
         folder = str(root.path)
         if boots:
-            words = [
+            command = [
                 "systemd-nspawn",
                 "--quiet",
                 f"--directory={folder}",
@@ -95,7 +95,7 @@ class Machine:
                 "--timezone=off",
             ]
         else:
-            words = [
+            command = [
                 "unshare",
                 "--net",
                 "--pid",
@@ -111,7 +111,7 @@ class Machine:
                 "mount -t proc proc /proc; while true; do sleep 60; done",
             ]
         with log.open("w") as file:
-            self.process = subprocess.Popen(words, stdin=subprocess.DEVNULL, stdout=file, stderr=file)
+            self.process = subprocess.Popen(command, stdin=subprocess.DEVNULL, stdout=file, stderr=file)
         self.leader = ""
         try:
             self.wait_until_up()
@@ -150,12 +150,12 @@ class Machine:
             raise TrialFault(f"{command}: status {done.returncode}\n{done.stdout[-3000:]}")
         return done.stdout
 
-    def refused(self, command: str, status: int, words: str) -> str:
+    def refused(self, command: str, status: int, text: str) -> str:
         """Returns the one line of a command that must be refused with this status and these words."""
         done = self.finished(command)
         line = done.stdout.strip()
-        if done.returncode != status or words not in line or "\n" in line:
-            wanted = f"{status} and one line with {words!r}"
+        if done.returncode != status or text not in line or "\n" in line:
+            wanted = f"{status} and one line with {text!r}"
             raise TrialFault(f"{command}: status {done.returncode} and {line!r}, not {wanted}")
         return line
 
