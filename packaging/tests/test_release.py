@@ -244,6 +244,19 @@ def test_what_is_a_release(clone: Clone) -> None:
     assert GOOD.fullmatch(clone.build()) and clone.program.read_text() == "two\n"
 
 
+def test_a_version_that_another_commit_has_is_refused(clone: Clone) -> None:
+    tag = ["git", "-c", "user.name=T", "-c", "user.email=t@t", "tag", "--annotate", "v1.0.0", "--message=1.0.0"]
+    assert clone.run(*tag).returncode == 0
+    assert GOOD.fullmatch(clone.build())  # the tag is on this commit
+    change(clone, "README.md", "Other words.\n")
+    completed = clone.run("packaging/program")
+    assert completed.returncode == 1 and "its tag v1.0.0 is on the commit" in completed.stderr
+    assert clone.program.exists()
+    assert "its tag v1.0.0 is on the commit" in clone.build() and GOOD.fullmatch(clone.build("--trial"))
+    change(clone, "VERSION", "1.1.0\n")
+    assert clone.run("packaging/program").returncode == 0
+
+
 def test_a_version_that_differs_is_refused_in_a_trial_too(clone: Clone) -> None:
     change(clone, "VERSION", "1.0.1\n")
     assert "have different versions" in clone.build() and "have different versions" in clone.build("--trial")
