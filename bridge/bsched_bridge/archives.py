@@ -1,6 +1,6 @@
 """Credit from earlier files of a project, which is added to the credit in replies.
 
-If the file of a project is full, the project starts another one with the same accounts (docs/OPERATING.md,
+If the file of a project is full, the project starts another one with the same accounts (docs/NEXT_FILE.md,
 "More than 200,000 workunits"). The earlier files are archives. Nobody writes them any more.
 """
 import sqlite3

@@ -227,8 +227,8 @@ def test_the_settings_of_jobs_and_computers(machine: Machine) -> None:
 def test_the_pages_have_the_settings_that_a_project_gets_without_options(machine: Machine) -> None:
     assert machine.make("sums").returncode == 0
     numbers = of_project(machine, "sums")
-    page = (TOP / "docs" / "OPERATING.md").read_text()
-    assert shown_in(page[page.index("\n## The installed service") :], "daily_result_quota = ") == numbers
+    page = (TOP / "docs" / "SET_UP.md").read_text()
+    assert shown_in(page[page.index("\n## Settings and URL") :], "daily_result_quota = ") == numbers
     manual = (PACKAGING / "man" / "bsched-settings.5").read_text()
     assert shown_in(manual, "daily_result_quota = ") == numbers
 

@@ -245,7 +245,17 @@ def test_what_is_a_release(clone: Clone) -> None:
 
 
 def test_a_version_that_another_commit_has_is_refused(clone: Clone) -> None:
-    tag = ["git", "-c", "user.name=T", "-c", "user.email=t@t", "tag", "--annotate", "v1.0.0", "--message=1.0.0"]
+    tag = [
+        "git",
+        "-c",
+        "user.name=T",
+        "-c",
+        "user.email=t@t",
+        "tag",
+        "--annotate",
+        "v1.0.0",
+        "--message=1.0.0",
+    ]
     assert clone.run(*tag).returncode == 0
     assert GOOD.fullmatch(clone.build())  # the tag is on this commit
     change(clone, "README.md", "Other words.\n")

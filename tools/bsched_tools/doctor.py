@@ -30,7 +30,7 @@ OTHER_KEY = (
     "operator_key is not that of the tables, so ticks and imports with it are refused. Each copy of the "
     "tables has the right one: `SELECT value FROM setting WHERE name = 'operator_key'`"
 )
-RESTORE = 'restore a copy (docs/OPERATING.md, "Backup and restore")'
+RESTORE = 'restore a copy (docs/WHEN_WRONG.md, "Restore a copy")'
 
 
 def file_faults(path: Path) -> Iterator[str]:

@@ -218,7 +218,7 @@ def limits(project: Project, settings: UnitSettings) -> Iterator[Finding]:
         share = limit.used / limit.most
         level = level_of(share, *USED_SHARE)
         if level is not Level.GOOD:
-            advice = 'see "Limits" in docs/OPERATING.md'
+            advice = 'see "Limits" in docs/WHEN_WRONG.md'
             yield Finding("limits", level, f"{limit.used} of {limit.most} {name} are used: {advice}")
             return
     name, limit = max(counts.limits.items(), key=lambda item: item[1].used / item[1].most)

@@ -27,7 +27,7 @@ ATTEMPTS, PAUSE_SECONDS = 5, 2.0
 NO_SCHEDULER = "unavailable"  # the error of an answer, and what no answer counts as
 ADVICE = {
     "not_operator": "the scheduler has another operator_key: is it that of another project?",
-    "table_full": 'the table is full: see "Limits" in docs/OPERATING.md',
+    "table_full": 'the table is full: see "Limits" in docs/WHEN_WRONG.md',
     "too_large": "the batch is too large",
     "unavailable": "the scheduler is out of memory, or its disk is full or fails: run it again",
 }
