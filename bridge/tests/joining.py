@@ -35,11 +35,11 @@ def client_hash(password, email):
 
 def account_query(page, email, password, **more):
     """Returns the URL of a message about an account."""
-    told = {"email_addr": email, "passwd_hash": client_hash(password, email), **more}
-    return f"/p/{page}?" + "&".join(f"{name}={escaped(text)}" for name, text in told.items())
+    values = {"email_addr": email, "passwd_hash": client_hash(password, email), **more}
+    return f"/p/{page}?" + "&".join(f"{name}={escaped(text)}" for name, text in values.items())
 
 
-def told(answer):
+def key_or_number(answer):
     """Returns the key in an answer, or the number of its error."""
     status, fields, body = answer
     assert (status, fields["Content-Type"], fields["Cache-Control"]) == (
@@ -59,14 +59,16 @@ def told(answer):
 def create(bridge, email="ann@sums.example", password="secret1", name="ann", client=CLIENT, **more):
     """Returns the key or the error number from create_account.php."""
     query = account_query("create_account.php", email, password, user_name=name, **more)
-    number = told(bridge.got(query, REMOTE_ADDR=client))
+    number = key_or_number(bridge.got(query, REMOTE_ADDR=client))
     assert number not in (-161,)  # the Manager's wizard never ends after this answer to a creation
     return number
 
 
 def look_up(bridge, email="ann@sums.example", password="secret1", client=CLIENT):
     """Returns the key or the error number from lookup_account.php."""
-    number = told(bridge.got(account_query("lookup_account.php", email, password), REMOTE_ADDR=client))
+    number = key_or_number(
+        bridge.got(account_query("lookup_account.php", email, password), REMOTE_ADDR=client)
+    )
     # the Manager's wizard never ends after one of these answers to a look-up
     assert number not in (-136, -161, -204, -205, -206)
     return number

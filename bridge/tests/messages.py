@@ -22,7 +22,7 @@ def request(
         "</stderr_out></result>\n"
         for name, output in reports
     )
-    told = {
+    values = {
         "p_fpops": "1000000000.0",
         "m_nbytes": "8e9",
         "d_free": "8e9",
@@ -34,10 +34,10 @@ def request(
         f"<scheduler_request>\n<authenticator>{key}</authenticator>\n<hostid>{hostid}</hostid>\n"
         f"<rpc_seqno>{seqno}</rpc_seqno>\n"
         f"<work_req_seconds>{seconds}</work_req_seconds>\n"
-        f"<platform_name>{told['platform']}</platform_name>\n{told['extra']}"
-        f"<host_info><host_cpid>{cpid}</host_cpid><p_fpops>{told['p_fpops']}</p_fpops><m_nbytes>"
-        f"{told['m_nbytes']}</m_nbytes>"
-        f"<d_free>{told['d_free']}</d_free></host_info>\n{results}{other}</scheduler_request>\n"
+        f"<platform_name>{values['platform']}</platform_name>\n{values['extra']}"
+        f"<host_info><host_cpid>{cpid}</host_cpid><p_fpops>{values['p_fpops']}</p_fpops><m_nbytes>"
+        f"{values['m_nbytes']}</m_nbytes>"
+        f"<d_free>{values['d_free']}</d_free></host_info>\n{results}{other}</scheduler_request>\n"
     )
 
 

@@ -1,5 +1,5 @@
 """Random lives of a project: computers that are copied, renamed and attached anew, tables that are restored or
-replaced by a further file, and state files that get lost.
+replaced by a further file, state files that get lost, and bridges that are killed.
 
 At each reply a life checks two promises. A report that is acknowledged is recorded in the scheduler as that of
 the host that got the job. No two computers get one job, unless the scheduler itself gives it out again.
@@ -8,14 +8,20 @@ import copy
 import http.client
 import json
 from dataclasses import dataclass, field, replace
+from types import SimpleNamespace
 
 import plain
+from joining import Stopped, Stops
 from messages import jobs, names, request, value
 from twin import IMPORTS, Twin
 
 ABORTED = -221  # the exit status that BOINC's client reports for a job that it was told to abort
 FAULTS = ["lost", "unheard", "unavailable", "garbage"]
 MOST_CLIENTS = 7
+KILLS, MOST_STOPS = (
+    0.1,
+    8,
+)  # how often the bridge is killed, and at which of its writes and sends at the latest
 STEP_SECONDS = 60  # on the simulated clock
 LAST_ROUNDS = 12
 LIFE_SETTINGS = "most_hosts = 100000\n"
@@ -97,6 +103,8 @@ class Life:
             "further files": 0,
             "state files": 0,
             "changed host_cpids": 0,
+            "kills": 0,
+            "kills within a call": 0,
         }
 
     # ---- Steps
@@ -108,7 +116,10 @@ class Life:
         client = chance.choice(self.clients)
         if chance.random() < 0.15:
             self.twin.faults = [chance.choice(FAULTS) for _ in range(chance.randint(1, 6))]
-        self.call(client, loses=chance.random() < 0.15)
+        if chance.random() < KILLS:
+            self.is_killed(client)
+        else:
+            self.call(client, loses=chance.random() < 0.15)
         self.twin.faults = []
         happens = chance.random()
         if happens < 0.05:
@@ -125,6 +136,19 @@ class Life:
             self.changes_tables()
         elif happens < 0.22:
             self.changes_state_file()
+
+    def is_killed(self, client) -> None:
+        """A client calls, and the bridge is killed before or after one of its writes and sends, or else before
+        the client has the reply. Then it starts again.
+        """
+        stops = Stops(self.chance.randint(1, MOST_STOPS), self.chance.random() < 0.5)
+        stops.set(SimpleNamespace(setattr=setattr), self.bridge)
+        try:
+            self.call(client, loses=True)
+        except Stopped:
+            self.counts["kills within a call"] += 1
+        self.counts["kills"] += 1
+        self.bridge.restart()
 
     def copies(self, client) -> None:
         """A computer is copied. If there are many, another one is thrown away first."""

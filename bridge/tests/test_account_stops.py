@@ -13,7 +13,7 @@ import time
 
 import pytest
 from bridges import ACCOUNTS, BRIDGE, Bridge
-from joining import Stopped, Stops, account_query, create, look_up, made_accounts, rows, told, works
+from joining import Stopped, Stops, account_query, create, look_up, made_accounts, rows, key_or_number, works
 from twin import Twin
 
 from bsched_bridge.scheduler import NoAnswer
@@ -247,7 +247,7 @@ def test_a_bridge_that_is_not_killed_answers(project, twin):
         file.write(ACCOUNTS)
     bridge = Bridge(project, twin)
     stops = Stops(100, False).set(pytest.MonkeyPatch(), bridge)
-    key = told(bridge.got(account_query("create_account.php", EMAIL, "secret1", user_name="ann")))
+    key = key_or_number(bridge.got(account_query("create_account.php", EMAIL, "secret1", user_name="ann")))
     assert isinstance(key, str) and stops.points == ["write", "send", "write"]
     assert len(POINTS) == 2 * len(stops.points)
     bridge.file.close()

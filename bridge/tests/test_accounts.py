@@ -19,7 +19,7 @@ from joining import (
     look_up,
     made_accounts,
     rows,
-    told,
+    key_or_number,
     wait_until,
     works,
 )
@@ -73,9 +73,9 @@ QUERIES = [
 
 @pytest.mark.parametrize("query", QUERIES)
 def test_queries(open_bridge, query):
-    key = told(open_bridge.got(f"/p/create_account.php?{query}"))
+    key = key_or_number(open_bridge.got(f"/p/create_account.php?{query}"))
     assert works(open_bridge, key)
-    assert told(open_bridge.got(f"/p/lookup_account.php?{query}")) == key
+    assert key_or_number(open_bridge.got(f"/p/lookup_account.php?{query}")) == key
     assert rows(open_bridge) == [(EMAIL, key, 1)]
 
 
@@ -105,14 +105,14 @@ def test_what_is_no_address(open_bridge, twin, email, creation):
 @pytest.mark.parametrize("sent", ["", "0" * 31, "0" * 33, "g" * 32, client_hash("", EMAIL)])
 def test_what_is_no_password(open_bridge, sent):
     query = f"email_addr=ann%40sums%2Eexample&passwd_hash={sent}"
-    assert told(open_bridge.got(f"/p/create_account.php?{query}")) == -206
-    assert told(open_bridge.got(f"/p/lookup_account.php?{query}")) == -155
+    assert key_or_number(open_bridge.got(f"/p/create_account.php?{query}")) == -206
+    assert key_or_number(open_bridge.got(f"/p/lookup_account.php?{query}")) == -155
     assert rows(open_bridge) == []
 
 
 def test_an_account_key_is_looked_up_too(open_bridge):
     assert b"ann-key" in open_bridge.got("/p/lookup_account.php?email_addr=ann-key&passwd_hash=00")[2]
-    assert told(open_bridge.got("/p/lookup_account.php?email_addr=nobody&passwd_hash=00")) == -155
+    assert key_or_number(open_bridge.got("/p/lookup_account.php?email_addr=nobody&passwd_hash=00")) == -155
 
 
 def test_the_configuration(open_bridge):
@@ -321,7 +321,9 @@ def test_right_passwords_do_not_count(open_bridge):
 
 def of_key(bridge, key, client=CLIENT):
     """Returns the key or the error number from a look-up of a key."""
-    return told(bridge.got(f"/p/lookup_account.php?email_addr={key}&passwd_hash=00", REMOTE_ADDR=client))
+    return key_or_number(
+        bridge.got(f"/p/lookup_account.php?email_addr={key}&passwd_hash=00", REMOTE_ADDR=client)
+    )
 
 
 def test_wrong_keys_of_a_client(open_bridge, twin):
@@ -390,7 +392,7 @@ def test_whose_address_it_is(project, open_bridge):
     open_bridge.restart()
 
     def made(email, peer, **fields):
-        return told(
+        return key_or_number(
             open_bridge.got(
                 account_query("create_account.php", f"{email}@sums.example", "secret1"),
                 REMOTE_ADDR=peer,
@@ -450,7 +452,9 @@ def test_a_password_keeps_its_cost():
 def test_an_unknown_address_takes_a_hash_too(open_bridge, monkeypatch):
     create(open_bridge)
     made = []
-    monkeypatch.setattr("bsched_bridge.passwords.scrypt", lambda told, salt, cost: made.append(cost) or b"")
+    monkeypatch.setattr(
+        "bsched_bridge.passwords.scrypt", lambda passwd_hash, salt, cost: made.append(cost) or b""
+    )
     look_up(open_bridge, "nobody@sums.example")
     look_up(open_bridge)
     assert made == [Cost(2**4, 8, 1)] * 2
@@ -564,7 +568,9 @@ def test_account_messages_leave_threads_for_calls(open_bridge):
             thread.start()
         wait_until(lambda: not open_bridge.application.account_places._places._value)
         assert create(open_bridge, "bob@sums.example") == look_up(open_bridge) == -183
-        assert told(open_bridge.got("/p/lookup_account.php?email_addr=ann-key&passwd_hash=00")) == -183
+        assert (
+            key_or_number(open_bridge.got("/p/lookup_account.php?email_addr=ann-key&passwd_hash=00")) == -183
+        )
         for page in ("account_finish.php?auth=ann-key", "account", "get_passwd.php"):
             method = "GET" if "?" in page else "POST"
             form = b"key=ann-key&email=bob%40sums.example&password=secret1"
@@ -706,7 +712,7 @@ def test_a_full_disk(open_bridge, twin, monkeypatch):
         assert create(open_bridge) == -183
     key = create(open_bridge)
     with monkeypatch.context() as patch:
-        patch.setattr(open_bridge.members, "imported", lambda member: 1 // 0)
+        patch.setattr(open_bridge.members, "mark_imported", lambda member: 1 // 0)
         assert create(open_bridge, "bob@sums.example") == -183
     other = create(open_bridge, "bob@sums.example")
     assert made_accounts(twin) == [key, other]
@@ -741,7 +747,7 @@ def test_nothing_secret_is_logged(open_bridge, twin, caplog, monkeypatch):
     monkeypatch.setattr(open_bridge.application.accounts.members, "of_email", fails)
     assert create(open_bridge, client="203.0.113.9") == -183
     form = f"key={key}&email={EMAIL}&password=secret1".encode()
-    monkeypatch.setattr(open_bridge.application.accounts, "has_password", fails)
+    monkeypatch.setattr(open_bridge.application.accounts, "set_password", fails)
     kind = "application/x-www-form-urlencoded"
     assert open_bridge.got("/p/get_passwd.php", "POST", form, CONTENT_TYPE=kind)[0].startswith("500")
     assert caplog.text.count("a message could not be answered: ValueError") == 2

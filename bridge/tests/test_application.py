@@ -40,27 +40,27 @@ def test_what_a_client_asks_before_it_attaches(bridge):
 
 def test_an_account_is_looked_up_by_its_key(bridge):
     for member in ("authenticator", "email_addr"):
-        told = account_answer(bridge, f"lookup_account.php?{member}=ann-key&passwd_hash=00")
-        assert told.findtext("authenticator") == "ann-key"
+        answer = account_answer(bridge, f"lookup_account.php?{member}=ann-key&passwd_hash=00")
+        assert answer.findtext("authenticator") == "ann-key"
     for query in ("?authenticator=nobody", "?authenticator=a%20b", "?email_addr=", ""):
-        told = account_answer(bridge, f"lookup_account.php{query}")
-        assert (told.tag, told.findtext("error_num")) == ("error", "-155")
-        assert told.findtext("error_num") not in HANGING_ERRORS
+        answer = account_answer(bridge, f"lookup_account.php{query}")
+        assert (answer.tag, answer.findtext("error_num")) == ("error", "-155")
+        assert answer.findtext("error_num") not in HANGING_ERRORS
     assert bridge.twin.service.machine.hosts == {}  # asking makes no host
     for _ in range(20):  # without [accounts] the peer may be a proxy, so wrong keys don't count
         account_answer(bridge, "lookup_account.php?authenticator=nobody")
     assert account_answer(bridge, "lookup_account.php?authenticator=ann-key").tag == "account_out"
     with bridge.application.account_places.taken(), bridge.application.account_places.taken():
         with bridge.application.account_places.taken(), bridge.application.account_places.taken():
-            told = account_answer(bridge, "lookup_account.php?authenticator=ann-key")
-    assert told.findtext("error_num") == "-183"
+            answer = account_answer(bridge, "lookup_account.php?authenticator=ann-key")
+    assert answer.findtext("error_num") == "-183"
     bridge.twin.close()
     assert account_answer(bridge, "lookup_account.php?authenticator=ann-key").findtext("error_num") == "-183"
 
 
 def test_no_client_makes_an_account(bridge):
-    told = account_answer(bridge, "create_account.php?email_addr=a@b.example&passwd_hash=00&user_name=Ann")
-    assert (told.tag, told.findtext("error_num")) == ("error", "-208")
+    answer = account_answer(bridge, "create_account.php?email_addr=a@b.example&passwd_hash=00&user_name=Ann")
+    assert (answer.tag, answer.findtext("error_num")) == ("error", "-208")
     assert bridge.twin.heard == []
 
 
@@ -149,10 +149,10 @@ def test_a_name_of_any_characters(bridge):
 
 
 @pytest.mark.parametrize(
-    "end_word, told",
+    "end_word, message",
     [("no_eligible_work", "No tasks are available"), ("in_progress_limit", "limit on tasks")],
 )
-def test_why_there_are_no_jobs(bridge, end_word, told):
+def test_why_there_are_no_jobs(bridge, end_word, message):
     listed = []
     for _ in range(8):
         reply = bridge.call(request(hostid=int(bool(listed)), listed=listed, seconds=1000))
@@ -162,7 +162,7 @@ def test_why_there_are_no_jobs(bridge, end_word, told):
         if end_word == "no_eligible_work":
             bridge.call(request(hostid=FIRST, listed=[], reports=[(name, "1") for name in listed], seconds=0))
             listed = []
-    assert told in value(reply, "message")
+    assert message in value(reply, "message")
 
 
 def test_aborted_names_are_told(bridge):
@@ -204,8 +204,8 @@ def test_what_is_no_message(bridge, monkeypatch):
 
 def test_large_requests_are_read_one_after_the_other(bridge, monkeypatch):
     large = request(extra=" " * 1024 * 1024)
-    monkeypatch.setattr(bridge.application._large, "wait_seconds", 0.01)
-    with bridge.application._large.held("large"):
+    monkeypatch.setattr(bridge.application.requests.reader.large, "wait_seconds", 0.01)
+    with bridge.application.requests.reader.large.held("large"):
         reply = bridge.call(large)
         assert value(reply, "message") == "The project is busy at the moment."
         assert (value(reply, "request_delay"), jobs(reply)) == ("60.000000", [])
@@ -263,9 +263,9 @@ def further_file(bridge, key, members):
 def test_a_further_file_of_a_version_can_be_a_program(bridge, key, members, executable):
     further_file(bridge, key, members)
     reply = ElementTree.fromstring(bridge.call(request()))
-    told = {file.findtext("name"): file.findtext("executable") for file in reply.findall("file_info")}
-    assert told["sum_1"] == "1"
-    assert told["tool_1"] == executable
+    executables = {file.findtext("name"): file.findtext("executable") for file in reply.findall("file_info")}
+    assert executables["sum_1"] == "1"
+    assert executables["tool_1"] == executable
 
 
 def test_an_application_whose_results_are_reported_at_once(bridge):
@@ -298,7 +298,7 @@ def test_the_manager_gets_a_button_for_the_account(open_bridge):
 
 def test_files_that_are_read_slowly_leave_threads_for_pages_and_calls(bridge):
     """gunicorn has a thread for each file until its client has read it."""
-    told = []
+    started = []
 
     def asked(name="two.txt", **more):
         environ = {
@@ -307,16 +307,16 @@ def test_files_that_are_read_slowly_leave_threads_for_pages_and_calls(bridge):
             "SERVER_SOFTWARE": "gunicorn/20.1.0",
             **more,
         }
-        return bridge.application(environ, lambda status, fields: told.append(status[:3]))
+        return bridge.application(environ, lambda status, fields: started.append(status[:3]))
 
     for _ in range(10):  # none of these keeps a place
         asked("nothing")
         asked(HTTP_RANGE="bytes=9-")
         asked(REQUEST_METHOD="HEAD")
-    assert set(told) == {"404", "416", "200"}
-    told.clear()
+    assert set(started) == {"404", "416", "200"}
+    started.clear()
     slow = [asked() for _ in range(5)]
-    assert told == ["200"] * 4 + ["503"]
+    assert started == ["200"] * 4 + ["503"]
     assert jobs(bridge.call(request())) == ["u1_0"]
     slow[0].close()
-    assert b"".join(asked()) == b"2\n" and told[-1] == "200"
+    assert b"".join(asked()) == b"2\n" and started[-1] == "200"

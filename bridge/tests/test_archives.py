@@ -55,8 +55,8 @@ def test_an_archive_that_is_named_twice(tmp_path):
 
 def test_a_file_that_is_no_archive(tmp_path):
     path = tmp_path / "1.db"
-    for told in (b"", b"text" * 1000):
-        path.write_bytes(told)
+    for content in (b"", b"text" * 1000):
+        path.write_bytes(content)
         with pytest.raises(OperatorFault, match="1.db: can't be read as an archive"):
             read_archives([path])
 
@@ -68,13 +68,13 @@ def test_settings(project):
     (project / "2026.db").write_bytes(b"")
     path.write_text(f'{text}archives = ["2026.db"]\n')
     assert read_settings(path).archives == (project / "2026.db",)
-    for archives, told in (
+    for archives, message in (
         ('["none.db"]', "none.db is not a file"),
         ("[1]", "is not an array of texts in quotes"),
         ('"2026.db"', "is not an array of texts in quotes"),
     ):
         path.write_text(f"{text}archives = {archives}\n")
-        with pytest.raises(OperatorFault, match=f"line 8: archives.*{told}"):
+        with pytest.raises(OperatorFault, match=f"line 8: archives.*{message}"):
             read_settings(path)
 
 
@@ -84,8 +84,8 @@ def test_replies_and_the_page_have_the_credit(project, bridge):
     with (project / "bridge.toml").open("a") as file:
         file.write('archives = ["2026.db"]\n')
     bridge.restart()
-    told = bridge.call(request(hostid=FIRST))
-    assert (value(told, "user_total_credit"), value(told, "host_total_credit")) == ("6.500", "4.000")
+    reply = bridge.call(request(hostid=FIRST))
+    assert (value(reply, "user_total_credit"), value(reply, "host_total_credit")) == ("6.500", "4.000")
     # the user's credit in the latest reply; the host's credit by its statement, which is 5.000 in the twin
     assert shown(bridge, "status") == ["1", "6.500", str(FIRST), "9.000", *"11111", "all", "", *"11111"]
 

@@ -34,15 +34,15 @@ def order(folder, name, *words):
 
 def done(folder, name, *words):
     """Returns what a command prints that must succeed."""
-    status, told, fault = order(folder, name, *words)
+    status, output, fault = order(folder, name, *words)
     assert (status, fault) == (0, "")
-    return told
+    return output
 
 
 def refused(folder, name, *words):
     """Returns the one line of a command that must be refused."""
-    status, told, fault = order(folder, name, *words)
-    assert (status, told, fault.count("\n")) == (1, "", 1)
+    status, output, fault = order(folder, name, *words)
+    assert (status, output, fault.count("\n")) == (1, "", 1)
     return fault
 
 
@@ -90,9 +90,9 @@ def test_an_account_is_shown_by_any_of_its_names(project, open_bridge, by):
         "key": key,
         "front": key[:8],
     }
-    told = done(project, "show", names[by])
-    assert f"key: {key}\n" in told and f"address: {ANN}\n" in told and "state: good\n" in told
-    assert re.search(r"^computer \d+ \(1 in the tables\): 0.000 credit, called last ", told, re.MULTILINE)
+    output = done(project, "show", names[by])
+    assert f"key: {key}\n" in output and f"address: {ANN}\n" in output and "state: good\n" in output
+    assert re.search(r"^computer \d+ \(1 in the tables\): 0.000 credit, called last ", output, re.MULTILINE)
 
 
 def test_what_names_no_account_or_several(project, open_bridge):
@@ -176,8 +176,8 @@ def test_a_volunteer_deletes_the_account(project, open_bridge):
 def test_nobody_gets_a_deleted_account_back_by_its_key(project, open_bridge):
     key = create(open_bridge)
     done(project, "delete", "--yes", ANN)
-    told = posted(open_bridge, "get_passwd.php", key=key, email="eve@sums.example", password="secret2")
-    assert "No account has this key" in told
+    output = posted(open_bridge, "get_passwd.php", key=key, email="eve@sums.example", password="secret2")
+    assert "No account has this key" in output
     assert open_bridge.got(f"/p/account_finish.php?auth={key}")[0] == "404 Not Found"
     query = f"/p/lookup_account.php?email_addr={key}&passwd_hash={client_hash('x', key)}"
     assert b"-155" in open_bridge.got(query, REMOTE_ADDR=CLIENT)[2]
@@ -192,8 +192,8 @@ def test_the_operator_deletes_an_account(project, open_bridge):
     is_forgotten(project, open_bridge, key)
     assert "was deleted" in refused(project, "unbar", key)
     assert "deleted" in done(project, "bar", key)
-    told = json.loads(done(project, "consented", "--json"))
-    assert told == {"authenticator": key, "name": "deleted", "is_deleted": True}
+    output = json.loads(done(project, "consented", "--json"))
+    assert output == {"authenticator": key, "name": "deleted", "is_deleted": True}
     assert done(project, "consented") == "" and "0 users" not in done(project, "members")
 
 
@@ -210,8 +210,8 @@ def test_a_message_in_work_writes_nothing_of_a_deleted_account(project, open_bri
 
     scheduler.call_once = deleted_meanwhile
     open_bridge.call(request(key=key, cpid="computer-of-ann"))
-    open_bridge.members.changed(member, "Zoë", True)
-    open_bridge.members.has_password(member, ANN, member.secret)
+    open_bridge.members.change(member, "Zoë", True)
+    open_bridge.members.set_password(member, ANN, member.secret)
     is_forgotten(project, open_bridge, key)
     assert files_with(project, "computer-of-ann") == []
 
@@ -298,5 +298,5 @@ def test_a_second_bridge_is_refused_while_a_command_works(project, open_bridge):
 def test_the_version():
     command = [sys.executable, "-m", "bsched_bridge", "--version"]
     bridge = os.path.dirname(os.path.dirname(os.path.abspath(__file__)))
-    told = subprocess.run(command, capture_output=True, text=True, timeout=60, cwd=bridge)
-    assert re.fullmatch(r"bsched-bridge \d+\.\d+\.\d+\n", told.stdout)
+    completed = subprocess.run(command, capture_output=True, text=True, timeout=60, cwd=bridge)
+    assert re.fullmatch(r"bsched-bridge \d+\.\d+\.\d+\n", completed.stdout)

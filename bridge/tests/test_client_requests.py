@@ -28,46 +28,46 @@ def read_request(body, size=65_536):
 
 
 def test_a_first_request():
-    told = read_request(recorded("first"))
-    assert told.authenticator == "ann-key"
-    assert told.hostid == 0
-    assert told.host_cpid == "0fb84cfbc167689574d58ef96c0de1b7"
+    parsed = read_request(recorded("first"))
+    assert parsed.authenticator == "ann-key"
+    assert parsed.hostid == 0
+    assert parsed.host_cpid == "0fb84cfbc167689574d58ef96c0de1b7"
     # rounded down
-    assert (told.p_fpops, told.m_nbytes, told.d_free) == (1_000_000_000, 25_276_080_128, 66_681_540_608)
-    assert told.work_req_seconds == 1  # rounded up
-    assert (told.platform_name, told.alt_platforms) == ("x86_64-pc-linux-gnu", ("i686-pc-linux-gnu",))
-    assert told.other_results == ()  # the client says that it has nothing
-    assert told.results == ()
-    assert told.code_sign_key == ""
+    assert (parsed.p_fpops, parsed.m_nbytes, parsed.d_free) == (1_000_000_000, 25_276_080_128, 66_681_540_608)
+    assert parsed.work_req_seconds == 1  # rounded up
+    assert (parsed.platform_name, parsed.alt_platforms) == ("x86_64-pc-linux-gnu", ("i686-pc-linux-gnu",))
+    assert parsed.other_results == ()  # the client says that it has nothing
+    assert parsed.results == ()
+    assert parsed.code_sign_key == ""
 
 
 def test_reports_and_what_the_client_has():
-    told = read_request(recorded("reports"))
-    assert told.hostid == 1
-    assert told.other_results == ("sum_5_0", "sum_6_1")
-    assert told.results == (
+    parsed = read_request(recorded("reports"))
+    assert parsed.hostid == 1
+    assert parsed.other_results == ("sum_5_0", "sum_6_1")
+    assert parsed.results == (
         Report("sum_1_0", 0, "500500"),
         # not finished, so no success
         Report("sum_2_0", 1, "<message>\ncouldn't start app: missing file</message>"),
         Report("sum_3_0", 203, "half"),
         Report("sum_4_0", 0, "-12"),  # what the program marked as its answer
     )
-    assert told.code_sign_key == "102400ff."
+    assert parsed.code_sign_key == "102400ff."
 
 
 def test_no_list_and_numbers_out_of_range():
-    told = read_request(recorded("unlisted"))
-    assert told.other_results is None
-    assert (told.p_fpops, told.m_nbytes, told.d_free) == (1, 0, 10**18)
-    assert told.work_req_seconds == 0
+    parsed = read_request(recorded("unlisted"))
+    assert parsed.other_results is None
+    assert (parsed.p_fpops, parsed.m_nbytes, parsed.d_free) == (1, 0, 10**18)
+    assert parsed.work_req_seconds == 0
 
 
 def test_more_than_the_profile_takes():
     platforms = "".join(f"<alt_platform><name>p{number}</name></alt_platform>" for number in range(9))
-    told = read_request(request(seconds=1e12, extra=platforms, reports=[("u1_0", "é" * 600)]).encode())
-    assert told.work_req_seconds == 10**9
-    assert told.alt_platforms == tuple(f"p{number}" for number in range(7))
-    assert told.results[0].output == "é" * 512
+    parsed = read_request(request(seconds=1e12, extra=platforms, reports=[("u1_0", "é" * 600)]).encode())
+    assert parsed.work_req_seconds == 10**9
+    assert parsed.alt_platforms == tuple(f"p{number}" for number in range(7))
+    assert parsed.results[0].output == "é" * 512
     assert (
         read_request(request(reports=[("u1_0", "x" + "é" * 600)]).encode()).results[0].output
         == "x" + "é" * 511
@@ -166,7 +166,7 @@ def test_tags_that_are_never_closed(tag):
 
 
 @pytest.mark.parametrize(
-    "told, status",
+    "exit_elements, status",
     [
         ("0</exit_status><state>5", 0),
         ("0</exit_status><state>3", 1),
@@ -175,8 +175,8 @@ def test_tags_that_are_never_closed(tag):
         ("7</exit_status><state>5", 7),
     ],
 )
-def test_exit_statuses(told, status):
-    body = request(reports=[("u1_0", "")]).replace("0</exit_status><state>5", told)
+def test_exit_statuses(exit_elements, status):
+    body = request(reports=[("u1_0", "")]).replace("0</exit_status><state>5", exit_elements)
     assert read_request(body.encode()).results[0].exit_status == status
 
 
@@ -250,19 +250,19 @@ def test_a_tag_of_too_many_attributes(text):
 
 
 def test_bytes_that_are_no_xml_outside_of_a_standard_error():
-    told = read_request(request(extra="<name>A\x01HERE\ufffe</name>").encode().replace(b"HERE", b"\xff"))
-    assert told.host_cpid == "c1"
+    parsed = read_request(request(extra="<name>A\x01HERE\ufffe</name>").encode().replace(b"HERE", b"\xff"))
+    assert parsed.host_cpid == "c1"
 
 
 def test_hostile_requests_take_little_memory_and_time():
     """Eight at once take as much memory as 64, since the others wait; bridge/tests/hostile.py reads more."""
-    told = subprocess.run(
+    completed = subprocess.run(
         [sys.executable, Path(__file__).parent / "hostile.py", "8", "2"],
         check=True,
         capture_output=True,
         text=True,
     ).stdout
-    lines = re.findall(r"^(\d+) MB, ([0-9.]+) seconds: ", told, re.MULTILINE)
+    lines = re.findall(r"^(\d+) MB, ([0-9.]+) seconds: ", completed, re.MULTILINE)
     assert len(lines) == len(SHAPES)
     assert max(int(peak) for peak, _ in lines) < 300
     assert max(float(seconds) for _, seconds in lines) < 2
@@ -307,5 +307,5 @@ def test_a_result_whose_upload_was_given_up_is_no_success(files, status, report)
         .replace("<exit_status>0</exit_status>", f"<exit_status>{status}</exit_status>")
         .replace("</stderr_out></result>", f"</stderr_out>{files}</result>")
     )
-    (told,) = read_request(body.encode()).results
-    assert (told.exit_status, told.output) == report
+    (result,) = read_request(body.encode()).results
+    assert (result.exit_status, result.output) == report

@@ -70,14 +70,14 @@ def test_the_commands(tmp_path):
     assert ordered(tmp_path, "keygen").returncode == 0
     assert (tmp_path / "code_sign_private").stat().st_mode & 0o777 == 0o600
     (tmp_path / "program").write_bytes(b"")
-    told = ordered(tmp_path, "sign", "program", "--key", "code_sign_private")
+    completed = ordered(tmp_path, "sign", "program", "--key", "code_sign_private")
     public = read_public_key((tmp_path / "code_sign_public").read_text())
-    assert told.returncode == 0
+    assert completed.returncode == 0
     assert file_md5(tmp_path / "program") == MD5
-    assert is_signature(MD5, told.stdout, public)
+    assert is_signature(MD5, completed.stdout, public)
     assert ordered(tmp_path, "keygen").returncode == 1  # it overwrites no key
-    told = ordered(tmp_path, "sign", "program", "--key", "code_sign_public")
-    assert (told.returncode, told.stderr) == (
+    completed = ordered(tmp_path, "sign", "program", "--key", "code_sign_public")
+    assert (completed.returncode, completed.stderr) == (
         1,
         "bsched-bridge: code_sign_public has 256 bytes, and a private key has 704\n",
     )
@@ -87,8 +87,11 @@ def test_the_commands(tmp_path):
 @pytest.mark.parametrize("there", ["code_sign_private", "code_sign_public"])
 def test_no_key_is_made_without_its_other_half(tmp_path, there):
     (tmp_path / there).write_text("older")
-    told = ordered(tmp_path, "keygen")
-    assert (told.returncode, told.stderr) == (1, f"bsched-bridge: {there} exists, and is not replaced\n")
+    completed = ordered(tmp_path, "keygen")
+    assert (completed.returncode, completed.stderr) == (
+        1,
+        f"bsched-bridge: {there} exists, and is not replaced\n",
+    )
     assert [(path.name, path.read_text()) for path in tmp_path.iterdir()] == [(there, "older")]
 
 

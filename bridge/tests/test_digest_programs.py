@@ -58,7 +58,7 @@ def test_the_program_gets_the_files_in_their_order(program, tmp_path, out):
 
 
 @pytest.mark.parametrize(
-    "script, said",
+    "script, output",
     [
         ("env | grep -v ^PWD=; true", ""),  # the shell itself sets PWD
         ("id -u", "65534"),
@@ -77,9 +77,9 @@ def test_the_program_gets_the_files_in_their_order(program, tmp_path, out):
         ("python3 -c 'bytes(2 << 30)' 2> /dev/null || echo refused", "refused"),
     ],
 )
-def test_what_a_program_can_reach(program, out, script, said):
-    told = digest_of(program(script), out)
-    assert told.replace("etc\n", "") == said
+def test_what_a_program_can_reach(program, out, script, output):
+    text = digest_of(program(script), out)
+    assert text.replace("etc\n", "") == output
 
 
 @pytest.mark.parametrize(
@@ -192,13 +192,13 @@ def replaced(bridge, text):
 
 
 def test_results_agree_by_their_digests(digest_bridge):
-    told = []
+    reports = []
     for place, (client, data) in enumerate((("ann", b"one\ntwo\n"), ("bob", b"two\none\n"))):
         infos = worked(digest_bridge, data, key=f"{client}-key", cpid=client)
         body = report(f"u1_{place}", infos, hostid=FIRST + place, key=f"{client}-key", cpid=client)
-        told.append(reported(digest_bridge, body))
-    assert told[0] == told[1]
-    assert told[0][0] == 0 and told[0][1].startswith("any_order sha256:")
+        reports.append(reported(digest_bridge, body))
+    assert reports[0] == reports[1]
+    assert reports[0][0] == 0 and reports[0][1].startswith("any_order sha256:")
     assert len(on_disk(digest_bridge.folder)) == 2  # the files are those of each
 
 

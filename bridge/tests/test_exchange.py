@@ -67,7 +67,7 @@ def test_an_answer_that_is_lost_is_asked_for_again_with_the_same_bytes(bridge, t
     twin.faults = ["lost", "lost"]
     assert jobs(bridge.call(request())) == ["u1_0"]
     assert twin.heard[0] == twin.heard[1] == twin.heard[2]
-    assert twin.told[0] == twin.told[1] == twin.told[2]
+    assert twin.answers[0] == twin.answers[1] == twin.answers[2]
 
 
 @pytest.mark.parametrize("fault", ["unheard", "lost", "unavailable", "garbage"])
@@ -89,9 +89,9 @@ def test_members_that_the_bridge_does_not_know_are_passed_over(bridge, twin):
     handle = twin.service.scheduler
 
     def newer(body, now):
-        said = json.loads(handle(body, now))
-        jobs = [{**job, "job_news": [1]} for job in said["results"]]
-        return json.dumps({**said, "results": jobs, "news": {"a": 1}})
+        answer = json.loads(handle(body, now))
+        jobs = [{**job, "job_news": [1]} for job in answer["results"]]
+        return json.dumps({**answer, "results": jobs, "news": {"a": 1}})
 
     twin.service.scheduler = newer
     assert jobs(bridge.call(request())) == ["u1_0"]
@@ -106,7 +106,7 @@ def test_an_answer_that_lacks_a_member_is_none(bridge, twin):
 
 def test_an_answer_that_is_too_long_is_an_error(bridge, twin, monkeypatch, caplog):
     bridge.call(request())
-    longest = max(map(len, twin.told))
+    longest = max(map(len, twin.answers))
     monkeypatch.setattr("bsched_bridge.scheduler.MOST_ANSWER", longest)
     assert names(bridge.call(request(hostid=FIRST, reports=[("u1_0", "42")], seconds=0)), "result_ack") == [
         "u1_0"
@@ -204,7 +204,7 @@ def test_open_calls_are_sent_again_at_the_start(bridge, twin):
     resending.end()
     assert twin.heard[3] == twin.heard[4]
     assert len(twin.heard) == 5  # and no more after the answer
-    assert json.loads(twin.told[-1])["result_ack"] == ["u1_0"]
+    assert json.loads(twin.answers[-1])["result_ack"] == ["u1_0"]
 
 
 def test_a_call_that_gets_no_answer_does_not_keep_others_from_theirs(bridge, twin):
@@ -245,8 +245,8 @@ def test_jobs_in_hand_that_bsched_aborts_or_acknowledges_are_not_handed_on():
 @pytest.mark.parametrize("status", [500, 502, 503])
 def test_a_server_error_is_no_answer(bridge, twin, monkeypatch, status):
     bridge.call(request())
-    told = '{"error":"hosts_full","number":12}'.encode()
-    monkeypatch.setattr(bridge.application.scheduler, "_exchange", lambda *_words: (status, told))
+    refusal = '{"error":"hosts_full","number":12}'.encode()
+    monkeypatch.setattr(bridge.application.scheduler, "_exchange", lambda *_words: (status, refusal))
     assert value(bridge.call(request(hostid=FIRST)), "project_is_down") == "1"
 
 

@@ -26,8 +26,8 @@ def settings(project, *lines):
 def called(bridge, number, key="ann-key", hostid=0):
     """Has a host call. Returns the place of its hostid in the order of all, or the message to the volunteer."""
     reply = bridge.call(request(key=key, cpid=f"c{number}", hostid=hostid, seconds=0))
-    told = value(reply, "hostid")
-    return str(int(told) - FIRST + 1) if told else value(reply, "message") or "known"
+    hostid = value(reply, "hostid")
+    return str(int(hostid) - FIRST + 1) if hostid else value(reply, "message") or "known"
 
 
 def test_one_account_fills_no_project(bridge, twin):

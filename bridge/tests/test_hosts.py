@@ -155,10 +155,10 @@ def test_a_client_of_an_upgraded_bridge_with_another_host_cpid(two, twin):
     assert len(twin.service.machine.hosts) == 2
 
 
-@pytest.mark.parametrize("told", ["no answer", "refused"])
-def test_without_a_statement_nothing_is_acknowledged(two, twin, monkeypatch, told):
+@pytest.mark.parametrize("fault", ["no answer", "refused"])
+def test_without_a_statement_nothing_is_acknowledged(two, twin, monkeypatch, fault):
     loses_state(two, monkeypatch)
-    if told == "refused":
+    if fault == "refused":
         monkeypatch.setattr(two.application.scheduler, "statement", lambda *_words: None)
     else:
         # the call is answered after another try, and the question for the host is not
@@ -287,11 +287,11 @@ def test_clients_with_the_former_numbers(two, twin):
         connection.execute("UPDATE host SET hostid = NULL, client_seqno = NULL")
     reply = two.call(request(hostid=2, cpid="a", seqno=40, reports=[("u1_0", "42")], seconds=0))
     assert names(reply, "result_ack") == ["u1_0"] and recorded(twin, "u1_0") == "a"
-    told = value(reply, "hostid")
+    hostid = value(reply, "hostid")
     # the reply is lost, and the client sends the same again
     reply = two.call(request(hostid=2, cpid="a", seqno=40, reports=[("u1_0", "42")], seconds=0))
-    assert value(reply, "hostid") == told and names(reply, "result_ack") == ["u1_0"]
-    assert value(two.call(request(hostid=told, cpid="new", seqno=1, seconds=0)), "hostid") is None
+    assert value(reply, "hostid") == hostid and names(reply, "result_ack") == ["u1_0"]
+    assert value(two.call(request(hostid=hostid, cpid="new", seqno=1, seconds=0)), "hostid") is None
 
 
 def test_a_host_without_a_reply_is_forgotten_after_a_refusal_and_one_with_a_number_is_not(two, twin):

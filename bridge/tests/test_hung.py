@@ -24,9 +24,9 @@ def silent():
 def seconds(action):
     """Returns how long an action takes that gets no answer, and the fault."""
     began = time.monotonic()
-    with pytest.raises(NoAnswer) as told:
+    with pytest.raises(NoAnswer) as raised:
         action()
-    return time.monotonic() - began, told.type
+    return time.monotonic() - began, raised.type
 
 
 def test_after_a_time_out_messages_fail_at_once(silent):
@@ -73,9 +73,9 @@ def test_pages_and_files_are_answered_while_bsched_hangs(bridge, silent, monkeyp
     def got(method, path, body=None):
         connection = http.client.HTTPConnection("127.0.0.1", port, timeout=30)
         connection.request(method, path, body)
-        told = connection.getresponse().read()
+        body = connection.getresponse().read()
         connection.close()
-        return told
+        return body
 
     callers = [
         threading.Thread(target=got, args=("POST", "/p/cgi", request(cpid=f"c{number}")))

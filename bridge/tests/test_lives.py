@@ -34,7 +34,7 @@ class Client:
         """Calls. The reply may get lost on the way, and the bridge may be killed."""
         self.finished |= {name for name in self.working if chance.random() < 0.5}
         self.working -= self.finished
-        told = request(
+        body = request(
             hostid=self.hostid,
             key=self.key,
             cpid=self.cpid,
@@ -43,7 +43,7 @@ class Client:
             reports=[(name, name.split("_")[0]) for name in sorted(self.finished)],
         )
         try:
-            reply = bridge.call(told)
+            reply = bridge.call(body)
         except (OSError, http.client.HTTPException):
             return
         if loses:
@@ -98,7 +98,7 @@ def looked_at_numbers(twin):
         number, before = last.get(key, (0, b""))
         assert call["rpc_seqno"] > number or (call["rpc_seqno"] == number and body == before)
         last[key] = call["rpc_seqno"], body
-    refusals = {json.loads(told)["error"] for told in twin.told if '"error"' in told}
+    refusals = {json.loads(answer)["error"] for answer in twin.answers if '"error"' in answer}
     assert refusals <= {"unavailable", "bad_host"}  # a question of the bridge is refused as bad_host
 
 

@@ -134,10 +134,10 @@ SETTINGS_FAULTS = [
 def test_faulty_settings(project, old, new, line, what):
     path = project / "bridge.toml"
     path.write_text(path.read_text().replace(old, new, 1))
-    with pytest.raises(OperatorFault) as told:
+    with pytest.raises(OperatorFault) as raised:
         read_settings(path)
-    assert re.search(what, str(told.value))
-    assert str(told.value).startswith(f"{path}: " if line is None else f"{path}: line {line}: ")
+    assert re.search(what, str(raised.value))
+    assert str(raised.value).startswith(f"{path}: " if line is None else f"{path}: line {line}: ")
 
 
 def test_settings_that_can_not_be_read(project):
@@ -208,10 +208,10 @@ CATALOGUE_FAULTS = [
 def test_faulty_catalogues(project, old, new, line, what):
     path = project / "catalogue.toml"
     path.write_text(path.read_text().replace(old, new, 1))
-    with pytest.raises(OperatorFault) as told:
+    with pytest.raises(OperatorFault) as raised:
         read_catalogue(path)
-    assert re.search(what, str(told.value))
-    assert str(told.value).startswith(f"{path}: line {line}: ")
+    assert re.search(what, str(raised.value))
+    assert str(raised.value).startswith(f"{path}: line {line}: ")
 
 
 def test_a_program_that_was_changed_after_it_was_signed(project):
@@ -254,29 +254,29 @@ def at_port(project, port):
 
 def test_the_check_asks_the_scheduler(project, twin):
     at_port(project, twin.address.port)
-    told = ordered(project, "--config", "bridge.toml", "--check")
+    completed = ordered(project, "--config", "bridge.toml", "--check")
     place = f"the scheduler at 127.0.0.1:{twin.address.port}"
-    assert (told.returncode, told.stdout.splitlines()[1:]) == (0, [f"{place} knows operator_key"])
+    assert (completed.returncode, completed.stdout.splitlines()[1:]) == (0, [f"{place} knows operator_key"])
     path = project / "bridge.toml"
     path.write_text(path.read_text().replace("change-this-key", "another-key"))
-    told = ordered(project, "--config", "bridge.toml", "--check")
+    completed = ordered(project, "--config", "bridge.toml", "--check")
     fault = f"{place} refuses operator_key: it is that of another project, or the key is another one"
-    assert (told.returncode, told.stderr) == (1, f"bsched-bridge: bridge.toml: line 5: {fault}\n")
+    assert (completed.returncode, completed.stderr) == (1, f"bsched-bridge: bridge.toml: line 5: {fault}\n")
 
 
 def test_the_command_line(project):
     at_port(project, free_port())
-    told = ordered(project, "--config", "bridge.toml", "--check")
-    lines = told.stdout.splitlines()
-    assert (told.returncode, lines[0]) == (0, "good: 1 applications, 1 versions, 1 workunits")
+    completed = ordered(project, "--config", "bridge.toml", "--check")
+    lines = completed.stdout.splitlines()
+    assert (completed.returncode, lines[0]) == (0, "good: 1 applications, 1 versions, 1 workunits")
     assert lines[1].endswith("so operator_key was not compared") and "gives no answer" in lines[1]
     with (project / "bridge.toml").open("a") as file:
         file.write("[accounts]\nmost_a_day = 7\n")
-    told = ordered(project, "--config", "bridge.toml", "--check")
-    assert told.stdout.splitlines()[1] == "volunteers make accounts: at most 7 a day, 3 from one address"
+    completed = ordered(project, "--config", "bridge.toml", "--check")
+    assert completed.stdout.splitlines()[1] == "volunteers make accounts: at most 7 a day, 3 from one address"
     (project / "catalogue.toml").write_text("x = 1\n")
-    told = ordered(project, "--config", "bridge.toml")
-    assert (told.returncode, told.stderr) == (
+    completed = ordered(project, "--config", "bridge.toml")
+    assert (completed.returncode, completed.stderr) == (
         1,
         "bsched-bridge: catalogue.toml: line 1: code_sign_key is missing\n",
     )
@@ -285,15 +285,15 @@ def test_the_command_line(project):
 
 
 @pytest.mark.parametrize(
-    "name, told",
+    "name, message",
     [
         ("key", "code_sign_key: .*key can't be read"),
         ("sum_1.signature", "the signature .* can't be read"),
     ],
 )
-def test_files_of_the_catalogue_that_cant_be_read(project, name, told):
+def test_files_of_the_catalogue_that_cant_be_read(project, name, message):
     (project / name).write_bytes(b"\xff")
-    with pytest.raises(OperatorFault, match=told):
+    with pytest.raises(OperatorFault, match=message):
         read_catalogue(project / "catalogue.toml")
 
 

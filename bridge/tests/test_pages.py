@@ -26,18 +26,18 @@ class Page(HTMLParser):
         assert self.open == [], self.open
 
     def handle_starttag(self, tag, attributes):
-        told = dict(attributes)
-        assert not [name for name in told if name.startswith("on") or name == "style"]
-        self.tags.append((tag, told))
+        fields = dict(attributes)
+        assert not [name for name in fields if name.startswith("on") or name == "style"]
+        self.tags.append((tag, fields))
         if tag not in EMPTY:
             self.open.append(tag)
         if tag == "input":
-            self.inputs[told["name"]] = told
+            self.inputs[fields["name"]] = fields
         if tag == "a":
-            self.links.append(told["href"])
-        if "id" in told:
-            assert told["id"] not in self.ids or tag == "input"
-            self.ids[told["id"]] = told
+            self.links.append(fields["href"])
+        if "id" in fields:
+            assert fields["id"] not in self.ids or tag == "input"
+            self.ids[fields["id"]] = fields
 
     def handle_endtag(self, tag):
         assert self.open.pop() == tag
@@ -49,8 +49,8 @@ class Page(HTMLParser):
 
 def page_of(answer, status="200 OK", has_key=False):
     """Returns the page of an answer, and checks the answer's fields."""
-    told, fields, body = answer
-    assert (told, fields["Content-Type"]) == (status, "text/html; charset=utf-8")
+    line, fields, body = answer
+    assert (line, fields["Content-Type"]) == (status, "text/html; charset=utf-8")
     assert fields["Referrer-Policy"] == "no-referrer"
     policy = fields["Content-Security-Policy"]
     assert (
@@ -63,10 +63,12 @@ def page_of(answer, status="200 OK", has_key=False):
     assert text.count(f"<style>{STYLE}</style>") == 1 and "<script" not in text and "javascript:" not in text
     page = Page(text)
     assert ("meta", {"name": "viewport", "content": "width=device-width, initial-scale=1"}) in page.tags
-    for tag, told in page.tags:  # each field has a label, and its descriptions exist
-        if tag == "input" and told["type"] not in ("hidden", "checkbox"):
-            assert [1 for name, other in page.tags if name == "label" and other.get("for") == told["id"]]
-            for target in (told.get("aria-describedby") or "").split():
+    for tag, attributes in page.tags:  # each field has a label, and its descriptions exist
+        if tag == "input" and attributes["type"] not in ("hidden", "checkbox"):
+            assert [
+                1 for name, other in page.tags if name == "label" and other.get("for") == attributes["id"]
+            ]
+            for target in (attributes.get("aria-describedby") or "").split():
                 assert target in page.ids
     return page
 
@@ -211,8 +213,8 @@ def test_an_empty_name_is_a_fault_beside_its_field(open_bridge):
 
 
 def test_a_form_without_its_key(open_bridge):
-    for told in ({}, {"key": "nobody"}):
-        page = page_of(posted(open_bridge, "account_finish.php", name="Eve", **told))
+    for form in ({}, {"key": "nobody"}):
+        page = page_of(posted(open_bridge, "account_finish.php", name="Eve", **form))
         assert "No account has this key." in page.text
 
 
@@ -220,8 +222,8 @@ def test_the_way_to_an_account(open_bridge):
     key = create(open_bridge)
     assert set(page_of(open_bridge.got("/p/account")).inputs) == {"email", "password", "key"}
     assert key in page_of(posted(open_bridge, "account", key=f" {key} "), has_key=True).text
-    told = posted(open_bridge, "account", email="Ann@Sums.Example ", password="secret1")
-    assert key in page_of(told, has_key=True).text
+    answer = posted(open_bridge, "account", email="Ann@Sums.Example ", password="secret1")
+    assert key in page_of(answer, has_key=True).text
     page = page_of(posted(open_bridge, "account", email="ann@sums.example", password="wrong-1"))
     assert "No account has this e-mail address and password." in page.text
     assert page.inputs["email"]["value"] == "ann@sums.example" and "value" not in page.inputs["password"]
@@ -231,15 +233,15 @@ def test_the_way_to_an_account(open_bridge):
 def test_wrong_keys_and_passwords_of_forms_count(open_bridge):
     key = create(open_bridge)
     for number in range(10):
-        told = {"key": "nobody"} if number % 2 else {"email": "ann@sums.example", "password": "wrong-1"}
-        page_of(posted(open_bridge, "account", **told))
-    for path, told in (
+        form = {"key": "nobody"} if number % 2 else {"email": "ann@sums.example", "password": "wrong-1"}
+        page_of(posted(open_bridge, "account", **form))
+    for path, form in (
         ("account", {"key": key}),
         ("account", {"email": "ann@sums.example", "password": "secret1"}),
         ("account_finish.php", {"key": key, "name": "A"}),
         ("get_passwd.php", {"key": key, "email": "a@b.example", "password": "secret2"}),
     ):
-        assert "Too many wrong passwords" in page_of(posted(open_bridge, path, **told)).text
+        assert "Too many wrong passwords" in page_of(posted(open_bridge, path, **form)).text
     assert key in page_of(posted(open_bridge, "account", "198.51.100.9", key=key)).text
 
 
@@ -282,8 +284,8 @@ def test_an_account_of_the_operator_gets_a_password(open_bridge):
 def test_a_new_password_that_can_not_be(open_bridge, fields, field, what):
     key = create(open_bridge)
     create(open_bridge, "bob@sums.example")
-    told = {"key": key, "email": "new@sums.example", "password": "secret2", **fields}
-    page = page_of(posted(open_bridge, "get_passwd.php", **told))
+    form = {"key": key, "email": "new@sums.example", "password": "secret2", **fields}
+    page = page_of(posted(open_bridge, "get_passwd.php", **form))
     assert what in page.text and page.inputs[field]["aria-invalid"] == "true"
     assert f"{field}-fault" in page.inputs[field]["aria-describedby"]
     assert look_up(open_bridge) == key
@@ -331,8 +333,8 @@ def test_a_ranking_of_all_users(open_bridge, twin):
     assert page.links == ["status?page=2", "."]
     page = page_of(open_bridge.got("/p/status?page=2"))
     assert "User 029" in page.text and "101User 029" in page.text and page.links == ["status?page=1", "."]
-    for told in ("0", "-1", "x", "99999999", "", "٣", "3"):
-        assert page_of(open_bridge.got(f"/p/status?page={told}")).links[-1] == "."
+    for text in ("0", "-1", "x", "99999999", "", "٣", "3"):
+        assert page_of(open_bridge.got(f"/p/status?page={text}")).links[-1] == "."
 
 
 def test_a_scheduler_that_is_silent(open_bridge, twin):

@@ -38,30 +38,30 @@ def asked(ncpus=4, cpu=100, gpu=None, alternatives=(I686,)):
     return read_request([body.encode()])
 
 
-def sent(told, platforms=ALL):
+def sent(asking, platforms=ALL):
     """Returns the platforms and the seconds that bsched gets."""
-    told = by_resource(told, (GPU, MT), platforms)
-    return [told.platform_name, *told.alt_platforms], told.work_req_seconds
+    asking = by_resource(asking, (GPU, MT), platforms)
+    return [asking.platform_name, *asking.alt_platforms], asking.work_req_seconds
 
 
 def test_what_a_request_says_of_coprocessors():
-    told = asked(gpu=103680.5)
-    assert (told.p_ncpus, told.cpu_req_secs) == (4, 100)
-    assert told.coprocs == (Coproc("fakegpu", 2, 103681),)
-    told = read_request([request(seconds=7).encode()])  # of an old client
-    assert (told.p_ncpus, told.cpu_req_secs, told.coprocs) == (1, 7, ())
+    asking = asked(gpu=103680.5)
+    assert (asking.p_ncpus, asking.cpu_req_secs) == (4, 100)
+    assert asking.coprocs == (Coproc("fakegpu", 2, 103681),)
+    asking = read_request([request(seconds=7).encode()])  # of an old client
+    assert (asking.p_ncpus, asking.cpu_req_secs, asking.coprocs) == (1, 7, ())
     cards = "".join(
         f"<{name}><count>1</count><req_secs>5</req_secs></{name}>"
         for name in ("coproc_cuda", "coproc_ati", "coproc_intel_gpu", "coproc_other")
     )
-    told = read_request(
+    asking = read_request(
         [request(extra=f"<coprocs>{cards}<coproc><count>1</count></coproc></coprocs>").encode()]
     )
-    assert [one.type for one in told.coprocs] == ["NVIDIA", "ATI", "intel_gpu"]
+    assert [one.type for one in asking.coprocs] == ["NVIDIA", "ATI", "intel_gpu"]
 
 
 @pytest.mark.parametrize(
-    "told, platforms, seconds",
+    "asking, platforms, seconds",
     [
         (asked(), [f"{X86}.mt", f"{I686}.mt", X86, I686], 100),
         (asked(ncpus=1), [X86, I686], 100),
@@ -73,8 +73,8 @@ def test_what_a_request_says_of_coprocessors():
         (asked(cpu=0, gpu=0), [f"{X86}.fake", f"{X86}.mt", f"{I686}.fake", f"{I686}.mt", X86, I686], 0),
     ],
 )
-def test_the_platforms_of_a_call(told, platforms, seconds):
-    assert sent(told) == (platforms, seconds)
+def test_the_platforms_of_a_call(asking, platforms, seconds):
+    assert sent(asking) == (platforms, seconds)
 
 
 def test_only_platforms_with_versions_are_sent():
@@ -130,8 +130,8 @@ def test_a_job_of_several_processors(class_bridge):
     )
     reply = ElementTree.fromstring(class_bridge.call(body))
     version = reply.find("app_version")
-    told = [(one.tag, one.text) for one in version if one.tag not in ("file_ref", "app_name")]
-    assert told == [
+    elements = [(one.tag, one.text) for one in version if one.tag not in ("file_ref", "app_name")]
+    assert elements == [
         ("version_num", "2"),
         ("platform", X86),
         ("plan_class", "mt"),

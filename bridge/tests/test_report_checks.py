@@ -41,8 +41,8 @@ def reported(bridge, body):
     """Sends a report. Returns what bsched got: the exit status and the output of the result."""
     reply = bridge.call(body)
     assert names(reply, "result_ack")
-    (told,) = bridge.twin.calls()[-1]["results"]
-    return told["exit_status"], told["output"]
+    (result,) = bridge.twin.calls()[-1]["results"]
+    return result["exit_status"], result["output"]
 
 
 def test_the_files_of_a_good_report_are_stored(file_bridge):
@@ -94,11 +94,11 @@ def test_a_report_without_its_files_is_an_error(file_bridge, change, why):
     assert not any(name.startswith("store/") for name in on_disk(file_bridge.folder))
 
 
-@pytest.mark.parametrize("status, state, told", [(3, 3, 3), (0, 3, 1), (-9, 6, -9)])
-def test_the_error_of_a_program_is_passed_on(file_bridge, status, state, told):
+@pytest.mark.parametrize("status, state, exit_status", [(3, 3, 3), (0, 3, 1), (-9, 6, -9)])
+def test_the_error_of_a_program_is_passed_on(file_bridge, status, state, exit_status):
     infos = worked(file_bridge)
     body = report("u1_0", infos, output="no memory", status=status, state=state)
-    assert reported(file_bridge, body) == (told, "no memory")
+    assert reported(file_bridge, body) == (exit_status, "no memory")
 
 
 def test_a_report_that_comes_again_says_the_same(file_bridge):
@@ -124,7 +124,7 @@ def test_a_job_that_is_computed_anew_is_checked_anew(file_bridge):
     infos = worked(file_bridge)
     file_bridge.twin.faults = ["unheard"] * 3
     file_bridge.call(report("u1_0", infos))  # its files are stored, and bsched does not hear of it
-    file_bridge.numbers.refused(Key("ann-key", "c1"))  # as after a loss of the state file
+    file_bridge.numbers.record_refusal(Key("ann-key", "c1"))  # as after a loss of the state file
     # the client lost the job, gets it again, and computes other bytes
     reply = file_bridge.call(request(hostid=FIRST, seconds=0))
     assert jobs(reply) == ["u1_0"]

@@ -89,22 +89,22 @@ def test_a_spoiled_file_is_told_at_the_start(tmp_path):
     file = StateFile(path)
     numbers = CallNumbers(file)
     for number in range(60):
-        numbers.opened(Key("ann-key", f"c{number}"), lambda number: b"x" * 2000)
+        numbers.open(Key("ann-key", f"c{number}"), lambda number: b"x" * 2000)
     file.close()
     good = path.read_bytes()
     size = int.from_bytes(good[16:18], "big")
-    told = []
+    faults = []
     for page in range(1, len(good) // size):
         path.write_bytes(good[: page * size] + bytes(size) + good[(page + 1) * size :])
         try:
             StateFile(path).close()
         except StateFault as fault:
-            told.append(str(fault))
+            faults.append(str(fault))
     # pages that only have parts of calls may look good
-    assert len(told) > 20 and all(
-        "it is spoiled or no state file: see bridge/README.md" in one for one in told
+    assert len(faults) > 20 and all(
+        "it is spoiled or no state file: see bridge/README.md" in one for one in faults
     )
-    assert not any("no other bridge" in one for one in told)
+    assert not any("no other bridge" in one for one in faults)
     path.write_bytes(good)
     StateFile(path).close()
 
@@ -144,9 +144,9 @@ def test_a_newer_file_is_refused_and_not_changed(tmp_path):
     connection.execute(f"PRAGMA user_version = {SCHEMA_VERSION + 1}")
     connection.close()
     before = contents(path)
-    with pytest.raises(StateFault) as told:
+    with pytest.raises(StateFault) as raised:
         StateFile(path)
-    assert str(told.value) == (
+    assert str(raised.value) == (
         f"{path}: a newer bridge wrote this file (format 5, and this bridge knows 4): run that bridge"
     )
     assert contents(path) == before
@@ -160,11 +160,11 @@ def test_a_file_of_an_older_version_keeps_its_hosts(tmp_path, version):
     numbers, hosts = CallNumbers(file), Hosts(file)
     assert [numbers.open_call(Key("ann-key", cpid)) for cpid in ("c1", "c2")] == [None, b"call 9"]
     assert numbers.open_call(Key("eve-key", "c4")) == b"call 1"
-    assert numbers.opened(Key("ann-key", "c1"), lambda number: b"%d" % number) == b"8"
+    assert numbers.open(Key("ann-key", "c1"), lambda number: b"%d" % number) == b"8"
     # which numbers the clients were told is not known: they may be from earlier tables
     assert [hosts.of_number("ann-key", number) for number in (1, 2, 3)] == [None] * 3
     assert [host.scheduler_hostid for host in hosts.heard(9)] == [1, 3, 2]
-    assert numbers.given_hostid(Key("ann-key", "c2")) == 100_001
+    assert numbers.give_hostid(Key("ann-key", "c2")) == 100_001
     assert hosts.of_number("ann-key", 100_001).key == Key("ann-key", "c2")
     assert hosts.count() == 3
     file.close()

@@ -11,60 +11,60 @@ def events(monkeypatch):
     """Yields a function that returns what a bridge does from now on: SQL statements and messages to bsched."""
 
     def watched(bridge):
-        told = []
-        bridge.file._connection.set_trace_callback(told.append)
+        seen = []
+        bridge.file._connection.set_trace_callback(seen.append)
         exchange = bridge.application.scheduler._exchange
 
         def sent(method, path, *words):
-            told.append(f"SEND {path}")
+            seen.append(f"SEND {path}")
             return exchange(method, path, *words)
 
         monkeypatch.setattr(bridge.application.scheduler, "_exchange", sent)
-        return told
+        return seen
 
     return watched
 
 
-def last_commit(told):
+def last_commit(seen):
     """Returns whether the last transaction was synced, and its statements that write."""
-    end = max(place for place, one in enumerate(told) if one == "COMMIT")
-    start = max(place for place, one in enumerate(told[:end]) if one.startswith("PRAGMA synchronous"))
-    return told[start].endswith("FULL"), [
-        one for one in told[start:end] if one.startswith(("INSERT", "UPDATE"))
+    end = max(place for place, one in enumerate(seen) if one == "COMMIT")
+    start = max(place for place, one in enumerate(seen[:end]) if one.startswith("PRAGMA synchronous"))
+    return seen[start].endswith("FULL"), [
+        one for one in seen[start:end] if one.startswith(("INSERT", "UPDATE"))
     ]
 
 
-def before(told, what):
+def before(seen, what):
     """Returns the events before the first one that begins so."""
-    return told[: next(place for place, one in enumerate(told) if one.startswith(what))]
+    return seen[: next(place for place, one in enumerate(seen) if one.startswith(what))]
 
 
 def test_a_call_is_synced_before_it_is_sent(bridge, events):
     bridge.call(request())
-    told = events(bridge)
+    seen = events(bridge)
     bridge.call(request(cpid="c2"))
-    is_synced, statements = last_commit(before(told, "SEND /scheduler"))
+    is_synced, statements = last_commit(before(seen, "SEND /scheduler"))
     assert is_synced and "INSERT INTO host" in statements[0] and "open_call" in statements[0]
 
 
 def test_a_number_is_synced_before_a_client_is_told(bridge, events):
-    told = events(bridge)
+    seen = events(bridge)
     bridge.call(request())
-    is_synced, statements = last_commit(told)
+    is_synced, statements = last_commit(seen)
     assert is_synced and [one.partition(" SET")[0] for one in statements] == ["UPDATE numbers", "UPDATE host"]
 
 
 def test_an_account_is_synced_before_it_is_imported(open_bridge, events):
-    told = events(open_bridge)
+    seen = events(open_bridge)
     create(open_bridge)
-    is_synced, statements = last_commit(before(told, "SEND /import/accounts"))
+    is_synced, statements = last_commit(before(seen, "SEND /import/accounts"))
     assert is_synced and "INSERT INTO member" in statements[0]
 
 
 def test_an_answer_is_not_synced(bridge, events):
     """If a power failure undoes it, the call is sent again and gets the same answer."""
     bridge.call(request())
-    told = events(bridge)
+    seen = events(bridge)
     bridge.twin.faults = [json.dumps({"error": "hosts_full", "number": 12})]
     bridge.call(request(cpid="c2"))
-    assert not last_commit(told)[0]
+    assert not last_commit(seen)[0]

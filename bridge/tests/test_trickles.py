@@ -47,21 +47,21 @@ def with_messages(*texts, **more):
 )
 def test_a_message_of_any_text_is_left_out(text):
     body = with_messages(text, "<step>3</step>", hostid=FIRST, listed=["u2_0"], reports=[("u1_0", "5")])
-    told = read_request(body.encode("latin-1"))
-    assert told.has_messages
-    assert (told.hostid, told.other_results) == (FIRST, ("u2_0",))
-    assert [report.name for report in told.results] == ["u1_0"]
+    parsed = read_request(body.encode("latin-1"))
+    assert parsed.has_messages
+    assert (parsed.hostid, parsed.other_results) == (FIRST, ("u2_0",))
+    assert [report.name for report in parsed.results] == ["u1_0"]
 
 
 @pytest.mark.parametrize("output", [MESSAGE, "<msg_from_host>", "</msg_from_host>", "a <stderr_out>"])
 def test_what_a_program_wrote_to_its_standard_error_is_no_message(output):
     plain = request(reports=[("u1_0", output), ("u2_0", "5")]).encode()
-    told = read_request(plain)
-    assert not told.has_messages
-    assert [report.output for report in told.results] == [output.strip(), "5"]
-    told = read_request(with_messages("a < b", reports=[("u1_0", output), ("u2_0", "5")]).encode())
-    assert told.has_messages
-    assert [report.output for report in told.results] == [output.strip(), "5"]
+    parsed = read_request(plain)
+    assert not parsed.has_messages
+    assert [report.output for report in parsed.results] == [output.strip(), "5"]
+    parsed = read_request(with_messages("a < b", reports=[("u1_0", output), ("u2_0", "5")]).encode())
+    assert parsed.has_messages
+    assert [report.output for report in parsed.results] == [output.strip(), "5"]
 
 
 def test_messages_are_looked_for_once():

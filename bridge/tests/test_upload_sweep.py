@@ -121,8 +121,10 @@ def test_what_the_sweep_stopped_in_the_middle_of_is_done_the_next_time(file_brid
 
 def test_the_command(file_bridge):
     ran(file_bridge, "ann", RIGHT)
-    said = sweep_command.run(file_bridge.folder / "bridge.toml", [])  # while the bridge serves
-    assert said.endswith("0 results that are not canonical with 0 files; 0 bytes are deleted, and 6 are left")
+    output = sweep_command.run(file_bridge.folder / "bridge.toml", [])  # while the bridge serves
+    assert output.endswith(
+        "0 results that are not canonical with 0 files; 0 bytes are deleted, and 6 are left"
+    )
     with pytest.raises(OperatorFault, match="there is no copy in this folder"):
         sweep_command.run(file_bridge.folder / "bridge.toml", [file_bridge.folder])
 

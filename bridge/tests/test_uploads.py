@@ -74,12 +74,12 @@ def test_a_name_that_the_client_would_refuse(file_bridge):
         "name,app,min_quorum,target_nresults,max_error_results,max_total_results,"
         f"max_success_results,delay_bound,rsc_fpops_est,rsc_memory_bound,rsc_disk_bound,credit\n{line}\n",
     )
-    told = {}
+    handed = {}
     for number in range(12):
-        told |= given(file_bridge, cpid=f"c{number}", key=("ann-key", "bob-key")[number % 2], seconds=1000)
-        if any(name.startswith("a.") for name in told):
+        handed |= given(file_bridge, cpid=f"c{number}", key=("ann-key", "bob-key")[number % 2], seconds=1000)
+        if any(name.startswith("a.") for name in handed):
             break
-    assert "a.+.b.+.+.c_0_0" in told and not any(".." in name for name in told)
+    assert "a.+.b.+.+.c_0_0" in handed and not any(".." in name for name in handed)
 
 
 # ---- Good messages
@@ -113,8 +113,8 @@ def test_a_client_that_asks_for_the_size_sends_all(file_bridge):
     tokens = given(file_bridge)
     for _ in range(2):
         body = file_bridge.got("/p/file_upload_handler", "POST", ASKS_SIZE.format(name="u1_0_0").encode())[2]
-        told = ElementTree.fromstring(body)
-        assert (told.tag, told.findtext("status"), told.findtext("file_size")) == (
+        root = ElementTree.fromstring(body)
+        assert (root.tag, root.findtext("status"), root.findtext("file_size")) == (
             "data_server_reply",
             "0",
             "0",

@@ -63,21 +63,21 @@ class Handler(BaseHTTPRequestHandler):
             if fault == "unheard":
                 return
             if fault == "unavailable":
-                status, told = 503, '{"error":"unavailable","number":20}'
+                status, answer = 503, '{"error":"unavailable","number":20}'
             elif fault == "garbage":
-                status, told = 200, "<html>"
+                status, answer = 200, "<html>"
             elif fault is not None and fault.startswith("{"):
-                status, told = 400, fault
+                status, answer = 400, fault
             else:
                 try:
-                    status, told = 200, twin.service.scheduler(body, int(time.time()))
+                    status, answer = 200, twin.service.scheduler(body, int(time.time()))
                 except Refused as refusal:
-                    status, told = refusal.status, refusal.body
-            twin.told.append(told)
+                    status, answer = refusal.status, refusal.body
+            twin.answers.append(answer)
         if fault == "slow":
             time.sleep(0.3)
         if fault != "lost":
-            self.say(status, told)
+            self.say(status, answer)
 
     def do_import(self, body):
         """Answers an import."""
@@ -89,22 +89,22 @@ class Handler(BaseHTTPRequestHandler):
             if fault == "unheard":
                 return
             if self.headers["x-operator-key"] != "change-this-key":
-                status, told = 403, '{"error":"not_operator","number":13}'
+                status, answer = 403, '{"error":"not_operator","number":13}'
             elif fault == "unavailable":
-                status, told = 503, '{"error":"unavailable","number":20}'
+                status, answer = 503, '{"error":"unavailable","number":20}'
             elif fault == "garbage":
-                status, told = 200, "<html>"
+                status, answer = 200, "<html>"
             elif fault == "another":
-                status, told = 200, '{"batch":"another","kind":"accounts","rows":1}'
+                status, answer = 200, '{"batch":"another","kind":"accounts","rows":1}'
             elif fault is not None and fault.startswith("{"):
-                status, told = 400, fault
+                status, answer = 400, fault
             else:
                 try:
-                    status, told = 200, twin.service.imported(kind, batch, body.decode())
+                    status, answer = 200, twin.service.imported(kind, batch, body.decode())
                 except Refused as refusal:
-                    status, told = refusal.status, refusal.body
+                    status, answer = refusal.status, refusal.body
         if fault != "lost":
-            self.say(status, told)
+            self.say(status, answer)
 
     def do_GET(self):
         """Answers with a statement."""
@@ -114,15 +114,15 @@ class Handler(BaseHTTPRequestHandler):
         if twin.statement is not None:
             return self.say(200, twin.statement)
         with twin.lock:
-            told = statement(twin.service.machine, int(self.path.rpartition("/")[2]))
-        return self.say(200, told) if told else self.say(404, '{"error":"no_such_host","number":19}')
+            answer = statement(twin.service.machine, int(self.path.rpartition("/")[2]))
+        return self.say(200, answer) if answer else self.say(404, '{"error":"no_such_host","number":19}')
 
-    def say(self, status, told):
+    def say(self, status, answer):
         """Writes an answer."""
         self.send_response(status)
-        self.send_header("content-length", str(len(told.encode())))
+        self.send_header("content-length", str(len(answer.encode())))
         self.end_headers()
-        self.wfile.write(told.encode())
+        self.wfile.write(answer.encode())
 
     def log_message(self, *_words):
         """Prints nothing."""
@@ -156,7 +156,7 @@ class Twin:
         )
         for kind, text in IMPORTS.items():
             self.service.imported(kind, "first", text)
-        self.lock, self.faults, self.heard, self.told = threading.Lock(), [], [], []
+        self.lock, self.faults, self.heard, self.answers = threading.Lock(), [], [], []
         self.import_faults, self.imports = [], []
         self.statement = STATEMENT  # what each host gets as its statement; None: its own
         self.server = Server(("127.0.0.1", 0), Handler)

@@ -58,8 +58,8 @@ def tokens_of(reply):
 
 def upload(name, data, token, max_nbytes=20_000, **more):
     """Returns the message that uploads a file."""
-    told = {"nbytes": len(data), "md5": md5_of(data), "offset": 0, **more}
-    return HEAD.format(name=name, token=token, max_nbytes=max_nbytes, **told).encode() + data
+    values = {"nbytes": len(data), "md5": md5_of(data), "offset": 0, **more}
+    return HEAD.format(name=name, token=token, max_nbytes=max_nbytes, **values).encode() + data
 
 
 def sent(bridge, message, **more):
