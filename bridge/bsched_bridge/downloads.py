@@ -1,10 +1,13 @@
-"""Sends the files of the catalogue to clients, or the rest of a file from a byte on.
+"""Sends the files of the catalogue, or the rest of a file from a byte on.
 
-With nginx these files can be sent without the bridge (docs/OPERATING.md, "The bridge").
+By the lines of `bsched-project nginx` nginx keeps a copy of each file and sends that. From time to time it
+asks whether the file has changed since a time.
 """
+import os
 import re
 from collections.abc import Callable, Iterable
 from contextlib import ExitStack
+from email.utils import formatdate
 from typing import Any, BinaryIO, cast
 from wsgiref.util import FileWrapper
 
@@ -50,25 +53,27 @@ class Downloads:
         place = ExitStack()
         try:
             place.enter_context(self.places.taken())
-            blocks = self._send(environ, start_response, name, place.close)
+            return self._send(environ, start_response, name, place.close)
         except NoPlace:
             raise HttpFault(503, **{"Retry-After": str(self.retry_delay)}) from None
         except BaseException:
             place.close()
             raise
-        if environ["REQUEST_METHOD"] == "HEAD":
-            place.close()
-        return blocks
 
     def _send(
         self, environ: Environ, start_response: StartResponse, name: str, on_close: Callable[[], None]
     ) -> Iterable[bytes]:
-        """Sends a file, and calls a function when the server has closed it."""
+        """Sends a file, and calls a function when the server has closed it, or if no file is sent."""
         try:
             file = self.catalogue.folder.path_of(name).open("rb")
         except (MissingFile, OSError):
             raise HttpFault(404) from None
-        size = file.seek(0, 2)
+        status = os.stat(file.fileno())
+        size, changed = status.st_size, formatdate(status.st_mtime, usegmt=True)
+        if environ.get("HTTP_IF_MODIFIED_SINCE") == changed:
+            SentFile(file, on_close).close()
+            start_response(f"304 {PHRASES[304]}", [("Last-Modified", changed)])
+            return []
         asked = REST_OF_FILE.fullmatch(environ.get("HTTP_RANGE", ""))
         start = int(asked[1]) if asked else 0
         if asked and start >= size:
@@ -76,12 +81,13 @@ class Downloads:
             raise HttpFault(416, **{"Content-Range": f"bytes */{size}"})
         file.seek(start)
         fields = [("Content-Type", BYTES), ("Content-Length", str(size - start)), ("Accept-Ranges", "bytes")]
+        fields.append(("Last-Modified", changed))
         if asked:
             fields.append(("Content-Range", f"bytes {start}-{size - 1}/{size}"))
-        status = 206 if asked else 200
-        start_response(f"{status} {PHRASES[status]}", fields)
-        if environ["REQUEST_METHOD"] == "HEAD":
-            file.close()
-            return []
+        code = 206 if asked else 200
+        start_response(f"{code} {PHRASES[code]}", fields)
         sent = SentFile(file, on_close)
+        if environ["REQUEST_METHOD"] == "HEAD":
+            sent.close()
+            return []
         return cast(Iterable[bytes], environ.get("wsgi.file_wrapper", FileWrapper)(sent, BLOCK))

@@ -12,6 +12,7 @@ BYTES = "application/octet-stream"
 PHRASES = {
     200: "OK",
     206: "Partial Content",
+    304: "Not Modified",
     400: "Bad Request",
     403: "Forbidden",
     404: "Not Found",

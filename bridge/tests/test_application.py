@@ -1,4 +1,5 @@
 """The pages, the downloads, and messages that the bridge refuses."""
+import os
 import re
 import xml.etree.ElementTree as ElementTree
 
@@ -226,6 +227,10 @@ def test_downloads(bridge):
     assert bridge.got("/p/download/sum_1", HTTP_RANGE="bytes=10-")[0] == "416 Range Not Satisfiable"
     assert bridge.got("/p/download/sum_1", HTTP_RANGE="bytes=-1")[2] == b"#!/bin/sh\n"
     assert bridge.got("/p/download/sum_1", "HEAD")[2] == b""
+    changed = fields["Last-Modified"]  # nginx asks whether its copy is still good
+    assert bridge.got("/p/download/sum_1", HTTP_IF_MODIFIED_SINCE=changed)[::2] == ("304 Not Modified", b"")
+    os.utime(bridge.folder / "files" / "sum_1", (0, 0))
+    assert bridge.got("/p/download/sum_1", HTTP_IF_MODIFIED_SINCE=changed)[2] == b"#!/bin/sh\n"
     assert bridge.got("/p/download/sum_1", "POST")[0] == "405 Method Not Allowed"
 
 
@@ -298,6 +303,7 @@ def test_the_manager_gets_a_button_for_the_account(open_bridge):
 
 def test_files_that_are_read_slowly_leave_threads_for_pages_and_calls(bridge):
     """gunicorn has a thread for each file until its client has read it."""
+    changed = bridge.got("/p/download/two.txt")[1]["Last-Modified"]
     started = []
 
     def asked(name="two.txt", **more):
@@ -313,7 +319,8 @@ def test_files_that_are_read_slowly_leave_threads_for_pages_and_calls(bridge):
         asked("nothing")
         asked(HTTP_RANGE="bytes=9-")
         asked(REQUEST_METHOD="HEAD")
-    assert set(started) == {"404", "416", "200"}
+        asked(HTTP_IF_MODIFIED_SINCE=changed)
+    assert set(started) == {"404", "416", "200", "304"}
     started.clear()
     slow = [asked() for _ in range(5)]
     assert started == ["200"] * 4 + ["503"]
