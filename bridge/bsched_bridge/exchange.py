@@ -118,8 +118,8 @@ class Exchange:
         rules: Callable[[], HostRules],
         search: HostSearch,
         barring: Barring,
-        import_again: Callable[[str], bool] = lambda _authenticator: False,
-        archives: Archives | None = None,
+        import_again: Callable[[str], bool],
+        archives: Archives,
         reports: ReportChecks | None = None,
         contact: str | None = None,
     ):
@@ -127,7 +127,7 @@ class Exchange:
         self.retry_delay, self.rules, self.barring, self.contact = retry_delay, rules, barring, contact
         self.reports = reports  # None if no application has output files
         self.import_again = import_again  # imports an account again that bsched has lost
-        self.archives = archives or Archives()
+        self.archives = archives
         self._locks = KeyLocks(wait_seconds=2 * scheduler.answer_seconds)
 
     def answer(self, request: ClientRequest) -> Answered | PutOff:

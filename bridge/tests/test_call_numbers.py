@@ -68,6 +68,7 @@ def test_a_key_without_a_host_is_forgotten_at_a_refusal(numbers):
     numbers.record_answer(KEY, reply(), [])
     numbers.open(KEY, lambda number: b"call")
     numbers.record_refusal(KEY)
+    assert numbers.open_call(KEY) is None
     assert numbers.open(KEY, lambda number: b"%d" % number) == b"3"
 
 

@@ -45,6 +45,7 @@ def test_numbers_rise_and_are_those_of_the_bridge(two, twin):
 def test_numbers_are_above_those_of_an_earlier_file(bridge, monkeypatch):
     from bsched_bridge import hosts
 
+    assert hosts.LAST_BY_CLOCK <= hosts.MOST_NUMBER // 2 + 1
     for moment, number in ((FIRST_SECOND - 5, 0), (FIRST_SECOND + 7, 7), (2**40, LAST_BY_CLOCK)):
         monkeypatch.undo()
         monkeypatch.setattr("bsched_bridge.hosts.time.time", lambda moment=moment: moment)
@@ -183,6 +184,8 @@ def test_without_the_operators_key_a_host_is_the_one_with_bscheds_number(two, tw
 
 
 def test_searches_are_limited(two, twin):
+    for _ in range(MOST_SEARCHES + 1):  # a client without results needs none
+        two.call(request(hostid=77, cpid="a", listed=[], seconds=0))
     for _ in range(MOST_SEARCHES):
         two.call(request(hostid=77, cpid="a", listed=["u1_0"], seconds=0))
     heard = len(twin.heard)

@@ -18,7 +18,9 @@ def test_a_worker_may_load_as_long_as_the_check():
 
 
 UNITS = sorted(path.name for path in DEBIAN.glob("*@*.service"))
-AS_ROOT = "bsched-tools@.bsched-copy.service"  # it stops the scheduler, and gives the copies to the user bsched
+AS_ROOT = (
+    "bsched-tools@.bsched-copy.service"  # it stops the scheduler, and gives the copies to the user bsched
+)
 OWN = "/var/lib/bsched/%i"
 
 

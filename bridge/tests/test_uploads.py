@@ -10,16 +10,25 @@ import hypothesis
 import pytest
 from hypothesis import strategies as st
 from messages import FIRST, jobs, request
-from uploading import ASKS_SIZE, on_disk, sent, sha256_of, tokens_of, upload
+from uploading import (
+    AGAIN,
+    ASKS_SIZE,
+    DATA,
+    DONE,
+    NEVER,
+    odd_messages,
+    on_disk,
+    sent,
+    sha256_of,
+    tokens_of,
+    upload,
+)
 
 from bsched_bridge import uploads
 from bsched_bridge.catalogue import read_catalogue
 from bsched_bridge.operator_files import OperatorFault
 from bsched_bridge.settings import read_settings
 from bsched_bridge.upload_store import UploadStore, check_uploads
-
-DATA = bytes(range(256)) * 40  # more than the 8,192 bytes that are read with the head
-DONE, AGAIN, NEVER = 0, 1, -1
 
 
 def given(bridge, **more):
@@ -145,53 +154,10 @@ def test_a_body_that_comes_in_small_pieces(file_bridge):
 # ---- Odd and forged messages
 
 
-def odd_messages(tokens):
-    """Yields messages that store nothing, each with the statuses that are good answers."""
-    good, other = tokens["u1_0_0"], tokens["u1_0_1"]
-    message = upload("u1_0_0", DATA, good)
-    yield "another token", upload("u1_0_0", DATA, other), NEVER
-    yield "no token", upload("u1_0_0", DATA, ""), NEVER
-    yield "a token of zeros", upload("u1_0_0", DATA, "0" * 64), NEVER
-    yield "a token beyond ASCII", upload("u1_0_0", DATA, "\u00e9" * 32), NEVER
-    yield "a token in capitals", upload("u1_0_0", DATA, good.upper()), NEVER
-    yield "another result", upload("u2_0_0", DATA, good), NEVER
-    yield "another file", upload("u1_0_1", DATA, good), NEVER
-    yield "a file that does not exist", upload("u1_0_2", DATA, good), NEVER
-    yield "a path", upload("../u1_0_0", DATA, good), NEVER
-    yield "an absolute path", upload("/etc/passwd", DATA, good), NEVER
-    yield "an empty name", upload("", DATA, good), NEVER
-    yield "a NUL in the name", upload("u1_0_0\x00", DATA, good), NEVER
-    yield "a higher limit", upload("u1_0_0", DATA, good, max_nbytes=20_001), NEVER
-    yield "more than the limit", upload("u1_0_0", bytes(20_001), good), NEVER
-    yield "a negative limit", upload("u1_0_0", DATA, good, max_nbytes=-1), NEVER
-    yield "a limit with an exponent", upload("u1_0_0", DATA, good, max_nbytes="2e4"), NEVER
-    yield "a size that is no number", upload("u1_0_0", DATA, good, nbytes="x"), NEVER
-    yield "a negative size", upload("u1_0_0", DATA, good, nbytes=-1), NEVER
-    yield "a size in Arabic digits", upload("u1_0_0", DATA, good, nbytes="\u0661"), NEVER
-    yield "a size of many digits", upload("u1_0_0", DATA, good, nbytes="1" * 19), NEVER
-    yield "an MD5 in capitals", upload("u1_0_0", DATA, good, md5="A" * 32), NEVER
-    yield "no MD5", upload("u1_0_0", DATA, good, md5=""), NEVER
-    yield "no offset", upload("u1_0_0", DATA, good).replace(b"<offset>0</offset>\n", b""), NEVER
-    yield "two names", message.replace(b"</name>\n", b"</name>\n<name>u1_0_0</name>\n"), NEVER
-    yield "two sizes", message.replace(b"<offset>", b"<nbytes>1</nbytes><offset>"), NEVER
-    yield "no data", message.replace(b"<data>\n", b""), NEVER
-    yield "a long head", message.replace(b"<data>\n", b" " * 9000 + b"<data>\n"), NEVER
-    yield "nothing", b"", NEVER
-    yield "a call", request().encode(), NEVER
-    yield "HTML", b"<html></html>", NEVER
-    yield "zeros", bytes(10_000), NEVER
-    # what a good client sends when something breaks
-    yield "another MD5", upload("u1_0_0", DATA, good, md5="0" * 32), AGAIN
-    yield "an offset", upload("u1_0_0", DATA, good, offset=5), AGAIN
-    yield "more bytes than the size", message + b"x", AGAIN
-    yield "fewer bytes than the size", upload("u1_0_0", DATA, good, nbytes=len(DATA) + 1), AGAIN
-    yield "a smaller size", upload("u1_0_0", DATA, good, nbytes=len(DATA) - 1), AGAIN
-
-
 def test_odd_and_forged_messages_store_nothing(file_bridge):
     tokens = given(file_bridge)
     seen = 0
-    for what, message, status in odd_messages(tokens):
+    for what, message, status in odd_messages(("u1_0_0", "u1_0_1"), tokens["u1_0_0"], tokens["u1_0_1"]):
         assert sent(file_bridge, message) == status, what
         assert on_disk(file_bridge.folder) == {}, what
         assert file_bridge.store.upload("u1_0_0") is None and file_bridge.store.tables.used() == 0

@@ -1,6 +1,7 @@
 """What tests of uploads share: messages as BOINC's client 7.20.5 sends them, and what is on the disk."""
 import hashlib
 import re
+from collections.abc import Iterator
 
 from messages import FIRST, request
 
@@ -38,6 +39,8 @@ FILE_INFO = """\
     <upload_url>http://127.0.0.1:8081/p/file_upload_handler</upload_url>
 {more}</file_info>
 """
+DATA = bytes(range(256)) * 40  # more than the 8,192 bytes that are read with the head
+DONE, AGAIN, NEVER = 0, 1, -1  # statuses of answers
 
 
 def md5_of(data):
@@ -101,3 +104,48 @@ def on_disk(folder):
 def sha256_of(data):
     """Returns the SHA-256 of bytes."""
     return hashlib.sha256(data).hexdigest()
+
+
+def odd_messages(names: tuple[str, str], good: str, other: str) -> Iterator[tuple[str, bytes, int]]:
+    """Yields messages that store nothing, each with the status of the answer. The names are those of two output
+    files of a result, with at most 20,000 bytes, each with its token.
+    """
+    first, second = names
+    message = upload(first, DATA, good)
+    yield "another token", upload(first, DATA, other), NEVER
+    yield "no token", upload(first, DATA, ""), NEVER
+    yield "a token of zeros", upload(first, DATA, "0" * 64), NEVER
+    yield "a token beyond ASCII", upload(first, DATA, "\u00e9" * 32), NEVER
+    yield "a token in capitals", upload(first, DATA, good.upper()), NEVER
+    yield "another result", upload(f"x{first}", DATA, good), NEVER
+    yield "another file", upload(second, DATA, good), NEVER
+    yield "a file that does not exist", upload(f"{first[:-1]}2", DATA, good), NEVER
+    yield "a path", upload(f"../{first}", DATA, good), NEVER
+    yield "an absolute path", upload("/etc/passwd", DATA, good), NEVER
+    yield "an empty name", upload("", DATA, good), NEVER
+    yield "a NUL in the name", upload(f"{first}\x00", DATA, good), NEVER
+    yield "a higher limit", upload(first, DATA, good, max_nbytes=20_001), NEVER
+    yield "more than the limit", upload(first, bytes(20_001), good), NEVER
+    yield "a negative limit", upload(first, DATA, good, max_nbytes=-1), NEVER
+    yield "a limit with an exponent", upload(first, DATA, good, max_nbytes="2e4"), NEVER
+    yield "a size that is no number", upload(first, DATA, good, nbytes="x"), NEVER
+    yield "a negative size", upload(first, DATA, good, nbytes=-1), NEVER
+    yield "a size in Arabic digits", upload(first, DATA, good, nbytes="\u0661"), NEVER
+    yield "a size of many digits", upload(first, DATA, good, nbytes="1" * 19), NEVER
+    yield "an MD5 in capitals", upload(first, DATA, good, md5="A" * 32), NEVER
+    yield "no MD5", upload(first, DATA, good, md5=""), NEVER
+    yield "no offset", upload(first, DATA, good).replace(b"<offset>0</offset>\n", b""), NEVER
+    yield "two names", message.replace(b"</name>\n", f"</name>\n<name>{first}</name>\n".encode()), NEVER
+    yield "two sizes", message.replace(b"<offset>", b"<nbytes>1</nbytes><offset>"), NEVER
+    yield "no data", message.replace(b"<data>\n", b""), NEVER
+    yield "a long head", message.replace(b"<data>\n", b" " * 9000 + b"<data>\n"), NEVER
+    yield "nothing", b"", NEVER
+    yield "a call", request().encode(), NEVER
+    yield "HTML", b"<html></html>", NEVER
+    yield "zeros", bytes(10_000), NEVER
+    # what a good client sends when something breaks
+    yield "another MD5", upload(first, DATA, good, md5="0" * 32), AGAIN
+    yield "an offset", upload(first, DATA, good, offset=5), AGAIN
+    yield "more bytes than the size", message + b"x", AGAIN
+    yield "fewer bytes than the size", upload(first, DATA, good, nbytes=len(DATA) + 1), AGAIN
+    yield "a smaller size", upload(first, DATA, good, nbytes=len(DATA) - 1), AGAIN
