@@ -337,9 +337,12 @@ class Exchange:
             if self.reports is None:
                 return self._send(key, request, client)
             reply = self._send(key, self.reports.check(key, request), client)
-            if isinstance(reply, Reply):
-                self.reports.hand_out(key, reply.results)
-            return reply
+            if isinstance(reply, PutOff):
+                return reply
+            handed = self.reports.hand_out(key, reply.results)
+            if len(handed) < len(reply.results):
+                self.numbers.keep_in_hand(key, reply.results)
+            return replace(reply, results=handed)
 
     def _is_made_up(self, key: Key) -> bool:
         """Returns whether bsched does not have the account of a key, if it is doubtful.

@@ -9,7 +9,6 @@ import csv
 import logging
 import sqlite3
 import time
-from collections.abc import Iterable
 from dataclasses import dataclass, replace
 from functools import cached_property
 
@@ -63,16 +62,24 @@ class ReportChecks:
     scheduler: Scheduler
     operator_key: str
 
-    def hand_out(self, key: Key, jobs: Iterable[Job]) -> None:
-        """Notes which jobs a reply has, before it goes out."""
+    def hand_out(self, key: Key, jobs: list[Job]) -> list[Job]:
+        """Notes which jobs a reply has, before it goes out, and returns them. If that fails, for example on a
+        full disk, it returns only those without output files.
+        """
         apps = self.catalogue.apps
         handed = [
             HandedJob(job.name, key, job.app_name, apps[job.app_name].output_files, job.report_deadline)
             for job in jobs
             if job.app_name in apps
         ]
-        if handed:
-            self.jobs.add(handed)
+        try:
+            if handed:
+                self.jobs.add(handed)
+        except (OSError, sqlite3.Error) as fault:
+            log.error("%d jobs are not handed on now: %s", len(handed), fault)
+            with_files = {job.result for job in handed if job.files}
+            return [job for job in jobs if job.name not in with_files]
+        return jobs
 
     def check(self, key: Key, request: ClientRequest) -> ClientRequest:
         """Returns a request of a host with the reports that bsched gets. Those that can't be checked now are

@@ -1,12 +1,14 @@
 """What bsched gets of reports whose results have output files, and which files are stored."""
 import hashlib
 import json
+import sqlite3
 
 import pytest
 from messages import FIRST, jobs, names, request, value
 from twin import IMPORTS
 from uploading import file_info, on_disk, report, sent, sha256_of, tokens_of, upload
 
+from bsched_bridge.handed_out import HandedOut
 from bsched_bridge.hosts import Key
 from bsched_bridge.output_files import OutputFile, StoredOutput, compared_text
 
@@ -236,3 +238,21 @@ def test_a_file_that_somebody_removed_is_an_error(file_bridge):
     infos = worked(file_bridge)
     (file_bridge.folder / "uploads" / "pending" / f"u1_0_0.{sha256_of(OUT)}").unlink()
     assert reported(file_bridge, report("u1_0", infos)) == (-187, "an output file was lost")
+
+
+def test_a_job_that_cant_be_noted_goes_out_later(file_bridge, twin, monkeypatch):
+    """For some requests the disk of the uploads is full. Reports are acknowledged, and no job is lost."""
+    plain = report("u1_0", [], status=1)  # an error has no files
+    assert jobs(file_bridge.call(request())) == ["u1_0"]
+
+    def full(*_words):
+        raise sqlite3.OperationalError("database or disk is full")
+
+    with monkeypatch.context() as patch:
+        patch.setattr(HandedOut, "add", full)
+        reply = file_bridge.call(plain.replace("<work_req_seconds>0<", "<work_req_seconds>60<"))
+        assert names(reply, "result_ack") == ["u1_0"] and jobs(reply) == []
+        assert jobs(file_bridge.call(request(hostid=FIRST, seconds=0))) == []
+        assert twin.calls()[-1]["other_results"] == ["u2_0"]  # it is in hand, so it does not count as lost
+    assert jobs(file_bridge.call(request(hostid=FIRST, seconds=0))) == ["u2_0"]
+    assert jobs(file_bridge.call(request(hostid=FIRST, seconds=0, listed=["u2_0"]))) == []

@@ -262,12 +262,17 @@ class Files(Run):
     def full(self) -> None:
         """The disk of the uploads is full for a while."""
         before = self.on_disk()
+        self.give("full", 1)
+        self.until(
+            lambda: any("full_0" in client.tasks() for client in self.clients),
+            "a client has it",
+            *self.clients,
+        )
         filling = self.folder / "uploads" / "filling"
         with filling.open("wb", buffering=0) as file, suppress(OSError):
             while True:
                 file.write(bytes(4096))
         count = len(self.before_bridge.messages)
-        self.give("full", 1)
 
         def refused() -> bool:
             return any(
@@ -282,11 +287,13 @@ class Files(Run):
             *self.clients,
         )
         wants(not self.reports("full"), "nothing is reported yet")
+        self.give("after", 2)
+        for client in self.clients:
+            client.update()
         filling.unlink()
         self.until_done("full", 1)
         wants(self.store("211\n"), "the file is stored")
         wants(set(before[:-2]) <= set(self.on_disk()), "what was there before is there")
-        self.give("after", 2)
         self.until_done("after", 2)
         wants(self.store("222\n"), "the file is stored")
         seen(
