@@ -2,6 +2,7 @@
 package for downloads.
 """
 import hashlib
+import os
 import re
 import shlex
 import socket
@@ -27,7 +28,7 @@ daemon off;
 user root;
 pid {folder}/nginx.pid;
 error_log {folder}/nginx_errors.log;
-events {{ }}
+events {{ worker_connections 4096; }}
 http {{
     access_log off;
     client_body_temp_path {folder}/nginx_body;
@@ -35,6 +36,11 @@ http {{
     {limits}
     server {{
         listen 127.0.0.1:{port};
+        {locations}
+    }}
+}}
+"""
+UNLIMITED = """
         client_max_body_size 16m;
         location / {{ proxy_pass http://127.0.0.1:{bridge}; }}
         location = /file_upload_handler {{
@@ -42,11 +48,10 @@ http {{
             client_max_body_size {most};
             proxy_read_timeout 600s;
         }}
-        {downloads}
-    }}
-}}
 """
 TEMPLATES = BRIDGE.parent / "packaging" / "nginx"
+LIMITS = (TEMPLATES / "limits.conf").read_text()
+LOCATIONS = (TEMPLATES / "locations.conf").read_text()
 UNIT = BRIDGE.parent / "debian" / "bsched-tools@.bsched-bridge.service"
 
 
@@ -58,16 +63,28 @@ def free_port() -> int:
 
 
 def nginx_lines(folder: Path, port: int, bridge_port: int, most: int) -> str:
-    """Returns the settings of nginx. Those of downloads are the package's, with the cache in a folder."""
-    limits = (TEMPLATES / "limits.conf").read_text().replace("/var/lib/nginx", str(folder))
-    locations = (TEMPLATES / "locations.conf").read_text()
-    found = re.search(r"^location @PATH@download/ \{.*?^\}$", locations, re.MULTILINE | re.DOTALL)
+    """Returns the settings of nginx without limits for one address. Those of downloads are the package's."""
+    found = re.search(r"^location @PATH@download/ \{.*?^\}$", LOCATIONS, re.MULTILINE | re.DOTALL)
     if found is None:
         raise TrialFault("the lines for nginx have no location of downloads")
-    downloads = found[0].replace("@PATH@", "/").replace("@BRIDGE_PORT@", str(bridge_port))
-    return NGINX.format(
-        folder=folder, port=port, bridge=bridge_port, most=most, limits=limits, downloads=downloads
+    locations = UNLIMITED.format(bridge=bridge_port, most=most) + found[0]
+    return filled(folder, port, bridge_port, locations)
+
+
+def package_lines(folder: Path, port: int, bridge_port: int) -> str:
+    """Returns the settings of nginx as `bsched-project nginx` writes them, with their limits."""
+    locations = LOCATIONS.replace("/dev/null crit", f"{folder}/nginx_quiet.log")
+    return filled(
+        folder, port, bridge_port, re.sub(r"^location @PATH@stats/.*?^\}$", "", locations, 0, re.M | re.S)
     )
+
+
+def filled(folder: Path, port: int, bridge_port: int, locations: str) -> str:
+    """Returns the settings of nginx with some locations."""
+    limits = LIMITS.replace("/var/lib/nginx", str(folder))
+    for name, text in (("@PATH@", "/"), ("@BRIDGE_PORT@", str(bridge_port)), ("@NAME@", "trial")):
+        locations = locations.replace(name, text)
+    return NGINX.format(folder=folder, port=port, limits=limits, locations=locations)
 
 
 def gunicorn_command(port: int) -> list[str]:
@@ -81,7 +98,7 @@ def gunicorn_command(port: int) -> list[str]:
 class Project:
     """A project behind nginx and gunicorn."""
 
-    def __init__(self, program: str, folder: Path, most: int) -> None:
+    def __init__(self, program: str, folder: Path, most: int, has_limits: bool = False) -> None:
         self.folder, self.port, bridge_port, scheduler_port = folder, free_port(), free_port(), free_port()
         project.make(folder, f"http://127.0.0.1:{self.port}/", bridge_port, scheduler_port)
         catalogue = folder / "catalogue.toml"
@@ -90,7 +107,11 @@ class Project:
         )
         with (folder / "bridge.toml").open("a") as file:
             file.write(UPLOADS)
-        (folder / "nginx.conf").write_text(nginx_lines(folder, self.port, bridge_port, most + 8192))
+        if has_limits:
+            lines = package_lines(folder, self.port, bridge_port)
+        else:
+            lines = nginx_lines(folder, self.port, bridge_port, most + 8192)
+        (folder / "nginx.conf").write_text(lines)
         self.most = most
         self.scheduler = Scheduler(program, folder, scheduler_port, project.OPERATOR_KEY)
         self.bridge = Bridge(folder, bridge_port)
@@ -171,11 +192,21 @@ class Project:
         text = recorded.replace("0fb84cfbc167689574d58ef96c0de1b7", host).replace("0.250000", "0.000000")
         self.sent("/cgi", text.encode(), 0, b"", b"<user_name>")
 
+    def worker(self) -> int:
+        """Returns the number of the bridge's process."""
+        if self.gunicorn.process is None:
+            raise TrialFault("gunicorn does not run")
+        words = ["pgrep", "-P", str(self.gunicorn.process.pid)]
+        return int(subprocess.run(words, capture_output=True, text=True, check=True).stdout.split()[0])
+
     def memory(self) -> int:
         """Returns the most memory that the bridge's process has had since it was last cleared, in MB."""
-        child = subprocess.run(
-            ["pgrep", "-P", str(self.gunicorn.process.pid)], capture_output=True, text=True, check=True
-        ).stdout.split()[0]
+        child = self.worker()
         text = Path(f"/proc/{child}/status").read_text()
         Path(f"/proc/{child}/clear_refs").write_text("5")
         return int(text.partition("VmHWM:")[2].split()[0]) // 1024
+
+    def processor_seconds(self) -> float:
+        """Returns the processor time that the bridge's process took so far."""
+        fields = Path(f"/proc/{self.worker()}/stat").read_text().rpartition(")")[2].split()
+        return (int(fields[11]) + int(fields[12])) / os.sysconf("SC_CLK_TCK")
