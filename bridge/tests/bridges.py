@@ -1,4 +1,5 @@
 """A bridge before the twin, with the files of a project: what tests and `bridge/try_lives` work on."""
+from typing import Any
 import io
 import sys
 from pathlib import Path
@@ -42,7 +43,7 @@ input_files = [{ name = "two.txt", open_name = "numbers" }]
 ACCOUNTS = "\n[accounts]\nmost_a_day = 50\n"
 
 
-def new_project(folder, key):
+def new_project(folder: Path, key: Any) -> Path:
     """Writes the files of a bridge into a folder, and returns it."""
     (folder / "files").mkdir()
     (folder / "files" / "sum_1").write_text("#!/bin/sh\n")
@@ -61,7 +62,7 @@ def new_project(folder, key):
 class Bridge:
     """A bridge that can be stopped and started again."""
 
-    def __init__(self, folder: Path, twin: Twin):
+    def __init__(self, folder: Path, twin: Twin) -> None:
         self.folder, self.twin = folder, twin
         self.start()
 

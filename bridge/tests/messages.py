@@ -1,12 +1,21 @@
 """Requests that tests write, and what tests read in replies."""
+from typing import Any
 import re
 
 FIRST = 100_001  # the number that the first host gets, if the clock does not give a greater one
 
 
 def request(
-    hostid=0, cpid="c1", key="ann-key", seconds=60, listed=(), reports=(), seqno=0, statuses=None, **more
-):
+    hostid: int | str = 0,
+    cpid: str = "c1",
+    key: str = "ann-key",
+    seconds: float | int = 60,
+    listed: list[str] | tuple[Any, ...] | None = (),
+    reports: list[tuple[str, str]] | tuple[Any, ...] = (),
+    seqno: int = 0,
+    statuses: dict[str, Any] | None = None,
+    **more: str,
+) -> str:
     """Returns a scheduler_request. If listed is None, it has no list of what the client has. Reports have the
     exit status 0, if statuses has no other one for their names.
     """
@@ -41,17 +50,17 @@ def request(
     )
 
 
-def names(reply, element):
+def names(reply: bytes, element: str) -> list[str]:
     """Returns the names in the elements of a kind."""
     return re.findall(rf"<{element}>\s*<name>([^<]*)</name>", reply.decode())
 
 
-def jobs(reply):
+def jobs(reply: bytes) -> list[str]:
     """Returns the names of the jobs of a reply."""
     return names(reply, "result")
 
 
-def value(reply, element):
+def value(reply: bytes, element: str) -> str | None:
     """Returns the text of the first element of a kind, or None."""
     found = re.search(rf"<{element}[^>]*>([^<]*)</{element}>", reply.decode())
     return found[1] if found else None

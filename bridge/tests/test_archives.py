@@ -1,6 +1,7 @@
 """Credit from earlier files of the project is added to replies and to pages, and host numbers of such files
 name no host of the present one.
 """
+from pathlib import Path
 import re
 import sqlite3
 
@@ -13,9 +14,10 @@ from bsched_bridge.archives import Archives, read_archives
 from bsched_bridge.hosts import Key
 from bsched_bridge.operator_files import OperatorFault
 from bsched_bridge.settings import read_settings
+from bridges import Bridge
 
 
-def archive(path, credits):
+def archive(path: Path, credits: dict[tuple[str, str], int]) -> Path:
     """Makes an archive with some credit for each authenticator and host_cpid."""
     connection = sqlite3.connect(path)
     connection.executescript(plain_tables.FIRST_SCHEMA)
@@ -30,7 +32,7 @@ def archive(path, credits):
     return path
 
 
-def test_credit_is_summed_over_archives(tmp_path):
+def test_credit_is_summed_over_archives(tmp_path: Path) -> None:
     first = archive(tmp_path / "1.db", {("k1", "a"): 1000, ("k1", "b"): 500, ("k2", "a"): 7})
     second = archive(tmp_path / "2.db", {("k1", "a"): 30})
     archives = read_archives([first, second])
@@ -39,7 +41,7 @@ def test_credit_is_summed_over_archives(tmp_path):
     assert read_archives([]) == Archives()
 
 
-def test_an_archive_that_is_named_twice(tmp_path):
+def test_an_archive_that_is_named_twice(tmp_path: Path) -> None:
     first = archive(tmp_path / "1.db", {("k1", "a"): 1000})
     connection = sqlite3.connect(first)
     columns = "unit_id, num, host_id, sent, lapse, queued"
@@ -53,7 +55,7 @@ def test_an_archive_that_is_named_twice(tmp_path):
             read_archives([first, tmp_path / name])
 
 
-def test_a_file_that_is_no_archive(tmp_path):
+def test_a_file_that_is_no_archive(tmp_path: Path) -> None:
     path = tmp_path / "1.db"
     for content in (b"", b"text" * 1000):
         path.write_bytes(content)
@@ -61,7 +63,7 @@ def test_a_file_that_is_no_archive(tmp_path):
             read_archives([path])
 
 
-def test_settings(project):
+def test_settings(project: Path) -> None:
     path = project / "bridge.toml"
     text = path.read_text()
     assert read_settings(path).archives == ()
@@ -78,7 +80,7 @@ def test_settings(project):
             read_settings(path)
 
 
-def test_replies_and_the_page_have_the_credit(project, bridge):
+def test_replies_and_the_page_have_the_credit(project: Path, bridge: Bridge) -> None:
     assert value(bridge.call(request()), "user_total_credit") == "0.000"
     archive(project / "2026.db", {("ann-key", "c1"): 4000, ("ann-key", "other"): 2500})
     with (project / "bridge.toml").open("a") as file:
@@ -90,7 +92,7 @@ def test_replies_and_the_page_have_the_credit(project, bridge):
     assert shown(bridge, "status") == ["1", "6.500", str(FIRST), "9.000", *"11111", "all", "", *"11111"]
 
 
-def shown(bridge, page):
+def shown(bridge: Bridge, page: str) -> list[str]:
     """Returns the numbers in the tables of a page."""
     return re.findall('<td class="number">([^<]*)</td>', bridge.got(f"/p/{page}")[2].decode())
 
@@ -98,7 +100,9 @@ def shown(bridge, page):
 ANN = "account_finish.php?auth=ann-key"
 
 
-def test_a_new_file_in_which_another_user_has_the_number_of_a_host(project, open_bridge, twin):
+def test_a_new_file_in_which_another_user_has_the_number_of_a_host(
+    project: Path, open_bridge: Bridge, twin: Twin
+) -> None:
     open_bridge.call(request())
     archive(project / "2026.db", {("ann-key", "c1"): 4000, ("ann-key", "other"): 2500})
     text = (project / "bridge.toml").read_text()

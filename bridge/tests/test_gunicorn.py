@@ -8,6 +8,7 @@ import time
 from pathlib import Path
 
 import pytest
+from twin import Twin
 
 BRIDGE = Path(__file__).resolve().parents[1]
 UNIT = BRIDGE.parent / "debian" / "bsched-tools@.bsched-bridge.service"
@@ -44,7 +45,7 @@ def exchanged(port: int, text: str) -> bytes:
         ("Content-Length: carl%40sums.example 5ecre7\r\n", b"400"),
     ],
 )
-def test_no_log_has_an_address(project, twin, fields, status):
+def test_no_log_has_an_address(project: Path, twin: Twin, fields: str, status: bytes) -> None:
     """gunicorn itself logs the URL of a message with a wrong SCRIPT_NAME."""
     pytest.importorskip("gunicorn")
     settings = project / "bridge.toml"

@@ -1,4 +1,5 @@
 """The state file: only one bridge has it, older formats are upgraded, and other files are refused."""
+from pathlib import Path
 import os
 import re
 import sqlite3
@@ -54,7 +55,7 @@ ROWS = [
 ]
 
 
-def old_file(path, version=1):
+def old_file(path: Path, version: int = 1) -> None:
     """Makes a state file of an older version."""
     connection = sqlite3.connect(path)
     connection.executescript(VERSION_1 if version == 1 else VERSION_1 + VERSION_2)
@@ -68,7 +69,7 @@ def old_file(path, version=1):
     connection.close()
 
 
-def contents(path):
+def contents(path: Path) -> tuple[list[str], int]:
     """Returns what a file has."""
     connection = sqlite3.connect(path)
     try:
@@ -77,14 +78,14 @@ def contents(path):
         connection.close()
 
 
-def test_one_bridge_has_the_file(tmp_path):
+def test_one_bridge_has_the_file(tmp_path: Path) -> None:
     file = StateFile(tmp_path / "state.db")
     with pytest.raises(StateFault, match="no other bridge"):
         StateFile(tmp_path / "state.db")
     file.close()
 
 
-def test_a_spoiled_file_is_told_at_the_start(tmp_path):
+def test_a_spoiled_file_is_told_at_the_start(tmp_path: Path) -> None:
     path = tmp_path / "state.db"
     file = StateFile(path)
     numbers = CallNumbers(file)
@@ -109,7 +110,7 @@ def test_a_spoiled_file_is_told_at_the_start(tmp_path):
     StateFile(path).close()
 
 
-def test_only_the_owner_can_read_a_new_file(tmp_path):
+def test_only_the_owner_can_read_a_new_file(tmp_path: Path) -> None:
     mask = os.umask(0)
     try:
         file = StateFile(tmp_path / "state.db")
@@ -124,7 +125,7 @@ def test_only_the_owner_can_read_a_new_file(tmp_path):
     assert (tmp_path / "state.db").stat().st_mode & 0o777 == 0o640
 
 
-def test_another_file_is_refused(tmp_path):
+def test_another_file_is_refused(tmp_path: Path) -> None:
     connection = sqlite3.connect(tmp_path / "other.db")
     connection.execute("CREATE TABLE host (id)")
     connection.close()
@@ -137,7 +138,7 @@ def test_another_file_is_refused(tmp_path):
         StateFile(tmp_path / "no folder" / "state.db")
 
 
-def test_a_newer_file_is_refused_and_not_changed(tmp_path):
+def test_a_newer_file_is_refused_and_not_changed(tmp_path: Path) -> None:
     path = tmp_path / "state.db"
     StateFile(path).close()
     connection = sqlite3.connect(path)
@@ -153,7 +154,7 @@ def test_a_newer_file_is_refused_and_not_changed(tmp_path):
 
 
 @pytest.mark.parametrize("version", [1, 2])
-def test_a_file_of_an_older_version_keeps_its_hosts(tmp_path, version):
+def test_a_file_of_an_older_version_keeps_its_hosts(tmp_path: Path, version: int) -> None:
     path = tmp_path / "state.db"
     old_file(path, version)
     file = StateFile(path)
@@ -170,7 +171,7 @@ def test_a_file_of_an_older_version_keeps_its_hosts(tmp_path, version):
     file.close()
 
 
-def test_a_file_of_version_1_gets_accounts(tmp_path):
+def test_a_file_of_version_1_gets_accounts(tmp_path: Path) -> None:
     path = tmp_path / "state.db"
     old_file(path)
     file = StateFile(path)
@@ -190,7 +191,9 @@ def test_a_file_of_version_1_gets_accounts(tmp_path):
 
 
 @pytest.mark.parametrize("version", [1, 2])
-def test_an_upgrade_that_is_stopped_changes_nothing(tmp_path, monkeypatch, version):
+def test_an_upgrade_that_is_stopped_changes_nothing(
+    tmp_path: Path, monkeypatch: pytest.MonkeyPatch, version: int
+) -> None:
     path = tmp_path / "state.db"
     old_file(path, version)
     before = contents(path)
@@ -204,7 +207,7 @@ def test_an_upgrade_that_is_stopped_changes_nothing(tmp_path, monkeypatch, versi
         assert contents(path) == before
 
 
-def test_a_new_file_and_an_upgraded_one_have_the_same_tables(tmp_path):
+def test_a_new_file_and_an_upgraded_one_have_the_same_tables(tmp_path: Path) -> None:
     old_file(tmp_path / "1.db")
     old_file(tmp_path / "2.db", 2)
     shapes = []

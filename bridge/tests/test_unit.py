@@ -8,7 +8,7 @@ DEBIAN = Path(__file__).resolve().parents[2] / "debian"
 UNIT = DEBIAN / "bsched-tools@.bsched-bridge.service"
 
 
-def test_a_worker_may_load_as_long_as_the_check():
+def test_a_worker_may_load_as_long_as_the_check() -> None:
     """gunicorn kills a worker that loads longer than its time limit, by default 30 seconds. systemd gives the
     check of the same files TimeoutStartSec.
     """
@@ -31,7 +31,7 @@ def paths_of(name: str) -> set[tuple[str, str]]:
 
 
 @pytest.mark.parametrize("name", [name for name in UNITS if name != AS_ROOT])
-def test_a_unit_sees_no_other_project(name):
+def test_a_unit_sees_no_other_project(name: str) -> None:
     """All projects belong to one user, and have their operators' keys in files that this user can read. So each
     unit sees an empty folder of projects with its own one in it, and of the copies its own ones or none.
     """
@@ -49,7 +49,7 @@ def test_a_unit_sees_no_other_project(name):
 
 
 @pytest.mark.parametrize("name", ["bridge", "sweep"])
-def test_what_strangers_reach_sees_no_tables(name):
+def test_what_strangers_reach_sees_no_tables(name: str) -> None:
     """Of its own project it can write the folder of the bridge, and read neither tables nor settings."""
     paths = paths_of(f"bsched-tools@.bsched-{name}.service")
     written = {path for kind, path in paths if kind in ("BindPaths", "ReadWritePaths")}

@@ -1,4 +1,5 @@
 """What the upload handler answers, and what it stores."""
+from pathlib import Path
 import io
 import os
 import subprocess
@@ -29,9 +30,11 @@ from bsched_bridge.catalogue import read_catalogue
 from bsched_bridge.operator_files import OperatorFault
 from bsched_bridge.settings import read_settings
 from bsched_bridge.upload_store import UploadStore, check_uploads
+from twin import Twin
+from bridges import Bridge
 
 
-def given(bridge, **more):
+def given(bridge: Bridge, **more: int | str) -> dict[str, str]:
     """Gives a client a job, and returns the tokens of its files."""
     reply = bridge.call(request(**more))
     assert jobs(reply)
@@ -41,7 +44,7 @@ def given(bridge, **more):
 # ---- The reply
 
 
-def test_a_reply_names_the_output_files(file_bridge):
+def test_a_reply_names_the_output_files(file_bridge: Bridge) -> None:
     reply = ElementTree.fromstring(file_bridge.call(request()))
     assert [child.tag for child in reply][-5:] == [
         "app_version",
@@ -67,14 +70,14 @@ def test_a_reply_names_the_output_files(file_bridge):
     ]
 
 
-def test_a_job_that_is_sent_again_has_the_same_tokens(file_bridge):
+def test_a_job_that_is_sent_again_has_the_same_tokens(file_bridge: Bridge) -> None:
     tokens = given(file_bridge)
     file_bridge.restart()
     assert given(file_bridge, hostid=FIRST, seconds=0) == tokens
     assert (file_bridge.folder / "uploads" / "secret").stat().st_mode & 0o777 == 0o600
 
 
-def test_a_name_that_the_client_would_refuse(file_bridge):
+def test_a_name_that_the_client_would_refuse(file_bridge: Bridge) -> None:
     rows = file_bridge.twin.service.imported
     line = "a..b...c,sum,1,1,3,5,4,86400,60000000000,1000,1000,5000"
     rows(
@@ -106,7 +109,7 @@ def test_a_name_that_the_client_would_refuse(file_bridge):
         bytes(20_000)[:20_000],
     ],
 )
-def test_a_file_is_received(file_bridge, data):
+def test_a_file_is_received(file_bridge: Bridge, data: bytes) -> None:
     data = data[:20_000]
     tokens = given(file_bridge)
     assert sent(file_bridge, upload("u1_0_0", data, tokens["u1_0_0"])) == DONE
@@ -118,7 +121,7 @@ def test_a_file_is_received(file_bridge, data):
     assert (row.nbytes, row.sha256) == (len(data), sha256_of(data))
 
 
-def test_a_client_that_asks_for_the_size_sends_all(file_bridge):
+def test_a_client_that_asks_for_the_size_sends_all(file_bridge: Bridge) -> None:
     tokens = given(file_bridge)
     for _ in range(2):
         body = file_bridge.got("/p/file_upload_handler", "POST", ASKS_SIZE.format(name="u1_0_0").encode())[2]
@@ -131,7 +134,7 @@ def test_a_client_that_asks_for_the_size_sends_all(file_bridge):
         assert sent(file_bridge, upload("u1_0_0", DATA, tokens["u1_0_0"])) == DONE
 
 
-def test_other_bytes_of_a_job_that_was_lost_replace_the_older(file_bridge):
+def test_other_bytes_of_a_job_that_was_lost_replace_the_older(file_bridge: Bridge) -> None:
     tokens = given(file_bridge)
     for data in (b"one", b"two", b"two", b"one"):
         assert sent(file_bridge, upload("u1_0_0", data, tokens["u1_0_0"])) == DONE
@@ -139,11 +142,11 @@ def test_other_bytes_of_a_job_that_was_lost_replace_the_older(file_bridge):
     assert file_bridge.store.tables.used() == 3
 
 
-def test_a_body_that_comes_in_small_pieces(file_bridge):
+def test_a_body_that_comes_in_small_pieces(file_bridge: Bridge) -> None:
     class Pieces(io.BytesIO):
         """A stream that gives a few bytes at a time after the head, as a slow connection does."""
 
-        def read(self, size=-1):
+        def read(self, size: int = -1) -> bytes | None:
             return super().read(min(size, 1000) if self.tell() else size)
 
     tokens = given(file_bridge)
@@ -154,7 +157,7 @@ def test_a_body_that_comes_in_small_pieces(file_bridge):
 # ---- Odd and forged messages
 
 
-def test_odd_and_forged_messages_store_nothing(file_bridge):
+def test_odd_and_forged_messages_store_nothing(file_bridge: Bridge) -> None:
     tokens = given(file_bridge)
     seen = 0
     for what, message, status in odd_messages(("u1_0_0", "u1_0_1"), tokens["u1_0_0"], tokens["u1_0_1"]):
@@ -197,24 +200,24 @@ PIECES = [
     database=None,
 )
 @hypothesis.given(st.lists(st.sampled_from(PIECES), max_size=20).map(b"".join))
-def test_any_message_gets_an_answer_and_stores_nothing(file_bridge, message):
+def test_any_message_gets_an_answer_and_stores_nothing(file_bridge: Bridge, message: bytes) -> None:
     assert sent(file_bridge, message) in (AGAIN, NEVER)
     assert on_disk(file_bridge.folder) == {}
 
 
 @pytest.mark.parametrize("end", [0, 10, 600, 640, 700, 8191, 8192, 8193, 9000, -1])
-def test_a_message_that_breaks_off_is_sent_again(file_bridge, end):
+def test_a_message_that_breaks_off_is_sent_again(file_bridge: Bridge, end: int) -> None:
     tokens = given(file_bridge)
     message = upload("u1_0_0", DATA, tokens["u1_0_0"])
     assert sent(file_bridge, message[:end], CONTENT_LENGTH=str(len(message))) == AGAIN
     assert on_disk(file_bridge.folder) == {}
 
 
-def test_a_connection_that_fails_is_no_final_answer(file_bridge):
+def test_a_connection_that_fails_is_no_final_answer(file_bridge: Bridge) -> None:
     class Failing(io.BytesIO):
         """A stream that fails after the head."""
 
-        def read(self, size=-1):
+        def read(self, size: int = -1) -> bytes | None:
             if self.tell():
                 raise ConnectionResetError
             return super().read(size)
@@ -225,12 +228,12 @@ def test_a_connection_that_fails_is_no_final_answer(file_bridge):
     assert on_disk(file_bridge.folder) == {}
 
 
-def test_what_is_no_upload(file_bridge):
+def test_what_is_no_upload(file_bridge: Bridge) -> None:
     assert file_bridge.got("/p/file_upload_handler")[0] == "405 Method Not Allowed"
     assert file_bridge.got("/p/file_upload_handler", "POST", CONTENT_LENGTH="")[0] == "411 Length Required"
 
 
-def test_without_output_files_nothing_is_uploaded(bridge):
+def test_without_output_files_nothing_is_uploaded(bridge: Bridge) -> None:
     assert (
         bridge.got("/p/file_upload_handler", "POST", upload("u1_0_0", DATA, "0" * 64))[0] == "404 Not Found"
     )
@@ -239,11 +242,11 @@ def test_without_output_files_nothing_is_uploaded(bridge):
 # ---- Several at once, and too little room
 
 
-def test_thirty_uploads_under_one_name_leave_one_file(file_bridge):
+def test_thirty_uploads_under_one_name_leave_one_file(file_bridge: Bridge) -> None:
     tokens, answers = given(file_bridge), []
     file_bridge.application._handlers[uploads.PATH].__self__.places = uploads.Places(30)
 
-    def send(number):
+    def send(number: int) -> None:
         data = b"content %d" % (number % 3)
         answers.append(sent(file_bridge, upload("u1_0_0", data, tokens["u1_0_0"])))
 
@@ -258,7 +261,7 @@ def test_thirty_uploads_under_one_name_leave_one_file(file_bridge):
     assert name == f"pending/u1_0_0.{row.sha256}" and sha256_of(data) == row.sha256
 
 
-def test_an_upload_waits_for_a_place(file_bridge, monkeypatch):
+def test_an_upload_waits_for_a_place(file_bridge: Bridge, monkeypatch: pytest.MonkeyPatch) -> None:
     monkeypatch.setattr(uploads, "PLACE_SECONDS", 0.01)
     tokens = given(file_bridge)
     places = file_bridge.application._handlers[uploads.PATH].__self__.places
@@ -273,7 +276,7 @@ def test_an_upload_waits_for_a_place(file_bridge, monkeypatch):
     assert answers == [DONE]
 
 
-def test_the_folder_has_a_limit(file_bridge, caplog):
+def test_the_folder_has_a_limit(file_bridge: Bridge, caplog: pytest.LogCaptureFixture) -> None:
     path = file_bridge.folder / "bridge.toml"
     path.write_text(path.read_text().replace("most_bytes = 1_000_000", "most_bytes = 12_000"))
     file_bridge.restart()
@@ -286,7 +289,7 @@ def test_the_folder_has_a_limit(file_bridge, caplog):
     assert file_bridge.store.tables.used() == len(DATA) + 5
 
 
-def test_a_disk_with_too_little_room(file_bridge, monkeypatch):
+def test_a_disk_with_too_little_room(file_bridge: Bridge, monkeypatch: pytest.MonkeyPatch) -> None:
     tokens = given(file_bridge)
     free = os.statvfs(file_bridge.folder).f_bavail * os.statvfs(file_bridge.folder).f_frsize
     settings = replace(file_bridge.store.settings, free_bytes=free + 10**6)
@@ -298,7 +301,9 @@ def test_a_disk_with_too_little_room(file_bridge, monkeypatch):
 
 
 @pytest.mark.skipif(os.geteuid() != 0, reason="only root can mount a small disk")
-def test_a_full_disk_refuses_for_a_while_and_loses_nothing(file_project, twin, monkeypatch):
+def test_a_full_disk_refuses_for_a_while_and_loses_nothing(
+    file_project: Path, twin: Twin, monkeypatch: pytest.MonkeyPatch
+) -> None:
     from bridges import Bridge
 
     disk = file_project / "uploads"
@@ -333,7 +338,7 @@ def test_a_full_disk_refuses_for_a_while_and_loses_nothing(file_project, twin, m
 # ---- Settings
 
 
-def test_what_was_half_received_is_deleted_at_the_start(file_bridge):
+def test_what_was_half_received_is_deleted_at_the_start(file_bridge: Bridge) -> None:
     (file_bridge.folder / "uploads" / "temp" / "left").write_bytes(DATA)
     file_bridge.restart()
     assert on_disk(file_bridge.folder) == {}
@@ -350,14 +355,14 @@ def test_what_was_half_received_is_deleted_at_the_start(file_bridge):
         ("most_bytes = ", "keep_days = 6\nmost_bytes = ", "keep_days is not within"),
     ],
 )
-def test_faulty_settings(file_project, old, new, fault):
+def test_faulty_settings(file_project: Path, old: str, new: str, fault: str) -> None:
     path = file_project / "bridge.toml"
     path.write_text(path.read_text().replace(old, new, 1))
     with pytest.raises(OperatorFault, match=fault):
         read_settings(path)
 
 
-def test_a_secret_that_is_lost_is_not_replaced(file_bridge):
+def test_a_secret_that_is_lost_is_not_replaced(file_bridge: Bridge) -> None:
     settings = file_bridge.application.settings.uploads
     secret = settings.folder / "secret"
     kept = secret.read_bytes()
@@ -374,7 +379,9 @@ def test_a_secret_that_is_lost_is_not_replaced(file_bridge):
     UploadStore(settings).close()
 
 
-def test_a_process_that_keeps_its_turn_puts_uploads_off(file_bridge, monkeypatch):
+def test_a_process_that_keeps_its_turn_puts_uploads_off(
+    file_bridge: Bridge, monkeypatch: pytest.MonkeyPatch
+) -> None:
     monkeypatch.setattr("bsched_bridge.upload_tables.SECONDS", 0.05)
     tokens = given(file_bridge)
     message = upload("u1_0_0", DATA, tokens["u1_0_0"])
@@ -401,7 +408,7 @@ def test_a_process_that_keeps_its_turn_puts_uploads_off(file_bridge, monkeypatch
         ),
     ],
 )
-def test_settings_that_do_not_fit_the_catalogue(file_bridge, old, new, fault):
+def test_settings_that_do_not_fit_the_catalogue(file_bridge: Bridge, old: str, new: str, fault: str) -> None:
     for name in ("catalogue.toml", "bridge.toml"):
         path = file_bridge.folder / name
         path.write_text(path.read_text().replace(old, new))
@@ -423,7 +430,7 @@ def test_settings_that_do_not_fit_the_catalogue(file_bridge, old, new, fault):
         ('name = "two.txt"', 'name = "two_1_2"', "name ends like that of an output file"),
     ],
 )
-def test_faulty_output_files(file_project, old, new, fault):
+def test_faulty_output_files(file_project: Path, old: str, new: str, fault: str | None) -> None:
     path = file_project / "catalogue.toml"
     path.write_text(path.read_text().replace(old, new, 1))
     if fault is None:
@@ -433,7 +440,7 @@ def test_faulty_output_files(file_project, old, new, fault):
         read_catalogue(path)
 
 
-def test_too_many_output_files_and_none_that_is_compared(file_project):
+def test_too_many_output_files_and_none_that_is_compared(file_project: Path) -> None:
     path = file_project / "catalogue.toml"
     text, entry = path.read_text(), '{ open_name = "f%d", max_nbytes = 1, compare = %s }'
     head, tail = text.partition("output_files = [")[0], text.partition("optional = true },\n]\n")[2]

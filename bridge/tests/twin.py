@@ -1,4 +1,5 @@
 """A bsched for tests: the plain twin of bench/plain.py, served over HTTP. It can lose answers."""
+from typing import Any
 import json
 import threading
 import time
@@ -28,7 +29,7 @@ total,,,,,,,5.000
 """
 
 
-def statement(machine, number):
+def statement(machine: Any, number: int) -> str | None:
     """Returns the statement of a host with the states of its results, or None if there is no such host. Its
     times and verdicts are left out.
     """
@@ -49,7 +50,7 @@ def statement(machine, number):
 class Handler(BaseHTTPRequestHandler):
     """The handler of one message."""
 
-    def do_POST(self):
+    def do_POST(self) -> None:
         """Answers a call or an import."""
         twin = self.server.twin
         body = self.rfile.read(int(self.headers["content-length"]))
@@ -79,7 +80,7 @@ class Handler(BaseHTTPRequestHandler):
         if fault != "lost":
             self.say(status, answer)
 
-    def do_import(self, body):
+    def do_import(self, body: bytes) -> None:
         """Answers an import."""
         twin = self.server.twin
         _, _, kind, batch = self.path.split("/")
@@ -106,7 +107,7 @@ class Handler(BaseHTTPRequestHandler):
         if fault != "lost":
             self.say(status, answer)
 
-    def do_GET(self):
+    def do_GET(self) -> None:
         """Answers with a statement."""
         if self.headers["x-operator-key"] != "change-this-key":
             return self.say(403, '{"error":"not_operator","number":13}')
@@ -117,21 +118,21 @@ class Handler(BaseHTTPRequestHandler):
             answer = statement(twin.service.machine, int(self.path.rpartition("/")[2]))
         return self.say(200, answer) if answer else self.say(404, '{"error":"no_such_host","number":19}')
 
-    def say(self, status, answer):
+    def say(self, status: int, answer: str) -> None:
         """Writes an answer."""
         self.send_response(status)
         self.send_header("content-length", str(len(answer.encode())))
         self.end_headers()
         self.wfile.write(answer.encode())
 
-    def log_message(self, *_words):
+    def log_message(self, *_words: str) -> None:
         """Prints nothing."""
 
 
 class Server(ThreadingHTTPServer):
     """A server that prints nothing about broken connections."""
 
-    def handle_error(self, _request, _address):
+    def handle_error(self, _request: Any, _address: tuple[str, int]) -> None:
         """Prints nothing."""
 
 
@@ -143,7 +144,7 @@ class Twin:
     the answer to another import.
     """
 
-    def __init__(self, **settings):
+    def __init__(self, **settings: int) -> None:
         self.service = plain.Service(
             {
                 **plain.SETTINGS,
@@ -164,11 +165,11 @@ class Twin:
         self.address = Address(*self.server.server_address)
         threading.Thread(target=self.server.serve_forever, args=(0.02,), daemon=True).start()
 
-    def calls(self):
+    def calls(self) -> Any:
         """Returns the calls that it got, as JSON."""
         return [json.loads(body) for body in self.heard]
 
-    def close(self):
+    def close(self) -> None:
         """Stops the server."""
         self.server.shutdown()
         self.server.server_close()

@@ -1,9 +1,12 @@
 """What tests of uploads share: messages as BOINC's client 7.20.5 sends them, and what is on the disk."""
+from pathlib import Path
+from typing import Any
 import hashlib
 import re
 from collections.abc import Iterator
 
 from messages import FIRST, request
+from bridges import Bridge
 
 HEAD = """\
 <data_server_request>
@@ -43,12 +46,12 @@ DATA = bytes(range(256)) * 40  # more than the 8,192 bytes that are read with th
 DONE, AGAIN, NEVER = 0, 1, -1  # statuses of answers
 
 
-def md5_of(data):
+def md5_of(data: bytes) -> str:
     """Returns the MD5 of bytes, as the client writes it."""
     return hashlib.md5(data).hexdigest()
 
 
-def tokens_of(reply):
+def tokens_of(reply: bytes) -> dict[str, str]:
     """Returns the token of each file in a reply, as the client reads it."""
     files = (part for part in reply.decode().split("<file_info>")[1:] if "<xml_signature>" in part)
     return {
@@ -59,13 +62,13 @@ def tokens_of(reply):
     }
 
 
-def upload(name, data, token, max_nbytes=20_000, **more):
+def upload(name: str, data: bytes, token: str, max_nbytes: int | str = 20_000, **more: int | str) -> bytes:
     """Returns the message that uploads a file."""
     values = {"nbytes": len(data), "md5": md5_of(data), "offset": 0, **more}
     return HEAD.format(name=name, token=token, max_nbytes=max_nbytes, **values).encode() + data
 
 
-def sent(bridge, message, **more):
+def sent(bridge: Bridge, message: bytes, **more: Any) -> int | None:
     """Returns the status in the answer to a message of an upload."""
     status, fields, body = bridge.got("/p/file_upload_handler", "POST", message, **more)
     assert (status, fields["Content-Length"]) == ("200 OK", str(len(body)))
@@ -78,12 +81,20 @@ def sent(bridge, message, **more):
     )
 
 
-def file_info(name, data, more=""):
+def file_info(name: str, data: bytes, more: str = "") -> str:
     """Returns the element by which a report names an uploaded file."""
     return FILE_INFO.format(name=name, nbytes=len(data), md5=md5_of(data), more=more)
 
 
-def report(result, files, hostid=FIRST, output="", status=0, state=5, **more):
+def report(
+    result: str,
+    files: list[str],
+    hostid: int = FIRST,
+    output: str = "",
+    status: int = 0,
+    state: int = 5,
+    **more: str,
+) -> str:
     """Returns a request that reports a result with the elements of its files."""
     body = request(hostid=hostid, reports=[(result, output)], seconds=0, **more)
     body = body.replace(
@@ -92,7 +103,7 @@ def report(result, files, hostid=FIRST, output="", status=0, state=5, **more):
     return body.replace("</stderr_out></result>", "</stderr_out>" + "".join(files) + "</result>")
 
 
-def on_disk(folder):
+def on_disk(folder: Path) -> dict[str, Any]:
     """Returns the contents of the files in temp/, pending/ and store/, by their names."""
     return {
         f"{part}/{path.name}": path.read_bytes()
@@ -101,7 +112,7 @@ def on_disk(folder):
     }
 
 
-def sha256_of(data):
+def sha256_of(data: bytes) -> str:
     """Returns the SHA-256 of bytes."""
     return hashlib.sha256(data).hexdigest()
 
