@@ -34,7 +34,7 @@ class CommandLine(argparse.ArgumentParser):
         self.exit(BAD_COMMAND_LINE, f"bsched-bridge: {message}\n")
 
 
-def words() -> argparse.ArgumentParser:
+def command_parser() -> argparse.ArgumentParser:
     """Returns the parser of the command line."""
     parser = CommandLine(prog="bsched-bridge", description="A bridge between BOINC's client and bsched.")
     parser.add_argument("--config", type=Path, metavar="FILE", help="the settings (TOML); serves them")
@@ -122,27 +122,27 @@ def serve(path: Path, only_check: bool) -> None:
 
 def main() -> int:
     """Does what the command line says, and returns the exit status."""
-    parser = words()
-    told = parser.parse_args()
+    parser = command_parser()
+    args = parser.parse_args()
     logging.basicConfig(level=logging.INFO, format="%(asctime)s %(levelname)s %(name)s: %(message)s")
     try:
-        if told.order == "keygen":
-            write_new_keys(told.private, told.public)
-        elif told.order == "sign":
-            print(signature_text(file_md5(told.file), read_private_key(told.key.read_text())), end="")
-        elif told.order == "sweep":
-            print(sweep_command.run(told.swept, told.tables))
-        elif told.order in ORDERS:
-            run_order(told)
-        elif told.config is None:
+        if args.order == "keygen":
+            write_new_keys(args.private, args.public)
+        elif args.order == "sign":
+            print(signature_text(file_md5(args.file), read_private_key(args.key.read_text())), end="")
+        elif args.order == "sweep":
+            print(sweep_command.run(args.swept, args.tables))
+        elif args.order in ORDERS:
+            run_order(args)
+        elif args.config is None:
             parser.error("--config FILE or a command is needed: see --help")
         else:
-            serve(told.config, told.check)
+            serve(args.config, args.check)
     except (OperatorFault, StateFault, OrderFault) as fault:
         print(f"bsched-bridge: {fault}", file=sys.stderr)
         return FAULT
     except KeyFault as fault:
-        print(f"bsched-bridge: {told.key} {fault}", file=sys.stderr)
+        print(f"bsched-bridge: {args.key} {fault}", file=sys.stderr)
         return FAULT
     except FileExistsError as error:
         print(f"bsched-bridge: {error.filename} exists, and is not replaced", file=sys.stderr)
@@ -152,7 +152,7 @@ def main() -> int:
         print(f"bsched-bridge: {where}{error.strerror or error}", file=sys.stderr)
         return FAULT
     except UnicodeDecodeError as error:
-        print(f"bsched-bridge: {told.key} is not text: {error}", file=sys.stderr)
+        print(f"bsched-bridge: {args.key} is not text: {error}", file=sys.stderr)
         return FAULT
     return 0
 

@@ -17,8 +17,8 @@ from .http_messages import (
     Answer,
     Environ,
     HttpFault,
-    has_method,
-    is_of_no_browser,
+    require_method,
+    refuse_browsers,
     log_fault,
     query_of,
 )
@@ -41,8 +41,8 @@ def client_of(environ: Environ, address_field: str | None) -> str:
     """
     peer: str = environ.get("REMOTE_ADDR") or ""
     if address_field is not None and is_loopback(peer):
-        told: str = environ.get("HTTP_" + address_field.upper().replace("-", "_"), "")
-        return network_of(told.strip()) or network_of(peer)
+        address: str = environ.get("HTTP_" + address_field.upper().replace("-", "_"), "")
+        return network_of(address.strip()) or network_of(peer)
     return network_of(peer)
 
 
@@ -99,29 +99,29 @@ class AccountMessages:
 
     def create(self, environ: Environ) -> Answer:
         """Answers create_account.php. It writes, so HEAD and browsers are refused."""
-        has_method(environ, "GET")
-        is_of_no_browser(environ)
-        return self._answered(self._created, environ)
+        require_method(environ, "GET")
+        refuse_browsers(environ)
+        return self._answer(self._create, environ)
 
     def look_up(self, environ: Environ) -> Answer:
         """Answers lookup_account.php. Wrong passwords are counted, so HEAD and browsers are refused."""
-        has_method(environ, "GET")
-        is_of_no_browser(environ)
-        return self._answered(self._found, environ)
+        require_method(environ, "GET")
+        refuse_browsers(environ)
+        return self._answer(self._find, environ)
 
     def client(self, environ: Environ) -> str:
         """Returns the client for whom the limits count a message."""
         return client_of(environ, self._address_field)
 
-    def _answered(self, find: Callable[[Environ, dict[str, str]], str], environ: Environ) -> Answer:
+    def _answer(self, find: Callable[[Environ, dict[str, str]], str], environ: Environ) -> Answer:
         """Returns the answer with the key that is found. If the bridge itself fails, for example on a full
         disk, the client is asked to try again.
         """
         try:
             with at_work(self.places):
                 return Answer(XML, account_out(find(environ, query_of(environ))), NO_STORE)
-        except AccountFault as told:
-            fault = told.fault
+        except AccountFault as failure:
+            fault = failure.fault
         except HttpFault:
             raise
         except Exception as error:
@@ -129,28 +129,28 @@ class AccountMessages:
             fault = Fault.NO_ANSWER
         return Answer(XML, account_error(fault), NO_STORE)
 
-    def _created(self, environ: Environ, told: dict[str, str]) -> str:
+    def _create(self, environ: Environ, fields: dict[str, str]) -> str:
         """Makes an account and returns its key."""
         if self.accounts is None:
             raise AccountFault(Fault.NO_CREATION)
-        email, secret = in_small_letters(told.get("email_addr", "")), told.get("passwd_hash", "").lower()
-        has_consent = told.get("consent_flag") == "1"
+        email, secret = in_small_letters(fields.get("email_addr", "")), fields.get("passwd_hash", "").lower()
+        has_consent = fields.get("consent_flag") == "1"
         return self.accounts.create(
-            email, secret, told.get("user_name", ""), has_consent, self.client(environ)
+            email, secret, fields.get("user_name", ""), has_consent, self.client(environ)
         ).authenticator
 
-    def _found(self, environ: Environ, told: dict[str, str]) -> str:
+    def _find(self, environ: Environ, fields: dict[str, str]) -> str:
         """Returns the key of an account. The client gives an address and a password, or the key itself, which
         a volunteer types as the user name.
         """
-        name = told.get("authenticator", "") or told.get("email_addr", "")
+        name = fields.get("authenticator", "") or fields.get("email_addr", "")
         if self.accounts is None:
             return self._known_key(name)
         if is_word(name):
             with self.accounts.wrong_keys_counted(self.client(environ)):
                 return self._known_key(name)
         return self.accounts.look_up(
-            in_small_letters(name), told.get("passwd_hash", "").lower(), self.client(environ)
+            in_small_letters(name), fields.get("passwd_hash", "").lower(), self.client(environ)
         ).authenticator
 
     def _known_key(self, authenticator: str) -> str:

@@ -8,7 +8,7 @@ from dataclasses import dataclass, field, replace
 
 from .account_messages import LEAST_PASSWORD, client_of
 from .accounts import AccountFault, Accounts, Fault, at_work, clean_name, is_email
-from .http_messages import Answer, Environ, form_of, has_method, is_of_no_other_page, query_of
+from .http_messages import Answer, Environ, form_of, require_method, refuse_other_sites, query_of
 from .limits import Places
 from .markup import Markup, Number, element, joined, page, paragraphs, table
 from .members import Member
@@ -36,8 +36,8 @@ class Input:
 
     def markup(self, fault: str | None) -> Markup:
         """Returns the label and the field, followed by what is wrong with the value that was sent."""
-        told = [f"{self.name}-note"] if self.note else []
-        told += [f"{self.name}-fault"] if fault else []
+        described_by = [f"{self.name}-note"] if self.note else []
+        described_by += [f"{self.name}-fault"] if fault else []
         return joined(
             element("label", self.label, for_=self.name),
             element(
@@ -49,7 +49,7 @@ class Input:
                 maxlength=self.most,
                 autocomplete=self.complete,
                 aria_invalid="true" if fault else None,
-                aria_describedby=" ".join(told) or None,
+                aria_describedby=" ".join(described_by) or None,
             ),
             element("div", self.note, class_="note", id=f"{self.name}-note") if self.note else "",
             element("div", fault, class_="fault", id=f"{self.name}-fault") if fault else "",
@@ -60,12 +60,12 @@ class Input:
 class Form:
     """The fields that a form sent, and what is wrong with each of them."""
 
-    told: dict[str, str] = field(default_factory=dict)
+    fields: dict[str, str] = field(default_factory=dict)
     faults: dict[str, str] = field(default_factory=dict)
 
     def text(self, name: str) -> str:
         """Returns what was typed into a field, without leading and trailing blanks."""
-        return self.told.get(name, "").strip()
+        return self.fields.get(name, "").strip()
 
 
 def form(action: str, button: str, *parts: object) -> Markup:
@@ -120,8 +120,8 @@ class AccountPages:
         """Answers account_finish.php, which the Manager opens after it has made an account. The form of the
         page posts back to it, with the key.
         """
-        has_method(environ, "GET", "HEAD", "POST")
-        is_of_no_other_page(environ, self.settings.url)
+        require_method(environ, "GET", "HEAD", "POST")
+        refuse_other_sites(environ, self.settings.url)
         if environ["REQUEST_METHOD"] == "POST":
             return self._changed(environ)
         key, client = query_of(environ).get("auth", ""), client_of(environ, self._field)
@@ -134,24 +134,24 @@ class AccountPages:
 
     def account(self, environ: Environ) -> Answer:
         """Shows an account, found by its key or by address and password. Without them it asks for them."""
-        has_method(environ, "GET", "HEAD", "POST")
+        require_method(environ, "GET", "HEAD", "POST")
         if environ["REQUEST_METHOD"] != "POST":
             return self._entrance(Form())
-        is_of_no_other_page(environ, self.settings.url)
+        refuse_other_sites(environ, self.settings.url)
         sent, client = Form(form_of(environ)), client_of(environ, self._field)
         try:
             with at_work(self.places):
                 return self._account(self._member(sent, client))
         except AccountFault as fault:
-            sent.faults["key" if "key" in sent.told else "password"] = fault.fault.text
+            sent.faults["key" if "key" in sent.fields else "password"] = fault.fault.text
             return self._entrance(sent)
 
     def _member(self, sent: Form, client: str) -> Member:
         """Returns the account whose key, or address and password, a form has."""
-        if "key" in sent.told:
+        if "key" in sent.fields:
             return self.accounts.of_owner(sent.text("key"), client)
         email = in_small_letters(sent.text("email"))
-        return self.accounts.look_up(email, client_hash(sent.told.get("password", ""), email), client)
+        return self.accounts.look_up(email, client_hash(sent.fields.get("password", ""), email), client)
 
     def _entrance(self, sent: Form, status: int = 200) -> Answer:
         """Returns the page that asks for a key, or for an address and a password."""
@@ -180,7 +180,7 @@ class AccountPages:
                 if not name:
                     sent.faults["name"] = "Give a name."
                     return self._account(member, sent=sent)
-                self.accounts.members.changed(member, name, is_exported)
+                self.accounts.members.change(member, name, is_exported)
                 member = replace(member, name=name, is_exported=is_exported)
                 return self._account(member, "Your changes are saved.")
         except AccountFault as fault:
@@ -191,7 +191,7 @@ class AccountPages:
         sent = sent or Form()
         status = self.statements.of_account(member.authenticator)
         name = Input(
-            "name", "Name", value=sent.told.get("name", member.name), note="Everybody can see it.", most=64
+            "name", "Name", value=sent.fields.get("name", member.name), note="Everybody can see it.", most=64
         )
         choice = element(
             "label",
@@ -231,7 +231,7 @@ class AccountPages:
 
     def delete(self, environ: Environ) -> Answer:
         """Answers delete_account.php: whoever has the address and the password deletes the account."""
-        has_method(environ, "GET", "HEAD", "POST")
+        require_method(environ, "GET", "HEAD", "POST")
         if environ["REQUEST_METHOD"] != "POST":
             return self._deletion_form(Form())
         sent, client = Form(form_of(environ)), client_of(environ, self._field)
@@ -241,7 +241,7 @@ class AccountPages:
             return self._deletion_form(sent)
         try:
             with at_work(self.places):
-                self.accounts.delete(email, client_hash(sent.told.get("password", ""), email), client)
+                self.accounts.delete(email, client_hash(sent.fields.get("password", ""), email), client)
         except AccountFault as fault:
             sent.faults["password"] = fault.fault.text
             return self._deletion_form(sent)
@@ -294,12 +294,12 @@ class AccountPages:
 
     def password(self, environ: Environ) -> Answer:
         """Answers get_passwd.php: whoever has the key sets the address and the password."""
-        has_method(environ, "GET", "HEAD", "POST")
+        require_method(environ, "GET", "HEAD", "POST")
         if environ["REQUEST_METHOD"] != "POST":
             return self._password_form(Form())
-        is_of_no_other_page(environ, self.settings.url)
+        refuse_other_sites(environ, self.settings.url)
         sent, client = Form(form_of(environ)), client_of(environ, self._field)
-        email, password = in_small_letters(sent.text("email")), sent.told.get("password", "")
+        email, password = in_small_letters(sent.text("email")), sent.fields.get("password", "")
         if not is_email(email):
             sent.faults["email"] = Fault.NO_ADDRESS.text
         if not LEAST_PASSWORD <= len(password) <= MOST_PASSWORD:
@@ -308,7 +308,7 @@ class AccountPages:
             return self._password_form(sent)
         try:
             with at_work(self.places):
-                self.accounts.has_password(sent.text("key"), email, client_hash(password, email), client)
+                self.accounts.set_password(sent.text("key"), email, client_hash(password, email), client)
         except AccountFault as fault:
             sent.faults["email" if fault.fault is Fault.TAKEN else "key"] = fault.fault.text
             return self._password_form(sent)
@@ -340,7 +340,7 @@ class AccountPages:
 
     def terms(self, environ: Environ) -> Answer:
         """Returns the page with the terms of use."""
-        has_method(environ, "GET", "HEAD")
+        require_method(environ, "GET", "HEAD")
         terms = (self.settings.accounts.terms if self.settings.accounts else None) or "There are none."
         return page(f"{self.settings.name}: terms of use", paragraphs(terms), links=BACK)
 

@@ -151,7 +151,7 @@ class Accounts:
 
     # ---- What clients ask for
 
-    def create(self, email: str, told: str, name: str, has_consent: bool, client: str) -> Member:
+    def create(self, email: str, passwd_hash: str, name: str, has_consent: bool, client: str) -> Member:
         """Returns a new account. If the address has one already and the password is right, it returns that
         one.
         """
@@ -159,30 +159,30 @@ class Accounts:
             raise AccountFault(Fault.NO_ADDRESS)
         if not is_email(email):
             raise AccountFault(Fault.ODD_ADDRESS)
-        if not is_client_hash(told, email):
+        if not is_client_hash(passwd_hash, email):
             raise AccountFault(Fault.NO_PASSWORD)
         with self._held(email):
             member = self.members.of_email(email)
             if member is None:
                 with self._attempted(("client", client)) as attempt:
                     try:
-                        return self._made(email, told, name, has_consent, client)
+                        return self._make(email, passwd_hash, name, has_consent, client)
                     except AccountFault as fault:
                         attempt.is_wrong = fault.fault in SAY_FREE
                         raise
-            if not self._is_right(email, told, member, client):
+            if not self._is_right(email, passwd_hash, member, client):
                 raise AccountFault(Fault.TAKEN)
-            return self._finished(member)
+            return self._finish(member)
 
-    def look_up(self, email: str, told: str, client: str) -> Member:
+    def look_up(self, email: str, passwd_hash: str, client: str) -> Member:
         """Returns the account with this address and password."""
-        if not is_email(email) or not is_client_hash(told, email):
+        if not is_email(email) or not is_client_hash(passwd_hash, email):
             raise AccountFault(Fault.WRONG)
         with self._held(email):
             member = self.members.of_email(email)
-            if not self._is_right(email, told, member, client) or member is None:
+            if not self._is_right(email, passwd_hash, member, client) or member is None:
                 raise AccountFault(Fault.WRONG)
-            return self._finished(member)
+            return self._finish(member)
 
     @contextmanager
     def _held(self, email: str) -> Iterator[None]:
@@ -204,7 +204,7 @@ class Accounts:
         """Returns whether the account with a key was deleted."""
         return self.barring.reason(authenticator) is Barred.DELETED
 
-    def has_password(self, authenticator: str, email: str, told: str, client: str) -> Member:
+    def set_password(self, authenticator: str, email: str, passwd_hash: str, client: str) -> Member:
         """Sets the address and the password of an account, and returns it. The owner sends the key."""
         member = self.of_owner(authenticator, client)
         with self._held(email), self._attempted(("client", client), ("key", authenticator)) as attempt:
@@ -212,7 +212,7 @@ class Accounts:
                 other = self.members.of_email(email)
                 if other is not None and other.id != member.id:
                     raise EmailTaken
-                self.members.has_password(member, email, self.passwords.new_secret(told, client))
+                self.members.set_password(member, email, self.passwords.new_secret(passwd_hash, client))
             except EmailTaken:
                 attempt.is_wrong = True  # it says that the address has an account
                 raise AccountFault(Fault.TAKEN) from None
@@ -220,9 +220,9 @@ class Accounts:
             raise AccountFault(Fault.WRONG_KEY)
         return member
 
-    def delete(self, email: str, told: str, client: str) -> None:
+    def delete(self, email: str, passwd_hash: str, client: str) -> None:
         """Deletes the account with an address and a password: its key is barred, and its user forgotten."""
-        member = self.look_up(email, told, client)
+        member = self.look_up(email, passwd_hash, client)
         with self._held(email):
             again = self.members.of_email(email)
             if again is None or again.authenticator != member.authenticator:
@@ -249,13 +249,13 @@ class Accounts:
                 attempt.is_wrong = fault.fault is Fault.WRONG_KEY
                 raise
 
-    def _is_right(self, email: str, told: str, member: Member | None, client: str) -> bool:
+    def _is_right(self, email: str, passwd_hash: str, member: Member | None, client: str) -> bool:
         """Returns whether a password is that of an account. Wrong ones are counted for the client and for the
         address.
         """
         with self._attempted(("client", client), ("email", email)) as attempt:
             attempt.is_wrong = not self.passwords.is_right(
-                told, None if member is None else member.secret, client
+                passwd_hash, None if member is None else member.secret, client
             )
         return not attempt.is_wrong
 
@@ -279,7 +279,7 @@ class Accounts:
 
     # ---- A new account
 
-    def _made(self, email: str, told: str, name: str, has_consent: bool, client: str) -> Member:
+    def _make(self, email: str, passwd_hash: str, name: str, has_consent: bool, client: str) -> Member:
         """Makes a new account, within the limits."""
         if self.settings.terms is not None and not has_consent:
             raise AccountFault(Fault.NO_CONSENT)
@@ -287,9 +287,9 @@ class Accounts:
             raise AccountFault(Fault.NETWORK_FULL)
         is_row = False
         try:
-            row = self._new_row(email, told, name, has_consent, client)
+            row = self._new_row(email, passwd_hash, name, has_consent, client)
             is_row = True
-            return self._finished(row)
+            return self._finish(row)
         except AccountFault as fault:
             is_row = is_row and fault.fault is not Fault.PROJECT_FULL
             raise
@@ -297,20 +297,20 @@ class Accounts:
             if not is_row:
                 self._new.give_back(client)
 
-    def _new_row(self, email: str, told: str, name: str, has_consent: bool, client: str) -> Member:
+    def _new_row(self, email: str, passwd_hash: str, name: str, has_consent: bool, client: str) -> Member:
         """Inserts the row of a new account, within the limit for a day."""
         chosen = (clean_name(name) if self.settings.is_name_told else "") or made_name()
         now, most = int(time.time()), self.settings.most_a_day
         try:
             if self.members.is_day_full(now, most):  # checked before the costly hash; insert counts again
                 raise DayIsFull
-            secret = self.passwords.new_secret(told, client)
+            secret = self.passwords.new_secret(passwd_hash, client)
             return self.members.insert(email, secret, chosen, has_consent, now, most)
         except DayIsFull:
             log.warning("%d accounts were made in 24 hours, so no more are made now", most)
             raise AccountFault(Fault.DAY_FULL) from None
 
-    def _finished(self, member: Member) -> Member:
+    def _finish(self, member: Member) -> Member:
         """Returns the account once bsched has it. If that is not known, it raises a fault, so nobody gets the
         key.
         """
@@ -334,10 +334,10 @@ class Accounts:
             refusal = self._refusal_of(self.members.with_new_batch(member))
         if refusal is None or refusal.error == "duplicate_name":  # the key is random, so it is this account
             if not member.is_imported:
-                self.members.imported(member)
+                self.members.mark_imported(member)
             return
         if refusal.error == "table_full" and not member.is_imported:
-            self.members.deleted(member)
+            self.members.delete(member)
             log.error("no account can be made: bsched has as many as it can have")
             raise AccountFault(Fault.PROJECT_FULL)
         # an earlier import may have counted, so the row stays
@@ -365,7 +365,7 @@ class Accounts:
             except (AccountFault, Busy):
                 continue  # the import was refused, or another message holds the address
 
-    def is_imported_again(self, authenticator: str) -> bool:
+    def import_again(self, authenticator: str) -> bool:
         """Imports an account again that bsched no longer knows, for example after its tables were restored
         from an older copy. Returns whether bsched has it now.
         """

@@ -92,7 +92,7 @@ class CallNumbers:
         )
         return row == (MOST_OF_STRANGERS,)
 
-    def opened(
+    def open(
         self,
         key: Key,
         text: Callable[[int], bytes],
@@ -134,7 +134,7 @@ class CallNumbers:
     # A transaction that closes a call is not synced. If a power failure undoes it, the call is the last of
     # its key. Sent again, it gets the answer that it had.
 
-    def refused(self, key: Key) -> None:
+    def record_refusal(self, key: Key) -> None:
         """Closes the open call of a key after a refusal, so the call changed nothing. If bsched knows no host
         of the key, and no client was given a number, the key is forgotten.
         """
@@ -149,7 +149,7 @@ class CallNumbers:
                 "UPDATE host SET open_call = NULL WHERE authenticator = ? AND host_cpid = ?", values
             )
 
-    def answered(self, key: Key, reply: Reply, jobs_in_hand: list[Job]) -> None:
+    def record_answer(self, key: Key, reply: Reply, jobs_in_hand: list[Job]) -> None:
         """Closes the open call of a key after a reply. From now on these jobs are in hand."""
         jobs, now = json.dumps([asdict(job) for job in jobs_in_hand]), int(time.time())
         with self.file.transaction(is_synced=False) as connection:
@@ -175,7 +175,7 @@ class CallNumbers:
             )
             first_heard(connection, key.authenticator, reply.user_name, now)
 
-    def given_hostid(self, key: Key) -> int | None:
+    def give_hostid(self, key: Key) -> int | None:
         """Returns the number of a host, which its client gets with this reply. The host has one if a
         client was given it before; else it gets a new one. It is on the disk before this returns. The client
         counts its requests from 0 again. If the account was deleted just now, there is no number.
@@ -194,7 +194,7 @@ class CallNumbers:
             )
         return cast(int, hostid)
 
-    def has_in_hand(self, key: Key, jobs: list[Job]) -> None:
+    def keep_in_hand(self, key: Key, jobs: list[Job]) -> None:
         """Has these jobs in hand, which the client of a host may lack."""
         with self.file.transaction(is_synced=False) as connection:
             connection.execute(

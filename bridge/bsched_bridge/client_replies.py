@@ -250,7 +250,7 @@ class ReplyWriter:
         add(element, "avg_ncpus", f"{one.ncpus(request):g}")
         add(element, "flops", f"{one.flops(request):.0f}")
         if one.command_line:
-            add(element, "cmdline", one.words(request))
+            add(element, "cmdline", one.command_line_for(request))
         if one.coproc is not None:
             coproc = SubElement(element, "coproc")
             add(coproc, "type", one.coproc)

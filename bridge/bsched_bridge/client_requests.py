@@ -143,8 +143,8 @@ def is_result_name(name: str | None) -> bool:
 
 def output_of(result: Element) -> str:
     """Returns what a program wrote to its standard error, as request_parts leaves it."""
-    told = result.find("stderr_out")
-    return "" if told is None else told.text or ""
+    element = result.find("stderr_out")
+    return "" if element is None else element.text or ""
 
 
 def upload_fault(result: Element) -> str | None:
@@ -249,8 +249,8 @@ def read_request(blocks: Iterable[bytes]) -> ClientRequest:
     has = root.find("other_results")
     other: tuple[str, ...] | None = None
     if has is not None:
-        told = (text_of(item, "name") for item in has.findall("other_result"))
-        other = tuple(name for name in told if name is not None and is_result_name(name))
+        names = (text_of(item, "name") for item in has.findall("other_result"))
+        other = tuple(name for name in names if name is not None and is_result_name(name))
     platforms = (text_of(item, "name") for item in root.findall("alt_platform"))
     alternatives = (name for name in platforms if name is not None and is_word(name))
     return ClientRequest(

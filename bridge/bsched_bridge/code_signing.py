@@ -172,7 +172,7 @@ def is_signature(md5: str, text: str, key: rsa.RSAPublicKey) -> bool:
     key.
     """
     try:
-        told = key.recover_data_from_signature(hex_bytes(text), padding.PKCS1v15(), None)
+        signed = key.recover_data_from_signature(hex_bytes(text), padding.PKCS1v15(), None)
     except (InvalidSignature, KeyFault, ValueError):
         return False
-    return told == md5.encode()
+    return signed == md5.encode()

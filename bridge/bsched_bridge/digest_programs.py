@@ -100,16 +100,16 @@ def digest_of(program: DigestProgram, files: Iterable[tuple[str, Path]]) -> str:
     """
     try:
         with _places.taken(PLACE_SECONDS):
-            with tempfile.TemporaryFile() as said, tempfile.TemporaryFile() as status:
-                _run(program, list(files), said, status)
-                return _text(said, _status(status))
+            with tempfile.TemporaryFile() as output, tempfile.TemporaryFile() as status:
+                _run(program, list(files), output, status)
+                return _text(output, _status(status))
     except NoPlace:
         raise DigestFault("too many digest programs run") from None
     except OSError as error:
         raise DigestFault(f"it can't be run: {error}") from None
 
 
-def _run(program: DigestProgram, files: list[tuple[str, Path]], said: IO[bytes], status: IO[bytes]) -> None:
+def _run(program: DigestProgram, files: list[tuple[str, Path]], output: IO[bytes], status: IO[bytes]) -> None:
     """Runs a digest program. What it prints goes into one file, and what bubblewrap says of its end into
     another.
     """
@@ -130,7 +130,7 @@ def _run(program: DigestProgram, files: list[tuple[str, Path]], said: IO[bytes],
         words,
         env=nothing,
         stdin=subprocess.DEVNULL,
-        stdout=said,
+        stdout=output,
         stderr=subprocess.DEVNULL,
         pass_fds=[status.fileno()],
         cwd="/",
@@ -149,9 +149,9 @@ def _status(file: IO[bytes]) -> int:
     """Returns the status of a program, by lines of bubblewrap. It has none if the program did not start."""
     file.seek(0)
     for line in file.read(MOST_OUTPUT * 4).splitlines():
-        said = json.loads(line)
-        if "exit-code" in said:
-            return int(said["exit-code"])
+        event = json.loads(line)
+        if "exit-code" in event:
+            return int(event["exit-code"])
     raise DigestFault(f"{BWRAP} could not start it: see whether it is executable, and try it by hand")
 
 
@@ -160,11 +160,11 @@ def _text(file: IO[bytes], status: int) -> str:
     if status not in (0, 1):
         raise DigestFault(f"its status is {status}")
     file.seek(0)
-    said = file.read(MOST_OUTPUT + 1)
-    if len(said) > MOST_OUTPUT:
+    output = file.read(MOST_OUTPUT + 1)
+    if len(output) > MOST_OUTPUT:
         raise DigestFault(f"it prints more than {MOST_OUTPUT} bytes")
     try:
-        text = said.decode().strip()
+        text = output.decode().strip()
     except UnicodeDecodeError:
         raise DigestFault("what it prints is not UTF-8") from None
     if NO_XML.search(text):

@@ -79,9 +79,9 @@ DELETED = PutOff(
 
 def put_off_by(refusal: Refusal) -> PutOff:
     """Returns what a client reads after a refusal."""
-    told = REFUSALS.get(refusal.error, OTHER_REFUSAL)
+    put_off = REFUSALS.get(refusal.error, OTHER_REFUSAL)
     member = refusal.members.get("member")
-    return replace(told, message=f"{told.message} ({member})") if member else told
+    return replace(put_off, message=f"{put_off.message} ({member})") if member else put_off
 
 
 def too_many_hosts(count: int) -> PutOff:
@@ -118,16 +118,16 @@ class Exchange:
         rules: Callable[[], HostRules],
         search: HostSearch,
         barring: Barring,
-        is_imported_again: Callable[[str], bool] = lambda _authenticator: False,
-        archives: Archives | None = None,
+        import_again: Callable[[str], bool],
+        archives: Archives,
         reports: ReportChecks | None = None,
         contact: str | None = None,
     ):
         self.hosts, self.numbers, self.scheduler, self.search = hosts, numbers, scheduler, search
         self.retry_delay, self.rules, self.barring, self.contact = retry_delay, rules, barring, contact
         self.reports = reports  # None if no application has output files
-        self.is_imported_again = is_imported_again  # imports an account again that bsched has lost
-        self.archives = archives or Archives()
+        self.import_again = import_again  # imports an account again that bsched has lost
+        self.archives = archives
         self._locks = KeyLocks(wait_seconds=2 * scheduler.answer_seconds)
 
     def answer(self, request: ClientRequest) -> Answered | PutOff:
@@ -193,9 +193,9 @@ class Exchange:
                 # Of results that the original does not have, bsched does not know that it gave them out, for
                 # example after a restore. Nobody can report them, so the copy forgets them, too.
                 holders = {name: holders.get(name, key) for name in names_of(request.results)}
-        return self._numbered(request, key, holders, client)
+        return self._give_number(request, key, holders, client)
 
-    def _numbered(
+    def _give_number(
         self, request: ClientRequest, key: Key, holders: dict[str, Key], client: ClientState
     ) -> Answered | PutOff:
         """Returns the reply to a client that gets the number of a host.
@@ -205,7 +205,7 @@ class Exchange:
         its reports would be acknowledged, and it gets no job.
         """
         unheld = [name for name in names_of(request.results) if name not in holders]
-        aside = self._reported_aside(request, holders, None if unheld else key)
+        aside = self._report_aside(request, holders, None if unheld else key)
         if isinstance(aside, PutOff):
             return aside
         if unheld:
@@ -225,9 +225,9 @@ class Exchange:
         if isinstance(reply, PutOff):
             return reply
         reply = replace(reply, result_ack=reply.result_ack + acknowledged)
-        return Answered(reply, self.numbers.given_hostid(key))
+        return Answered(reply, self.numbers.give_hostid(key))
 
-    def _reported_aside(
+    def _report_aside(
         self, request: ClientRequest, holders: dict[str, Key], but: Key | None
     ) -> Answered | PutOff | None:
         """Reports results for the hosts that have them, but for one host. Returns a reply without jobs that
@@ -239,7 +239,7 @@ class Exchange:
             if key == but:
                 continue
             results = tuple(result for result in request.results if holders.get(result.name) == key)
-            reply = self._called_aside(key, request, results)
+            reply = self._call_aside(key, request, results)
             if isinstance(reply, PutOff):
                 return reply
             last = replace(reply, result_ack=(last.result_ack if last else []) + reply.result_ack)
@@ -251,7 +251,7 @@ class Exchange:
         """
         reported = names_of(request.results)
         if reported and self.search.operator_key is not None and not self._has_host(original.key):
-            asked = self._called_aside(original.key, request, ())
+            asked = self._call_aside(original.key, request, ())
             if isinstance(asked, PutOff):
                 return asked
         if self.search.operator_key is None:
@@ -275,7 +275,7 @@ class Exchange:
         holders = self.search.holders(key, reported | set(request.other_results or ()))
         if reported - holders.keys() and not self._has_host(key):
             # bsched may have the host, and the bridge does not know by which number: a call tells it
-            asked = self._called_aside(key, request, ())
+            asked = self._call_aside(key, request, ())
             if isinstance(asked, PutOff):
                 return asked
             holders |= dict.fromkeys(self.search.held(key, reported - holders.keys()), key)
@@ -291,7 +291,7 @@ class Exchange:
         number = self.hosts.scheduler_hostid(key)
         return number is not None and self.scheduler.has_host(key.authenticator, key.host_cpid, number)
 
-    def _called_aside(self, key: Key, request: ClientRequest, results: tuple[Report, ...]) -> Reply | PutOff:
+    def _call_aside(self, key: Key, request: ClientRequest, results: tuple[Report, ...]) -> Reply | PutOff:
         """Calls for a host that may not be the client. It reports some results and nothing else, and the jobs
         that are in hand for the host's own client stay so.
         """
@@ -299,10 +299,10 @@ class Exchange:
         with self._locks.held(key):
             self._resend(key)
             in_hand = self.numbers.jobs_in_hand(key)
-            checked = aside if self.reports is None else self.reports.checked(key, aside)
-            reply = self._called(key, checked, ClientState())
+            checked = aside if self.reports is None else self.reports.check(key, aside)
+            reply = self._send(key, checked, ClientState())
             if isinstance(reply, Reply):
-                self.numbers.has_in_hand(key, jobs_with(reply, in_hand))
+                self.numbers.keep_in_hand(key, jobs_with(reply, in_hand))
                 return replace(reply, results=[], result_abort=[])
             return reply
 
@@ -321,9 +321,9 @@ class Exchange:
         answer = self._answer(key, call)
         if isinstance(answer, Refusal):
             log.warning("a call of %s that was sent again is refused as %s", key.host_cpid, answer.error)
-            self.numbers.refused(key)
+            self.numbers.record_refusal(key)
         else:
-            self.numbers.answered(key, answer, jobs_with(answer, self.numbers.jobs_in_hand(key)))
+            self.numbers.record_answer(key, answer, jobs_with(answer, self.numbers.jobs_in_hand(key)))
 
     def _answer(self, key: Key, call: bytes) -> Reply | Refusal:
         """Returns the answer to a call, with the credit of the archives added."""
@@ -335,11 +335,14 @@ class Exchange:
         with self._locks.held(key):
             self._resend(key)
             if self.reports is None:
-                return self._called(key, request, client)
-            reply = self._called(key, self.reports.checked(key, request), client)
-            if isinstance(reply, Reply):
-                self.reports.hand_out(key, reply.results)
-            return reply
+                return self._send(key, request, client)
+            reply = self._send(key, self.reports.check(key, request), client)
+            if isinstance(reply, PutOff):
+                return reply
+            handed = self.reports.hand_out(key, reply.results)
+            if len(handed) < len(reply.results):
+                self.numbers.keep_in_hand(key, reply.results)
+            return replace(reply, results=handed)
 
     def _is_made_up(self, key: Key) -> bool:
         """Returns whether bsched does not have the account of a key, if it is doubtful.
@@ -354,7 +357,7 @@ class Exchange:
             return False
         return not self.scheduler.has_account(key.authenticator)
 
-    def _called(self, key: Key, request: ClientRequest, client: ClientState) -> Reply | PutOff:
+    def _send(self, key: Key, request: ClientRequest, client: ClientState) -> Reply | PutOff:
         """Returns the reply to a request. The key is held, and has no open call."""
         if self._is_made_up(key):
             return put_off_by(Refusal("bad_account"))
@@ -369,7 +372,7 @@ class Exchange:
         refusal = Refusal("stale")
         for _ in range(COUNT_ATTEMPTS):
             try:
-                call = self._opened(key, text, last, client)
+                call = self._open_call(key, text, last, client)
             except TooManyHosts as many:
                 log.warning(
                     "host %s of account %s is refused: the account has %d hosts",
@@ -380,11 +383,13 @@ class Exchange:
                 return too_many_hosts(many.count)
             answer = self._answer(key, call)
             if isinstance(answer, Reply):
-                self.numbers.answered(key, answer, [] if request.other_results is None else answer.results)
+                self.numbers.record_answer(
+                    key, answer, [] if request.other_results is None else answer.results
+                )
                 return replace(answer, results=jobs_with(answer, in_hand))
             refusal = answer
-            self.numbers.refused(key)
-            if refusal.error == "bad_account" and self.is_imported_again(key.authenticator):
+            self.numbers.record_refusal(key)
+            if refusal.error == "bad_account" and self.import_again(key.authenticator):
                 continue
             if refusal.error not in ("stale", "reused"):
                 break
@@ -392,7 +397,7 @@ class Exchange:
             log.warning("the count of %s continues from %d, which bsched had reached", key.host_cpid, last)
         return put_off_by(refusal)
 
-    def _opened(self, key: Key, text: Callable[[int], bytes], last: int, client: ClientState) -> bytes:
+    def _open_call(self, key: Key, text: Callable[[int], bytes], last: int, client: ClientState) -> bytes:
         """Returns the text of a new call. A new host is refused if its account has as many as it may have.
 
         The hosts are counted in the state file. If that file and bsched's tables are of different moments,
@@ -400,13 +405,13 @@ class Exchange:
         """
         most = self.rules().most_hosts
         try:
-            return self.numbers.opened(key, text, last, most, client)
+            return self.numbers.open(key, text, last, most, client)
         except TooManyHosts:
             newest = self.hosts.newest(key.authenticator)
             if newest is None or self.scheduler.has_host(key.authenticator, newest[0].host_cpid, newest[1]):
                 raise
-            self.hosts.is_gone(newest[0])
-            return self.numbers.opened(key, text, last, most, client)
+            self.hosts.mark_gone(newest[0])
+            return self.numbers.open(key, text, last, most, client)
 
 
 def names_of(results: Iterable[Report]) -> list[str]:
@@ -418,8 +423,8 @@ def jobs_with(reply: Reply, in_hand: list[Job]) -> list[Job]:
     """Returns the jobs in hand that the reply does not send again, acknowledge or abort, followed by the jobs
     of the reply.
     """
-    told = {*reply.result_abort, *reply.result_ack, *(job.name for job in reply.results)}
-    return [job for job in in_hand if job.name not in told] + reply.results
+    settled = {*reply.result_abort, *reply.result_ack, *(job.name for job in reply.results)}
+    return [job for job in in_hand if job.name not in settled] + reply.results
 
 
 class Resending(threading.Thread):

@@ -146,7 +146,7 @@ class Hosts:
         )
         return None if row is None else (Key(authenticator, cast(str, row[0])), cast(int, row[1]))
 
-    def is_gone(self, key: Key) -> None:
+    def mark_gone(self, key: Key) -> None:
         """Notes that bsched does not know a host any more, unless it has an open call by now. The host keeps
         its number, and counts again for `most_hosts` once it calls.
         """

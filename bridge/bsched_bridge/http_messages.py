@@ -12,6 +12,7 @@ BYTES = "application/octet-stream"
 PHRASES = {
     200: "OK",
     206: "Partial Content",
+    304: "Not Modified",
     400: "Bad Request",
     403: "Forbidden",
     404: "Not Found",
@@ -59,13 +60,13 @@ def log_fault(error: Exception) -> None:
     log.error("a message could not be answered: %s\n%s", type(error).__name__, where)
 
 
-def has_method(environ: Environ, *methods: str) -> None:
+def require_method(environ: Environ, *methods: str) -> None:
     """Raises HttpFault 405 unless the message has one of these methods."""
     if environ["REQUEST_METHOD"] not in methods:
         raise HttpFault(405, Allow=", ".join(methods))
 
 
-def is_of_no_browser(environ: Environ) -> None:
+def refuse_browsers(environ: Environ) -> None:
     """Raises HttpFault 403 if a web page may have made its visitor send the message. Such a page can't leave
     out all of these fields.
     """
@@ -73,7 +74,7 @@ def is_of_no_browser(environ: Environ) -> None:
         raise HttpFault(403)
 
 
-def is_of_no_other_page(environ: Environ, url: str) -> None:
+def refuse_other_sites(environ: Environ, url: str) -> None:
     """Raises HttpFault 403 if a page of another site made its visitor send the message. A browser says so by
     Sec-Fetch-Site, and an older one by Origin. It may send `null` as the origin of a page at the master URL,
     since the pages have no referrer.
@@ -118,10 +119,10 @@ def fields_of(text: str) -> dict[str, str]:
     not UTF-8 become U+FFFD.
     """
     try:
-        told = parse_qs(text, keep_blank_values=True, errors="replace", max_num_fields=MOST_FIELDS)
+        fields = parse_qs(text, keep_blank_values=True, errors="replace", max_num_fields=MOST_FIELDS)
     except ValueError:
         raise HttpFault(400) from None
-    return {name: values[-1] for name, values in told.items()}
+    return {name: values[-1] for name, values in fields.items()}
 
 
 def query_of(environ: Environ) -> dict[str, str]:

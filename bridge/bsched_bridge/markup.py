@@ -64,14 +64,14 @@ def joined(*parts: object) -> Markup:
 
 def element(name: str, /, *parts: object, **attributes: object) -> Markup:
     """Returns an element. It leaves out attributes that are None or False; one that is True has no value."""
-    told = "".join(
+    written = "".join(
         f" {key.rstrip('_').replace('_', '-')}" + ("" if value is True else f'="{escape(str(value))}"')
         for key, value in attributes.items()
         if value is not None and value is not False
     )
     if name in EMPTY_ELEMENTS:
-        return Markup(f"<{name}{told}>")
-    return Markup(f"<{name}{told}>{joined(*parts)}</{name}>")
+        return Markup(f"<{name}{written}>")
+    return Markup(f"<{name}{written}>{joined(*parts)}</{name}>")
 
 
 def paragraphs(text: str) -> Markup:

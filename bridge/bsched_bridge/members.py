@@ -198,7 +198,7 @@ class Members:
             cursor = connection.execute(INSERT, values)
         return replace(member, id=cast(int, cursor.lastrowid))
 
-    def imported(self, member: Member) -> None:
+    def mark_imported(self, member: Member) -> None:
         """Notes that bsched has the account. This is not synced: if it is lost, the same import is sent once
         more.
         """
@@ -212,21 +212,21 @@ class Members:
             connection.execute("UPDATE member SET batch = ? WHERE id = ?", (batch, member.id))
         return replace(member, batch=batch)
 
-    def deleted(self, member: Member) -> None:
+    def delete(self, member: Member) -> None:
         """Deletes an account that was not imported."""
         with self.file.transaction() as connection:
             connection.execute("DELETE FROM member WHERE id = ? AND is_imported = 0", (member.id,))
 
     # ---- What a user changes
 
-    def changed(self, member: Member, name: str, is_exported: bool) -> None:
+    def change(self, member: Member, name: str, is_exported: bool) -> None:
         """Stores the name that the user chose, and whether statistics sites may show it."""
         with self.file.transaction() as connection:
             connection.execute(
                 "UPDATE member SET name = ?, is_exported = ? WHERE id = ?", (name, is_exported, member.id)
             )
 
-    def has_password(self, member: Member, email: str, secret: Secret) -> None:
+    def set_password(self, member: Member, email: str, secret: Secret) -> None:
         """Stores the e-mail address and the password that the user chose."""
         try:
             with self.file.transaction() as connection:

@@ -49,12 +49,12 @@ class Entry:
         self.untaken.discard(member)
         value = self.members.get(member, default)
         if value is ...:
-            self.is_missing(member)
+            self.fault_missing(member)
         if value is not default and type(value) is not kind:
             self.fault(f"{member} is not {kind_name}", member)
         return value
 
-    def is_missing(self, member: str) -> NoReturn:
+    def fault_missing(self, member: str) -> NoReturn:
         """Raises the fault of a member that is missing. If another one has nearly its name, it is named."""
         close = difflib.get_close_matches(member, sorted(self.untaken), 1, LEAST_LIKENESS)
         if close:
@@ -180,7 +180,7 @@ class OperatorFile(Entry):
         found = self.members.get(name, [])
         if not isinstance(found, list) or not all(isinstance(item, dict) for item in found):
             self.fault(f"{name} is not an array of tables [[{name}]]", name)
-        begins = [line for told, line in self._tables if told == name]
+        begins = [line for table, line in self._tables if table == name]
         if len(begins) != len(found):  # written in another way, such as one array of tables
             begins = [self.line(name)] * len(found)
         headers = [line for _, line in self._tables] + [len(self._lines) + 1]

@@ -51,7 +51,7 @@ class State:
         is_listed = member.authenticator in self.settings.host_rules.barred
         return "barred" if reason is not None or is_listed else ""
 
-    def found(self, name: str) -> Member:
+    def find(self, name: str) -> Member:
         """Returns the account with an e-mail address, a name or a key, whose first characters do."""
         found = self.members.with_name(name, LEAST_KEY)
         if not found:
@@ -70,7 +70,7 @@ def config_of(args: argparse.Namespace) -> Path:
     return (Path(name) if "/" in name else PROJECTS / name) / "bridge" / "bridge.toml"
 
 
-def opened(args: argparse.Namespace) -> State:
+def open_state(args: argparse.Namespace) -> State:
     """Opens the state file of the command line's project."""
     settings = read_settings(config_of(args))
     if not settings.state.exists():
@@ -119,7 +119,7 @@ def as_table(rows: list[list[str]]) -> Iterator[str]:
 
 def show(state: State, args: argparse.Namespace) -> Iterator[str]:
     """Yields what is known of an account and its computers. The key is shown whole."""
-    member = state.found(args.account)
+    member = state.find(args.account)
     heard = state.hosts.heard(MOST_HOSTS, member.authenticator)
     consent = "" if member.consent_at is None else moment_text(member.consent_at)
     facts = {
@@ -186,14 +186,14 @@ def as_csv(rows: Iterable[tuple[str, str]]) -> Iterator[str]:
 
 def bar(state: State, args: argparse.Namespace) -> Iterator[str]:
     """Bars an account. A bridge that runs refuses its next call."""
-    member = state.found(args.account)
+    member = state.find(args.account)
     state.barring.bar(member.authenticator, int(time.time()))
     yield f"{member.name} ({shown_key(member.authenticator)}) is {state.barred(member)}"
 
 
 def unbar(state: State, args: argparse.Namespace) -> Iterator[str]:
     """Ends the barring of an account."""
-    member = state.found(args.account)
+    member = state.find(args.account)
     if state.barring.reason(member.authenticator) is Barred.DELETED:
         raise OrderFault("the account was deleted, and its user can make another one")
     if member.authenticator in state.settings.host_rules.barred:
@@ -204,7 +204,7 @@ def unbar(state: State, args: argparse.Namespace) -> Iterator[str]:
 
 def delete(state: State, args: argparse.Namespace) -> Iterator[str]:
     """Deletes an account, after a question on a terminal."""
-    member = state.found(args.account)
+    member = state.find(args.account)
     shown = f"{member.name} ({shown_key(member.authenticator)}, {member.email or 'no address'})"
     if not args.yes:
         if not sys.stdin.isatty() or not input(f"Delete {shown} for good? [y/N] ").lower().startswith("y"):
@@ -296,7 +296,7 @@ def run_order(args: argparse.Namespace) -> None:
     order, _ = ORDERS[args.order]
     if getattr(args, "keep", None) is not None and args.keep < 1:
         raise OrderFault("--keep is a whole number of at least 1")
-    state = opened(args)
+    state = open_state(args)
     try:
         for line in order(state, args):
             print("".join(one if one.isprintable() or one == "\t" else "\ufffd" for one in line))

@@ -79,9 +79,9 @@ def joining_by_oneself(settings: Settings, has_terms: bool) -> list[Markup]:
 
 def not_found_page(settings: Settings) -> Answer:
     """Returns the page for a URL of the project that does not exist."""
-    said = "There is no such page here."
+    text = "There is no such page here."
     return page(
-        f"{settings.name}: not found", element("p", said), links=((settings.url, "The project"),), status=404
+        f"{settings.name}: not found", element("p", text), links=((settings.url, "The project"),), status=404
     )
 
 
@@ -136,8 +136,8 @@ def units_markup(units: UnitCounts) -> list[Markup]:
 def users_markup(status: Status, environ: Environ) -> list[Markup]:
     """Returns one page of the users, by their credit."""
     pages = max(1, -(-len(status.ranking) // USERS_ON_A_PAGE))
-    told = query_of(environ).get("page", "")
-    number = min(int(told), pages) if PAGE_NUMBER.fullmatch(told) else 1
+    text = query_of(environ).get("page", "")
+    number = min(int(text), pages) if PAGE_NUMBER.fullmatch(text) else 1
     first, last = (number - 1) * USERS_ON_A_PAGE, number * USERS_ON_A_PAGE
     rows: list[list[object]] = [
         [Number(place), name, Number(credits_text(credit)), *([Number(f"{recent:,.2f}")] * status.has_recent)]

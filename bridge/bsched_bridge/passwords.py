@@ -66,14 +66,14 @@ def client_hash(password: str, email: str) -> str:
     return hashlib.md5((password + email).encode(), usedforsecurity=False).hexdigest()
 
 
-def is_client_hash(told: str, email: str) -> bool:
+def is_client_hash(passwd_hash: str, email: str) -> bool:
     """Returns whether a text is the hash of a password that is not empty."""
-    return HASH.fullmatch(told) is not None and told != client_hash("", email)
+    return HASH.fullmatch(passwd_hash) is not None and passwd_hash != client_hash("", email)
 
 
-def scrypt(told: str, salt: bytes, cost: Cost) -> bytes:
+def scrypt(passwd_hash: str, salt: bytes, cost: Cost) -> bytes:
     """Returns the scrypt of what a client sent."""
-    return hashlib.scrypt(told.encode(), salt=salt, n=cost.n, r=cost.r, p=cost.p, maxmem=MOST_MEMORY)
+    return hashlib.scrypt(passwd_hash.encode(), salt=salt, n=cost.n, r=cost.r, p=cost.p, maxmem=MOST_MEMORY)
 
 
 class Passwords:
@@ -117,16 +117,16 @@ class Passwords:
         finally:
             self._places.release()
 
-    def new_secret(self, told: str, client: str) -> Secret:
+    def new_secret(self, passwd_hash: str, client: str) -> Secret:
         """Returns what is kept of a new password that a client sent."""
         salt = secrets.token_bytes(SALT_BYTES)
         with self._turn(client):
-            return Secret(salt, scrypt(told, salt, self.cost), self.cost.text())
+            return Secret(salt, scrypt(passwd_hash, salt, self.cost), self.cost.text())
 
-    def is_right(self, told: str, secret: Secret | None, client: str) -> bool:
+    def is_right(self, passwd_hash: str, secret: Secret | None, client: str) -> bool:
         """Returns whether a password that a client sent is the one that is kept. If none is kept, the answer
         is no, and takes the same time.
         """
         kept = secret or self._unknown
         with self._turn(client):
-            return hmac.compare_digest(scrypt(told, kept.salt, read_cost(kept.cost)), kept.digest)
+            return hmac.compare_digest(scrypt(passwd_hash, kept.salt, read_cost(kept.cost)), kept.digest)

@@ -52,7 +52,7 @@ class PlanClass:
         """Returns the operations a second of a job."""
         return request.p_fpops * (self.ncpus(request) if self.speed is None else self.speed)
 
-    def words(self, request: ClientRequest) -> str:
+    def command_line_for(self, request: ClientRequest) -> str:
         """Returns the command line for a host."""
         return self.command_line.replace(NCPUS, str(round(self.ncpus(request))))
 

@@ -56,8 +56,8 @@ class RecentCredit:
         averages, moment = self._read(), time.time() if now is None else now
         total = 0.0
         for authenticator, host_cpid in hosts if averages.hosts else ():
-            said = f"{authenticator}\0{host_cpid}".encode()
-            name = hmac.new(averages.salt, said, hashlib.sha256).hexdigest()[:DIGITS]
+            host = f"{authenticator}\0{host_cpid}".encode()
+            name = hmac.new(averages.salt, host, hashlib.sha256).hexdigest()[:DIGITS]
             average, computed_at = averages.hosts.get(name, (0.0, 0.0))
             total += average * 2 ** (-max(0.0, moment - computed_at) / HALF_LIFE_SECONDS)
         return total
@@ -82,14 +82,14 @@ def read_averages(path: Path) -> Averages:
     """Reads the file of averages."""
     try:
         with path.open("rb") as file:
-            said = json.loads(file.read(MOST_BYTES))
-        if said["format"] != FORMAT:
+            content = json.loads(file.read(MOST_BYTES))
+        if content["format"] != FORMAT:
             raise ValueError("its format is not known")
         hosts = {
             str(name): (float(kept["average"] or 0), float(kept["time"]))
-            for name, kept in said["hosts"].items()
+            for name, kept in content["hosts"].items()
         }
-        return Averages(str(said["salt"]).encode(), hosts)
+        return Averages(str(content["salt"]).encode(), hosts)
     except (OSError, ValueError, KeyError, TypeError, AttributeError) as error:
         log.warning("%s can't be read, so recent average credit is 0: %s", path, error)
         return Averages()

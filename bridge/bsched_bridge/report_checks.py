@@ -9,7 +9,6 @@ import csv
 import logging
 import sqlite3
 import time
-from collections.abc import Iterable
 from dataclasses import dataclass, replace
 from functools import cached_property
 
@@ -63,18 +62,26 @@ class ReportChecks:
     scheduler: Scheduler
     operator_key: str
 
-    def hand_out(self, key: Key, jobs: Iterable[Job]) -> None:
-        """Notes which jobs a reply has, before it goes out."""
+    def hand_out(self, key: Key, jobs: list[Job]) -> list[Job]:
+        """Notes which jobs a reply has, before it goes out, and returns them. If that fails, for example on a
+        full disk, it returns only those without output files.
+        """
         apps = self.catalogue.apps
-        told = [
+        handed = [
             HandedJob(job.name, key, job.app_name, apps[job.app_name].output_files, job.report_deadline)
             for job in jobs
             if job.app_name in apps
         ]
-        if told:
-            self.jobs.add(told)
+        try:
+            if handed:
+                self.jobs.add(handed)
+        except (OSError, sqlite3.Error) as fault:
+            log.error("%d jobs are not handed on now: %s", len(handed), fault)
+            with_files = {job.result for job in handed if job.files}
+            return [job for job in jobs if job.name not in with_files]
+        return jobs
 
-    def checked(self, key: Key, request: ClientRequest) -> ClientRequest:
+    def check(self, key: Key, request: ClientRequest) -> ClientRequest:
         """Returns a request of a host with the reports that bsched gets. Those that can't be checked now are
         listed as results that the client has, so they don't count as lost.
         """
@@ -149,21 +156,21 @@ class ReportChecks:
         self.jobs.set_outcome(job.result, outcome)
         return outcome
 
-    def _complete(self, job: HandedJob, told: dict[str, ReportedFile]) -> list[tuple[OutputFile, Upload]]:
+    def _complete(self, job: HandedJob, reported: dict[str, ReportedFile]) -> list[tuple[OutputFile, Upload]]:
         """Returns the files of a report in the order of the catalogue. Each must have come as it is
         reported.
         """
         found = []
         for place, file in enumerate(job.files):
             name = upload_name(job.result, place)
-            if name not in told:
+            if name not in reported:
                 if not file.is_optional:
                     raise Incomplete(f"output file {file.open_name} is not in the report")
                 continue
             upload = self.store.upload(name)
             if upload is None:
                 raise Incomplete(f"output file {file.open_name} was not uploaded")
-            if (upload.nbytes, upload.md5) != (told[name].nbytes, told[name].md5):
+            if (upload.nbytes, upload.md5) != (reported[name].nbytes, reported[name].md5):
                 raise Incomplete(f"output file {file.open_name} is not the one that was uploaded")
             found.append((file, upload))
         return found

@@ -156,5 +156,5 @@ def output_of(text: bytes) -> str:
     text = (text if marked is None else marked).lstrip(BLANKS)[:MOST_LOOKED_AT]
     # the client writes a character of XML, or a reference for each byte
     plain = xml_text(text.decode(errors="replace"))
-    told = BYTE.sub(lambda reference: bytes([int(reference[1])]), plain.encode()).decode(errors="replace")
-    return cut_to_bytes(xml_text(told).strip(), MOST_OUTPUT)
+    decoded = BYTE.sub(lambda reference: bytes([int(reference[1])]), plain.encode()).decode(errors="replace")
+    return cut_to_bytes(xml_text(decoded).strip(), MOST_OUTPUT)

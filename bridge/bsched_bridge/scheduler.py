@@ -78,28 +78,28 @@ REPLY_MEMBERS = frozenset(member.name for member in fields(Reply))
 JOB_MEMBERS = frozenset(member.name for member in fields(Job))
 
 
-def known_members(said: dict[str, Any], known: frozenset[str]) -> dict[str, Any]:
+def known_members(response: dict[str, Any], known: frozenset[str]) -> dict[str, Any]:
     """Returns the members that the bridge knows. A newer bsched may send more of them."""
-    return {name: value for name, value in said.items() if name in known}
+    return {name: value for name, value in response.items() if name in known}
 
 
-def read_reply(said: dict[str, Any]) -> Reply:
+def read_reply(response: dict[str, Any]) -> Reply:
     """Returns the reply in a JSON object. Raises KeyError or TypeError if a member is missing."""
-    jobs = [Job(**known_members(job, JOB_MEMBERS)) for job in said["results"]]
-    members: dict[str, Any] = {**known_members(said, REPLY_MEMBERS), "results": jobs}
+    jobs = [Job(**known_members(job, JOB_MEMBERS)) for job in response["results"]]
+    members: dict[str, Any] = {**known_members(response, REPLY_MEMBERS), "results": jobs}
     return Reply(**members)
 
 
-def read_refusal(status: int, said: object) -> Refusal:
+def read_refusal(status: int, body: object) -> Refusal:
     """Returns the refusal in a JSON object. Raises NoAnswer if it is none, or says that bsched was
     unavailable.
     """
-    error = said.get("error") if isinstance(said, dict) else None
-    if not isinstance(said, dict) or not isinstance(error, str):
+    error = body.get("error") if isinstance(body, dict) else None
+    if not isinstance(body, dict) or not isinstance(error, str):
         raise NoAnswer(f"status {status} with a body that is no answer of bsched")
     if error == UNAVAILABLE:
         raise NoAnswer(error)
-    return Refusal(error, {name: value for name, value in said.items() if name != "error"})
+    return Refusal(error, {name: value for name, value in body.items() if name != "error"})
 
 
 class Scheduler:
@@ -157,9 +157,9 @@ class Scheduler:
             with self._waiting():
                 if not self._is_checked:
                     self._check_key()
-                status, told = self._exchange(method, path, body, fields or {})
-            if len(told) > MOST_ANSWER:
-                self._is_too_long(method, path)
+                status, answer = self._exchange(method, path, body, fields or {})
+            if len(answer) > MOST_ANSWER:
+                self._refuse_too_long(method, path)
             if status >= 500:
                 raise NoAnswer(f"status {status}")
         except NoAnswer:
@@ -167,7 +167,7 @@ class Scheduler:
             self._is_checked = self._key_to_check is None
             raise
         self.silent_since = None
-        return status, told
+        return status, answer
 
     def _check_key(self) -> None:
         """Asks whether bsched knows the operator's key. If it does not, nothing else is sent to it."""
@@ -181,14 +181,14 @@ class Scheduler:
         exist. Raises NoAnswer if nobody answers, or another program does.
         """
         fields = {"x-operator-key": operator_key}
-        status, told = self._exchange("GET", f"/hosts/{NO_HOST}", None, fields)
-        if status == 200 and told.startswith(STATEMENT_BEGINS):
+        status, body = self._exchange("GET", f"/hosts/{NO_HOST}", None, fields)
+        if status == 200 and body.startswith(STATEMENT_BEGINS):
             return True
         try:
-            said = json.loads(told)
+            response = json.loads(body)
         except ValueError:
-            said = None
-        refusal = read_refusal(status, said)
+            response = None
+        refusal = read_refusal(status, response)
         if refusal.error not in (NO_SUCH_HOST, NOT_OPERATOR):
             raise NoAnswer(f"status {status} with a body that is no answer of bsched")
         return refusal.error == NO_SUCH_HOST
@@ -215,7 +215,7 @@ class Scheduler:
         finally:
             connection.close()
 
-    def _is_too_long(self, method: str, path: str) -> NoReturn:
+    def _refuse_too_long(self, method: str, path: str) -> NoReturn:
         """Refuses an answer of which only a part was read."""
         log.error(
             "the answer of bsched to %s %s is longer than %d bytes, and is not used",
@@ -227,14 +227,14 @@ class Scheduler:
 
     def call_once(self, body: bytes) -> Reply | Refusal:
         """Sends a call once, and returns the answer."""
-        status, told = self.message("POST", "/scheduler", body, {"content-type": "application/json"})
+        status, answer = self.message("POST", "/scheduler", body, {"content-type": "application/json"})
         try:
-            said = json.loads(told)
+            response = json.loads(answer)
             if status == 200:
-                return read_reply(said)
+                return read_reply(response)
         except (ValueError, KeyError, TypeError, AttributeError):
             raise NoAnswer(f"status {status} with a body that is no answer of bsched") from None
-        return read_refusal(status, said)
+        return read_refusal(status, response)
 
     def call(self, body: bytes) -> Reply | Refusal:
         """Returns the answer to a call. If none comes, the same bytes are sent again, a few times and within
@@ -256,21 +256,21 @@ class Scheduler:
     def import_accounts(self, batch: str, text: bytes, operator_key: str) -> Refusal | None:
         """Imports accounts. Returns the refusal, or None if bsched has them."""
         fields = {"x-operator-key": operator_key, "content-type": "text/csv"}
-        status, told = self.message("POST", f"/import/accounts/{batch}", text, fields)
+        status, answer = self.message("POST", f"/import/accounts/{batch}", text, fields)
         try:
-            said = json.loads(told)
+            response = json.loads(answer)
         except ValueError:
             raise NoAnswer(f"status {status} with a body that is no answer of bsched") from None
         if status != 200:
-            return read_refusal(status, said)
-        if not isinstance(said, dict) or said.get("batch") != batch:
+            return read_refusal(status, response)
+        if not isinstance(response, dict) or response.get("batch") != batch:
             raise NoAnswer("the answer is not that to the import")
         return None
 
     def statement(self, hostid: int, operator_key: str) -> str | None:
         """Returns the statement of a host, or None if bsched refuses it."""
-        status, told = self.message("GET", f"/hosts/{hostid}", None, {"x-operator-key": operator_key})
-        return told.decode(errors="replace") if status == 200 else None
+        status, answer = self.message("GET", f"/hosts/{hostid}", None, {"x-operator-key": operator_key})
+        return answer.decode(errors="replace") if status == 200 else None
 
     # The next two functions send a call that changes nothing. If the host's number is not the one in the
     # call, bsched refuses the call as bad_host. It does so only after it has found the account. No host ever

@@ -110,10 +110,10 @@ def read_unit_counts(path: Path | None) -> UnitCounts | None:
         return None
     try:
         with path.open("rb") as file:
-            said = json.loads(file.read(MOST_COUNTS))
-        told = said["workunits"]
-        by_status = {name: count for name, count in told.items() if type(count) is int}
-        moment = said.get("moment")
+            fields = json.loads(file.read(MOST_COUNTS))
+        workunits = fields["workunits"]
+        by_status = {name: count for name, count in workunits.items() if type(count) is int}
+        moment = fields.get("moment")
         is_known = type(moment) is int and 0 <= moment <= MOST_MOMENT
         counted_at = moment if is_known else path.stat().st_mtime
         return UnitCounts(by_status, counted_at) if by_status else None
@@ -180,9 +180,9 @@ class Statements:
         recent = self._hosts(heard)
         shown = sum(one.credit for one in recent.hosts)
         others = self.archives.users[authenticator] - sum(self.archives.hosts[host.key] for host in heard)
-        told = heard[0].user_credit if heard else 0
+        replied = heard[0].user_credit if heard else 0
         average = None if self.recent.path is None else self._recent(authenticator)
-        return AccountStatus(recent, max(told, shown + others), average)
+        return AccountStatus(recent, max(replied, shown + others), average)
 
     def _read(self, with_statements: bool = True) -> Status:
         """Reads the status of the project."""
@@ -251,5 +251,5 @@ class Statements:
         statement = self.scheduler.statement(host.scheduler_hostid, operator_key)
         if statement is None:
             raise NoAnswer("the statement is refused")
-        told = read_statement(host, statement)
-        return replace(told, credit=told.credit + self.archives.hosts[host.key])
+        status = read_statement(host, statement)
+        return replace(status, credit=status.credit + self.archives.hosts[host.key])

@@ -242,6 +242,19 @@ def check_uploads(settings: Settings, catalogue: Catalogue) -> None:
             )
 
 
+def open_store(settings: Settings, catalogue: Catalogue) -> UploadStore | None:
+    """Returns the folder of uploads, or None if there is none. What a stopped bridge was receiving is
+    deleted.
+    """
+    check_uploads(settings, catalogue)
+    if settings.uploads is None:
+        return None
+    store = UploadStore(settings.uploads)
+    store.empty_temp()
+    store.delete_left_over()
+    return store
+
+
 def secret_in(folder: Path) -> bytes:
     """Returns the secret in a folder of uploads. A new folder gets one."""
     path = folder / "secret"

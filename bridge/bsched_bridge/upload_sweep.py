@@ -83,9 +83,9 @@ def sweep_uploads(store: UploadStore, now: int, swept: Swept) -> None:
     for part in parts_of(old, PART):
         with store.tables.transaction() as connection:
             for upload in part:
-                told = upload.name, upload.sha256, recent
+                values = upload.name, upload.sha256, recent
                 gone = connection.execute(
-                    "DELETE FROM upload WHERE name = ? AND sha256 = ? AND received_at < ?", told
+                    "DELETE FROM upload WHERE name = ? AND sha256 = ? AND received_at < ?", values
                 ).rowcount
                 if gone:  # it has not come again meanwhile
                     store.path_of(upload).unlink(missing_ok=True)

@@ -25,9 +25,9 @@ class UploadTokens:
         """Returns the token of a file."""
         return hmac.new(self._secret, f"{name} {max_nbytes}".encode(), hashlib.sha256).hexdigest()
 
-    def is_token(self, told: str, name: str, max_nbytes: int) -> bool:
+    def is_token(self, text: str, name: str, max_nbytes: int) -> bool:
         """Returns whether a text is the token of a file. How long it takes says nothing about the token."""
-        return hmac.compare_digest(told.encode(), self.token(name, max_nbytes).encode())
+        return hmac.compare_digest(text.encode(), self.token(name, max_nbytes).encode())
 
 
 def write_secret(path: Path) -> None:

@@ -15,7 +15,7 @@ from dataclasses import dataclass
 from typing import BinaryIO
 
 from .catalogue import Catalogue
-from .http_messages import LENGTH, TEXT, Answer, Environ, HttpFault, has_method
+from .http_messages import LENGTH, TEXT, Answer, Environ, HttpFault, require_method
 from .limits import NoPlace, Places
 from .upload_store import NotNow, SentFile, UploadStore
 from .upload_tokens import UploadTokens
@@ -60,10 +60,10 @@ def member_of(text: str, name: str) -> str:
 
 def number_of(text: str, name: str) -> int:
     """Returns the whole number in the one element with a name."""
-    told = member_of(text, name)
-    if not NUMBER.fullmatch(told):
+    digits = member_of(text, name)
+    if not NUMBER.fullmatch(digits):
         raise BadMessage(f"{name} is not a number")
-    return int(told)
+    return int(digits)
 
 
 def read_head(begin: bytes) -> Head:
@@ -88,10 +88,10 @@ def is_question(begin: bytes) -> bool:
     return DATA not in begin and PATTERNS["get_file_size"].search(text) is not None
 
 
-def answer_of(status: int, said: str, file_size: int | None = None) -> Answer:
+def answer_of(status: int, message: str, file_size: int | None = None) -> Answer:
     """Returns the answer with a status. The client writes what is said to its log, for the volunteer."""
     size = "" if file_size is None else f"<file_size>{file_size}</file_size>\n"
-    message = f"<message>{said}</message>\n" if said else ""
+    message = f"<message>{message}</message>\n" if message else ""
     body = f"<data_server_reply>\n<status>{status}</status>\n{size}{message}</data_server_reply>\n"
     return Answer(TEXT, body.encode())
 
@@ -134,7 +134,7 @@ class Uploads:
         """Answers a message. It never has a status of HTTP from 400 on for what a client sends: the client
         would try again, for 90 days.
         """
-        has_method(environ, "POST")
+        require_method(environ, "POST")
         length = length_of(environ)
         begin = environ["wsgi.input"].read(min(length, MOST_HEAD))
         try:

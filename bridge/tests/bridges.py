@@ -1,4 +1,5 @@
 """A bridge before the twin, with the files of a project: what tests and `bridge/try_lives` work on."""
+from typing import Any
 import io
 import sys
 from pathlib import Path
@@ -8,7 +9,7 @@ sys.path[:0] = [str(BRIDGE), str(BRIDGE.parent / "bench"), str(BRIDGE / "tests")
 
 from twin import Twin  # noqa: E402
 
-from bsched_bridge.application import Application, opened_store  # noqa: E402
+from bsched_bridge.application import Application  # noqa: E402
 from bsched_bridge.catalogue import read_catalogue  # noqa: E402
 from bsched_bridge.code_signing import file_md5, public_key_text, signature_text  # noqa: E402
 from bsched_bridge.host_rules import HostRuleReader  # noqa: E402
@@ -16,6 +17,7 @@ from bsched_bridge.passwords import Cost, Passwords  # noqa: E402
 from bsched_bridge.scheduler import Scheduler  # noqa: E402
 from bsched_bridge.settings import read_settings  # noqa: E402
 from bsched_bridge.state_file import StateFile  # noqa: E402
+from bsched_bridge.upload_store import open_store  # noqa: E402
 
 MEMORY = "/dev/shm"
 CATALOGUE = """\
@@ -41,7 +43,7 @@ input_files = [{ name = "two.txt", open_name = "numbers" }]
 ACCOUNTS = "\n[accounts]\nmost_a_day = 50\n"
 
 
-def new_project(folder, key):
+def new_project(folder: Path, key: Any) -> Path:
     """Writes the files of a bridge into a folder, and returns it."""
     (folder / "files").mkdir()
     (folder / "files" / "sum_1").write_text("#!/bin/sh\n")
@@ -60,7 +62,7 @@ def new_project(folder, key):
 class Bridge:
     """A bridge that can be stopped and started again."""
 
-    def __init__(self, folder: Path, twin: Twin):
+    def __init__(self, folder: Path, twin: Twin) -> None:
         self.folder, self.twin = folder, twin
         self.start()
 
@@ -69,7 +71,7 @@ class Bridge:
         path = self.folder / "bridge.toml"
         settings = read_settings(path)
         self.file, catalogue = StateFile(settings.state), read_catalogue(settings.catalogue)
-        self.store = opened_store(settings, catalogue)
+        self.store = open_store(settings, catalogue)
         self.application = Application(
             settings,
             catalogue,
@@ -106,13 +108,13 @@ class Bridge:
             "CONTENT_LENGTH": str(len(body)) if method == "POST" else "",
             **more,
         }
-        told = []
-        blocks = self.application(environ, lambda status, fields: told.append((status, dict(fields))))
+        started = []
+        blocks = self.application(environ, lambda status, fields: started.append((status, dict(fields))))
         body = b"".join(blocks)
-        return *told[0], body
+        return *started[0], body
 
     def call(self, body: bytes | str) -> bytes:
         """Returns the reply to a scheduler_request."""
-        status, _, told = self.got("/p/cgi", "POST", body.encode() if isinstance(body, str) else body)
+        status, _, reply = self.got("/p/cgi", "POST", body.encode() if isinstance(body, str) else body)
         assert status == "200 OK"
-        return told
+        return reply

@@ -1,4 +1,6 @@
 """What the tests share: a bsched that can lose answers, and a bridge before it."""
+from collections.abc import Iterator
+from typing import Any
 import os
 import shutil
 import sys
@@ -27,7 +29,7 @@ MEMORY = "/dev/shm"
 
 
 @pytest.fixture
-def tmp_path():
+def tmp_path() -> Iterator[Path]:
     """Yields a folder for a test. It is in memory if there is room. Tests stop programs but never the power,
     so nothing needs to reach a disk.
     """
@@ -37,25 +39,25 @@ def tmp_path():
 
 
 @pytest.fixture(autouse=True)
-def numbers_from_the_first(monkeypatch):
+def numbers_from_the_first(monkeypatch: pytest.MonkeyPatch) -> None:
     """Has bridges give the first number to the first host, whatever the time is."""
     monkeypatch.setattr("bsched_bridge.hosts.number_by_clock", lambda: 0)
 
 
 @pytest.fixture(scope="session")
-def key():
+def key() -> Any:
     """Returns a code signing key."""
     return new_key()
 
 
 @pytest.fixture
-def project(tmp_path, key):
+def project(tmp_path: Path, key: Any) -> Path:
     """Makes a folder with the files of a bridge."""
     return new_project(tmp_path, key)
 
 
 @pytest.fixture
-def twin():
+def twin() -> Iterator[Twin]:
     """A bsched: the plain twin, served over HTTP."""
     served = Twin()
     yield served
@@ -63,7 +65,7 @@ def twin():
 
 
 @pytest.fixture
-def bridge(project, twin, monkeypatch):
+def bridge(project: Path, twin: Twin, monkeypatch: pytest.MonkeyPatch) -> Iterator[Bridge]:
     """A bridge before the twin."""
     monkeypatch.setattr("bsched_bridge.scheduler.PAUSE_SECONDS", 0.0)
     made = Bridge(project, twin)
@@ -81,7 +83,7 @@ output_files = [
 
 
 @pytest.fixture
-def open_bridge(project, twin, monkeypatch):
+def open_bridge(project: Path, twin: Twin, monkeypatch: pytest.MonkeyPatch) -> Iterator[Bridge]:
     """A bridge that makes accounts."""
     monkeypatch.setattr("bsched_bridge.scheduler.PAUSE_SECONDS", 0.0)
     with (project / "bridge.toml").open("a") as file:
@@ -92,7 +94,7 @@ def open_bridge(project, twin, monkeypatch):
 
 
 @pytest.fixture
-def file_project(project):
+def file_project(project: Path) -> Path:
     """Adds output files to the application of a project."""
     catalogue = project / "catalogue.toml"
     catalogue.write_text(catalogue.read_text().replace('title = "Sums & more"\n', OUTPUT_FILES, 1))
@@ -102,7 +104,7 @@ def file_project(project):
 
 
 @pytest.fixture
-def file_bridge(file_project, twin, monkeypatch):
+def file_bridge(file_project: Path, twin: Twin, monkeypatch: pytest.MonkeyPatch) -> Iterator[Bridge]:
     """A bridge of an application with output files."""
     monkeypatch.setattr("bsched_bridge.scheduler.PAUSE_SECONDS", 0.0)
     twin.statement = None

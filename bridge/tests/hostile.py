@@ -15,12 +15,12 @@ from pathlib import Path
 sys.dont_write_bytecode = True
 sys.path[:0] = [str(Path(__file__).resolve().parent.parent)]
 
-from bsched_bridge.application import LARGE_BYTES, LARGE_SECONDS, Application  # noqa: E402
 from bsched_bridge.calls import call_text  # noqa: E402
 from bsched_bridge.client_requests import MOST_BYTES  # noqa: E402
 from bsched_bridge.http_messages import blocks_of  # noqa: E402
-from bsched_bridge.key_locks import Busy, KeyLocks  # noqa: E402
+from bsched_bridge.key_locks import Busy  # noqa: E402
 from bsched_bridge.request_parts import RequestFault  # noqa: E402
+from bsched_bridge.scheduler_messages import LARGE_BYTES, RequestReader  # noqa: E402
 
 THREADS = 8
 HEAD = (
@@ -96,28 +96,21 @@ class Body:
     def read(self, size: int) -> bytes:
         """Returns the next bytes."""
         if self.first:
-            told, self.first = self.first, b""
-            return told
+            block, self.first = self.first, b""
+            return block
         if self.left:
-            told = self.part[: min(size, self.left)]
-            self.part = self.part[len(told) :] + told  # the same bytes, as they go on
-            self.left -= len(told)
-            return told
+            block = self.part[: min(size, self.left)]
+            self.part = self.part[len(block) :] + block  # the same bytes, as they go on
+            self.left -= len(block)
+            return block
         return self.last
 
 
-class Reader:
-    """What an application needs to read requests."""
-
-    def __init__(self) -> None:
-        self._large = KeyLocks(LARGE_SECONDS)
-
-
-def read(reader: Reader, shape: str) -> str:
+def read(reader: RequestReader, shape: str) -> str:
     """Reads a request, and writes its call. Returns what came of it."""
     body = Body(shape)
     try:
-        request = Application._request(reader, blocks_of({"wsgi.input": body}, body.length), body.length)
+        request = reader.read(blocks_of({"wsgi.input": body}, body.length), body.length)
     except (RequestFault, Busy) as fault:
         return type(fault).__name__
     call_text(request, "c", 1, [], 0)
@@ -128,12 +121,12 @@ def main() -> None:
     """Reads the requests."""
     for shape in sys.argv[3:] or SHAPES:
         count = int(sys.argv[2 if SHAPES[shape][3] > LARGE_BYTES else 1])
-        reader, began = Reader(), time.process_time()
+        reader, began = RequestReader(), time.process_time()
         with ThreadPoolExecutor(THREADS) as pool:
-            told = list(pool.map(lambda _: read(reader, shape), range(count)))
+            ends = list(pool.map(lambda _: read(reader, shape), range(count)))
         seconds = (time.process_time() - began) / count
         peak = resource.getrusage(resource.RUSAGE_SELF).ru_maxrss // 1024
-        print(f"{peak} MB, {seconds:.3f} seconds: {shape}: {', '.join(sorted(set(told)))}")
+        print(f"{peak} MB, {seconds:.3f} seconds: {shape}: {', '.join(sorted(set(ends)))}")
 
 
 if __name__ == "__main__":

@@ -1,5 +1,7 @@
 """What tests of accounts share: messages as BOINC's client sends them, and checks of the accounts at the end.
 """
+from collections.abc import Callable
+from typing import Any
 import hashlib
 import re
 import time
@@ -9,12 +11,15 @@ from urllib.parse import quote
 
 from messages import request, value
 from twin import IMPORTS
+from twin import Twin
+from stopping import Connection
+from bridges import Bridge
 
 CLIENT = "198.51.100.7"
 OPERATORS = {line.partition(",")[0] for line in IMPORTS["accounts"].splitlines()[1:]}
 
 
-def escaped(text):
+def escaped(text: str) -> str:
     """Returns a text as the client writes it into a URL: everything but letters and digits is escaped."""
     return "".join(
         part
@@ -28,18 +33,18 @@ def escaped(text):
     )
 
 
-def client_hash(password, email):
+def client_hash(password: str, email: str) -> str:
     """Returns what the client sends for a password."""
     return hashlib.md5((password + email).encode()).hexdigest()
 
 
-def account_query(page, email, password, **more):
+def account_query(page: str, email: str, password: str, **more: str) -> str:
     """Returns the URL of a message about an account."""
-    told = {"email_addr": email, "passwd_hash": client_hash(password, email), **more}
-    return f"/p/{page}?" + "&".join(f"{name}={escaped(text)}" for name, text in told.items())
+    values = {"email_addr": email, "passwd_hash": client_hash(password, email), **more}
+    return f"/p/{page}?" + "&".join(f"{name}={escaped(text)}" for name, text in values.items())
 
 
-def told(answer):
+def key_or_number(answer: tuple[str, dict[str, str], bytes]) -> int | str:
     """Returns the key in an answer, or the number of its error."""
     status, fields, body = answer
     assert (status, fields["Content-Type"], fields["Cache-Control"]) == (
@@ -56,40 +61,51 @@ def told(answer):
     return number
 
 
-def create(bridge, email="ann@sums.example", password="secret1", name="ann", client=CLIENT, **more):
+def create(
+    bridge: Bridge,
+    email: str = "ann@sums.example",
+    password: str = "secret1",
+    name: str = "ann",
+    client: str = CLIENT,
+    **more: str,
+) -> int | str | None:
     """Returns the key or the error number from create_account.php."""
     query = account_query("create_account.php", email, password, user_name=name, **more)
-    number = told(bridge.got(query, REMOTE_ADDR=client))
+    number = key_or_number(bridge.got(query, REMOTE_ADDR=client))
     assert number not in (-161,)  # the Manager's wizard never ends after this answer to a creation
     return number
 
 
-def look_up(bridge, email="ann@sums.example", password="secret1", client=CLIENT):
+def look_up(
+    bridge: Bridge, email: str = "ann@sums.example", password: str = "secret1", client: str = CLIENT
+) -> int | str:
     """Returns the key or the error number from lookup_account.php."""
-    number = told(bridge.got(account_query("lookup_account.php", email, password), REMOTE_ADDR=client))
+    number = key_or_number(
+        bridge.got(account_query("lookup_account.php", email, password), REMOTE_ADDR=client)
+    )
     # the Manager's wizard never ends after one of these answers to a look-up
     assert number not in (-136, -161, -204, -205, -206)
     return number
 
 
-def works(bridge, key, cpid="cpid"):
+def works(bridge: Bridge, key: str, cpid: str = "cpid") -> bool:
     """Returns whether a client gets a host with this key."""
     return value(bridge.call(request(key=key, cpid=cpid, seconds=0)), "hostid") is not None
 
 
-def rows(bridge):
+def rows(bridge: Bridge) -> list[tuple[str, str, int]]:
     """Returns the accounts in the state file: the address, the key, and whether bsched has it."""
     return bridge.file.rows(
         "SELECT email, authenticator, is_imported FROM member WHERE batch IS NOT NULL ORDER BY id"
     )
 
 
-def made_accounts(twin):
+def made_accounts(twin: Twin) -> list[str]:
     """Returns the keys that bsched has, without the operator's."""
     return [key for key in twin.service.machine.rows["accounts"] if key not in OPERATORS]
 
 
-def wait_until(is_so):
+def wait_until(is_so: Callable[..., Any]) -> None:
     """Waits until something is so, for ten seconds at most."""
     for _ in range(1000):
         if is_so():
@@ -117,7 +133,7 @@ class Stops:
     is_stopped: bool = False
     points: list = field(default_factory=list)
 
-    def around(self, name, act):
+    def around(self, name: str, act: Callable[..., Any]) -> tuple[int, bytes] | None:
         """Does one send, or stops."""
         if self.is_stopped:
             raise Stopped
@@ -130,7 +146,7 @@ class Stops:
             act()
         raise Stopped
 
-    def set(self, monkeypatch, bridge):
+    def set(self, monkeypatch: Any, bridge: Bridge) -> Stops:
         """Watches the writes and sends of a bridge."""
         transaction, message = bridge.file.transaction, bridge.application.scheduler.message
         stops = self
@@ -138,10 +154,10 @@ class Stops:
         class Transaction:
             """A transaction that is stopped before it begins, or after its commit."""
 
-            def __init__(self, is_synced=True):
+            def __init__(self, is_synced: bool = True) -> None:
                 self.inner = transaction(is_synced)
 
-            def __enter__(self):
+            def __enter__(self) -> Connection | None:
                 if stops.is_stopped:
                     raise Stopped
                 stops.passed += 1
@@ -152,7 +168,7 @@ class Stops:
                 self.is_here = stops.passed == stops.at
                 return self.inner.__enter__()
 
-            def __exit__(self, *fault):
+            def __exit__(self, *fault: None) -> bool | None:
                 ends = self.inner.__exit__(*fault)
                 if self.is_here:
                     stops.is_stopped = True

@@ -2,6 +2,7 @@
 
 usage: killed_bridge.py SETTINGS PORT N before|after
 """
+from typing import Any
 import os
 import signal
 import sys
@@ -24,7 +25,7 @@ from bsched_bridge.state_file import StateFile  # noqa: E402
 class Killed(joining.Stopped):
     """Ends the process, which gets no time to do anything."""
 
-    def __init__(self):
+    def __init__(self) -> None:
         os.kill(os.getpid(), signal.SIGKILL)
         super().__init__()
 
@@ -33,7 +34,7 @@ class Places:
     """Takes the place of pytest's monkeypatch."""
 
     @staticmethod
-    def setattr(target, name, value):
+    def setattr(target: Any, name: Any, value: Any) -> None:
         """Replaces an attribute for good."""
         setattr(target, name, value)
 
@@ -41,7 +42,7 @@ class Places:
 class Served:
     """A bridge like the one in the tests."""
 
-    def __init__(self, path):
+    def __init__(self, path: Any) -> None:
         settings = read_settings(path)
         self.file = StateFile(settings.state)
         self.application = Application(
@@ -49,7 +50,7 @@ class Served:
         )
 
 
-def main():
+def main() -> None:
     """Serves until the process is killed."""
     path, port, at, when = sys.argv[1:]
     joining.Stopped = Killed

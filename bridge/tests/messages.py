@@ -1,12 +1,21 @@
 """Requests that tests write, and what tests read in replies."""
+from typing import Any
 import re
 
 FIRST = 100_001  # the number that the first host gets, if the clock does not give a greater one
 
 
 def request(
-    hostid=0, cpid="c1", key="ann-key", seconds=60, listed=(), reports=(), seqno=0, statuses=None, **more
-):
+    hostid: int | str = 0,
+    cpid: str = "c1",
+    key: str = "ann-key",
+    seconds: float | int = 60,
+    listed: list[str] | tuple[Any, ...] | None = (),
+    reports: list[tuple[str, str]] | tuple[Any, ...] = (),
+    seqno: int = 0,
+    statuses: dict[str, Any] | None = None,
+    **more: str,
+) -> str:
     """Returns a scheduler_request. If listed is None, it has no list of what the client has. Reports have the
     exit status 0, if statuses has no other one for their names.
     """
@@ -22,7 +31,7 @@ def request(
         "</stderr_out></result>\n"
         for name, output in reports
     )
-    told = {
+    values = {
         "p_fpops": "1000000000.0",
         "m_nbytes": "8e9",
         "d_free": "8e9",
@@ -34,24 +43,24 @@ def request(
         f"<scheduler_request>\n<authenticator>{key}</authenticator>\n<hostid>{hostid}</hostid>\n"
         f"<rpc_seqno>{seqno}</rpc_seqno>\n"
         f"<work_req_seconds>{seconds}</work_req_seconds>\n"
-        f"<platform_name>{told['platform']}</platform_name>\n{told['extra']}"
-        f"<host_info><host_cpid>{cpid}</host_cpid><p_fpops>{told['p_fpops']}</p_fpops><m_nbytes>"
-        f"{told['m_nbytes']}</m_nbytes>"
-        f"<d_free>{told['d_free']}</d_free></host_info>\n{results}{other}</scheduler_request>\n"
+        f"<platform_name>{values['platform']}</platform_name>\n{values['extra']}"
+        f"<host_info><host_cpid>{cpid}</host_cpid><p_fpops>{values['p_fpops']}</p_fpops><m_nbytes>"
+        f"{values['m_nbytes']}</m_nbytes>"
+        f"<d_free>{values['d_free']}</d_free></host_info>\n{results}{other}</scheduler_request>\n"
     )
 
 
-def names(reply, element):
+def names(reply: bytes, element: str) -> list[str]:
     """Returns the names in the elements of a kind."""
     return re.findall(rf"<{element}>\s*<name>([^<]*)</name>", reply.decode())
 
 
-def jobs(reply):
+def jobs(reply: bytes) -> list[str]:
     """Returns the names of the jobs of a reply."""
     return names(reply, "result")
 
 
-def value(reply, element):
+def value(reply: bytes, element: str) -> str | None:
     """Returns the text of the first element of a kind, or None."""
     found = re.search(rf"<{element}[^>]*>([^<]*)</{element}>", reply.decode())
     return found[1] if found else None

@@ -1,21 +1,30 @@
 """Random lives of a project: computers that are copied, renamed and attached anew, tables that are restored or
-replaced by a further file, and state files that get lost.
+replaced by a further file, state files that get lost, and bridges that are killed.
 
 At each reply a life checks two promises. A report that is acknowledged is recorded in the scheduler as that of
 the host that got the job. No two computers get one job, unless the scheduler itself gives it out again.
 """
+from collections.abc import Callable
+from typing import Any
 import copy
 import http.client
 import json
 from dataclasses import dataclass, field, replace
+from types import SimpleNamespace
 
 import plain
+from joining import Stopped, Stops
 from messages import jobs, names, request, value
 from twin import IMPORTS, Twin
+from bridges import Bridge
 
 ABORTED = -221  # the exit status that BOINC's client reports for a job that it was told to abort
 FAULTS = ["lost", "unheard", "unavailable", "garbage"]
 MOST_CLIENTS = 7
+KILLS, MOST_STOPS = (
+    0.1,
+    8,
+)  # how often the bridge is killed, and at which of its writes and sends at the latest
 STEP_SECONDS = 60  # on the simulated clock
 LAST_ROUNDS = 12
 LIFE_SETTINGS = "most_hosts = 100000\n"
@@ -24,13 +33,13 @@ LIFE_SETTINGS = "most_hosts = 100000\n"
 class SimulatedClock:
     """The clock by which numbers are given. It rises with each step."""
 
-    def __init__(self):
+    def __init__(self) -> None:
         self.seconds = 1_000_000
 
-    def __call__(self):
+    def __call__(self) -> int:
         return self.seconds
 
-    def replaces(self, set_attribute) -> None:
+    def replaces(self, set_attribute: Callable[..., Any]) -> None:
         """Replaces the clock of the bridge, its pauses, and a limit by the minute."""
         set_attribute("bsched_bridge.hosts.number_by_clock", self)
         set_attribute("bsched_bridge.scheduler.PAUSE_SECONDS", 0.0)
@@ -85,7 +94,7 @@ class Client:
 class Life:
     """A life of a project with two computers of Ann and one of Bob."""
 
-    def __init__(self, bridge, twin, chance, clock):
+    def __init__(self, bridge: Bridge, twin: Twin, chance: Any, clock: SimulatedClock) -> None:
         self.bridge, self.twin, self.chance, self.clock = bridge, twin, chance, clock
         self.clients = [Client("ann-key", "a1", 1), Client("ann-key", "a2", 2), Client("bob-key", "b1", 3)]
         self.tables, self.files, self.state, self.renamed = 0, 0, 0, 0
@@ -97,6 +106,8 @@ class Life:
             "further files": 0,
             "state files": 0,
             "changed host_cpids": 0,
+            "kills": 0,
+            "kills within a call": 0,
         }
 
     # ---- Steps
@@ -108,7 +119,10 @@ class Life:
         client = chance.choice(self.clients)
         if chance.random() < 0.15:
             self.twin.faults = [chance.choice(FAULTS) for _ in range(chance.randint(1, 6))]
-        self.call(client, loses=chance.random() < 0.15)
+        if chance.random() < KILLS:
+            self.is_killed(client)
+        else:
+            self.call(client, loses=chance.random() < 0.15)
         self.twin.faults = []
         happens = chance.random()
         if happens < 0.05:
@@ -126,7 +140,20 @@ class Life:
         elif happens < 0.22:
             self.changes_state_file()
 
-    def copies(self, client) -> None:
+    def is_killed(self, client: Client) -> None:
+        """A client calls, and the bridge is killed before or after one of its writes and sends, or else before
+        the client has the reply. Then it starts again.
+        """
+        stops = Stops(self.chance.randint(1, MOST_STOPS), self.chance.random() < 0.5)
+        stops.set(SimpleNamespace(setattr=setattr), self.bridge)
+        try:
+            self.call(client, loses=True)
+        except Stopped:
+            self.counts["kills within a call"] += 1
+        self.counts["kills"] += 1
+        self.bridge.restart()
+
+    def copies(self, client: Client) -> None:
         """A computer is copied. If there are many, another one is thrown away first."""
         if not client.hostid:
             return
@@ -135,7 +162,7 @@ class Life:
         self.clients.append(client.copied())
         self.counts["copies"] += 1
 
-    def attaches_anew(self, client) -> None:
+    def attaches_anew(self, client: Client) -> None:
         """A volunteer removes the project, and adds it again."""
         client.hostid = client.seqno = 0
         client.working, client.finished, client.aborted = {}, {}, set()
@@ -176,7 +203,7 @@ class Life:
 
     # ---- Calls
 
-    def call(self, client, loses=False, seconds=61) -> None:
+    def call(self, client: Client, loses: bool = False, seconds: int = 61) -> None:
         """A client finishes some of its jobs and calls. The reply may get lost on its way."""
         for name in [name for name in client.working if self.chance.random() < 0.5]:
             client.finished[name] = client.working.pop(name)
@@ -187,7 +214,7 @@ class Life:
         if not loses:
             self.hears(client, reply)
 
-    def hears(self, client, reply) -> None:
+    def hears(self, client: Client, reply: bytes) -> None:
         """A client gets a reply."""
         if value(reply, "project_is_down") == "1":
             return
@@ -209,7 +236,7 @@ class Life:
         for name in jobs(reply):
             self.is_given(client, name)
 
-    def owner(self, name):
+    def owner(self, name: str) -> tuple[Any, ...]:
         """Returns the key of the host that has a job in the present tables, and whether it was reported."""
         machine = self.twin.service.machine
         unit_name, _, number = name.rpartition("_")
@@ -220,7 +247,7 @@ class Life:
         keys = [key for key, host in machine.hosts.items() if host is instance.host]
         return keys[0], instance.exit_status is not None
 
-    def is_acknowledged(self, client, name, is_given_anew) -> None:
+    def is_acknowledged(self, client: Client, name: str, is_given_anew: bool) -> None:
         """Checks that the report is recorded. If the tables have changed since the client got the job, they
         may not know that it got the job, and may give it out anew.
         """
@@ -235,7 +262,7 @@ class Life:
             assert grant.tables != self.tables, f"{name} is not that of {grant.holder}"
         self.counts["acknowledged"] += 1
 
-    def is_given(self, client, name) -> None:
+    def is_given(self, client: Client, name: str) -> None:
         """Checks that no other computer has the job."""
         if name in client.working or name in client.finished:
             return  # it is sent once more, and the client has it already
@@ -276,7 +303,7 @@ class Life:
             assert not client.working
 
 
-def further_file(service, number):
+def further_file(service: Any, number: int) -> Any:
     """Returns a further file of a project: the same accounts, applications and versions, and new workunits."""
     made = plain.Service(service.machine.settings)
     for kind in ("accounts", "apps", "versions"):

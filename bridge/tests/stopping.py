@@ -3,8 +3,12 @@
 A stop is that of the process, or a power failure. After a power failure a name is gone that was given after the
 last sync of its folder, and a file is empty that was never synced.
 """
+from collections.abc import Callable
+from typing import Any
 import os
 from pathlib import Path
+from bridges import Bridge
+import pytest
 
 
 class Stopped(BaseException):
@@ -14,25 +18,25 @@ class Stopped(BaseException):
 class Connection:
     """A connection to SQLite whose statements are steps."""
 
-    def __init__(self, connection, steps):
+    def __init__(self, connection: Connection, steps: Steps) -> None:
         self.connection, self.steps = connection, steps
 
-    def execute(self, statement, *values):
+    def execute(self, statement: str, *values: tuple[Any, ...]) -> Any:
         """Runs a statement, unless the bridge is stopped."""
         return self.steps.around(lambda: self.connection.execute(statement, *values), statement.split()[0])
 
-    def __getattr__(self, name):
+    def __getattr__(self, name: str) -> bool:
         return getattr(self.connection, name)
 
 
 class Steps:
     """Stops a bridge at the n-th of its steps, before or after it. From then on the bridge does nothing more."""
 
-    def __init__(self, at, is_after):
+    def __init__(self, at: int, is_after: bool) -> None:
         self.at, self.is_after, self.passed, self.is_stopped = at, is_after, 0, False
         self.kinds, self.unsynced_names, self.synced = set(), [], set()
 
-    def around(self, act, kind):
+    def around(self, act: Callable[..., Any], kind: str) -> Any:
         """Does one step, or stops."""
         if self.is_stopped:
             raise Stopped
@@ -45,22 +49,22 @@ class Steps:
             act()
         raise Stopped
 
-    def watch(self, monkeypatch, bridge):
+    def watch(self, monkeypatch: pytest.MonkeyPatch, bridge: Bridge) -> None:
         """Watches the steps of a bridge."""
         fsync, rename, link, unlink = os.fsync, os.rename, os.link, Path.unlink
         message = bridge.application.scheduler.message
 
-        def synced(descriptor):
+        def synced(descriptor: int) -> None:
             fsync(descriptor)
             path = Path(os.readlink(f"/proc/self/fd/{descriptor}"))
             self.synced.add(path.stat().st_ino)
             self.unsynced_names = [name for name in self.unsynced_names if name.parent != path]
 
-        def renamed(old, new):
+        def renamed(old: Path, new: Path) -> None:
             rename(old, new)
             self.unsynced_names.append(Path(new))
 
-        def linked(old, new):
+        def linked(old: Path, new: Path) -> None:
             link(old, new)
             self.unsynced_names.append(Path(new))
 
@@ -78,7 +82,7 @@ class Steps:
         for tables in (bridge.file, bridge.store.tables):
             monkeypatch.setattr(tables, "_connection", Connection(tables._connection, self))
 
-    def fail_power(self, folder):
+    def fail_power(self, folder: Path) -> None:
         """Takes from the disk what a power failure may take."""
         for path in self.unsynced_names:
             path.unlink(missing_ok=True)

@@ -1,6 +1,9 @@
 """A bridge that is stopped while it makes an account: no account is lost or made twice, and each key that a
 client got works.
 """
+from collections.abc import Callable
+from pathlib import Path
+from typing import Any
 import http.client
 import os
 import random
@@ -13,7 +16,7 @@ import time
 
 import pytest
 from bridges import ACCOUNTS, BRIDGE, Bridge
-from joining import Stopped, Stops, account_query, create, look_up, made_accounts, rows, told, works
+from joining import Stopped, Stops, account_query, create, look_up, made_accounts, rows, key_or_number, works
 from twin import Twin
 
 from bsched_bridge.scheduler import NoAnswer
@@ -33,7 +36,7 @@ PASTS = {
 }
 
 
-def ended_well(bridge, twin, keys):
+def ended_well(bridge: Bridge, twin: Twin, keys: list[str]) -> None:
     """Checks what must be so after a stop, after the client has asked until it has a key."""
     key = [create(bridge) for _ in range(4)][-1]
     assert look_up(bridge) == key
@@ -43,7 +46,7 @@ def ended_well(bridge, twin, keys):
     assert works(bridge, key)
 
 
-def resent(bridge):
+def resent(bridge: Bridge) -> None:
     """Sends open imports again, as the bridge does at its start and at intervals."""
     for _ in range(4):
         try:
@@ -55,7 +58,9 @@ def resent(bridge):
 @pytest.mark.parametrize("is_after", [False, True], ids=["before", "after"])
 @pytest.mark.parametrize("past", PASTS)
 @pytest.mark.parametrize("asks_first", [True, False], ids=["client first", "resending first"])
-def test_a_stop_at_each_write_and_send(project, monkeypatch, past, is_after, asks_first):
+def test_a_stop_at_each_write_and_send(
+    project: Path, monkeypatch: pytest.MonkeyPatch, past: str, is_after: bool, asks_first: bool
+) -> None:
     """The client asks until it has a key. The bridge is stopped once, at the n-th write or send, for each n."""
     with (project / "bridge.toml").open("a") as file:
         file.write(ACCOUNTS)
@@ -86,7 +91,9 @@ def test_a_stop_at_each_write_and_send(project, monkeypatch, past, is_after, ask
 
 
 @pytest.mark.parametrize("is_after", [False, True], ids=["before", "after"])
-def test_a_stop_where_the_table_is_full(project, monkeypatch, is_after):
+def test_a_stop_where_the_table_is_full(
+    project: Path, monkeypatch: pytest.MonkeyPatch, is_after: bool
+) -> None:
     """No account is made, and no row is left over."""
     with (project / "bridge.toml").open("a") as file:
         file.write(ACCOUNTS)
@@ -124,11 +131,11 @@ FAULTS = [
 ]
 
 
-def two_at_once(bridge, act):
+def two_at_once(bridge: Bridge, act: Callable[..., Any]) -> list[Any]:
     """Returns the answers to the same message, sent twice at once. A stop may leave fewer than two."""
     answers = []
 
-    def asks():
+    def asks() -> int | str | None:
         try:
             answers.append(act(bridge))
         except Stopped:
@@ -143,7 +150,9 @@ def two_at_once(bridge, act):
 
 
 @pytest.mark.parametrize("seed", range(8))
-def test_a_life_of_accounts(open_bridge, twin, monkeypatch, seed):
+def test_a_life_of_accounts(
+    open_bridge: Bridge, twin: Twin, monkeypatch: pytest.MonkeyPatch, seed: int
+) -> None:
     chance = random.Random(seed)
     emails = [f"u{number}@sums.example" for number in range(6)]
     keys = {}
@@ -152,7 +161,7 @@ def test_a_life_of_accounts(open_bridge, twin, monkeypatch, seed):
         twin.import_faults = [chance.choice(FAULTS) for _ in range(chance.randint(0, 2))]
         act = chance.choice([create, create, look_up])
 
-        def asks(bridge):
+        def asks(bridge: Bridge) -> int | str | None:
             return act(bridge, email, "secret1" if right else "wrong-1", client=f"198.51.100.{step}")
 
         answers = []
@@ -187,14 +196,14 @@ def test_a_life_of_accounts(open_bridge, twin, monkeypatch, seed):
 POINTS = [(at, is_after) for at in (1, 2, 3) for is_after in (False, True)]
 
 
-def free_port():
+def free_port() -> int:
     """Returns a port that nobody uses."""
     with socket.socket() as listener:
         listener.bind(("127.0.0.1", 0))
         return listener.getsockname()[1]
 
 
-def asked(port, query):
+def asked(port: int, query: str) -> None:
     """Returns the answer of a bridge in another process, or None if the bridge is killed first."""
     for _ in range(600):  # a busy machine may need long to start it
         connection = http.client.HTTPConnection("127.0.0.1", port, timeout=60)
@@ -213,7 +222,7 @@ def asked(port, query):
 
 
 @pytest.mark.parametrize("at, is_after", POINTS)
-def test_a_bridge_that_is_killed(project, twin, at, is_after):
+def test_a_bridge_that_is_killed(project: Path, twin: Twin, at: int, is_after: bool) -> None:
     """SIGKILL ends the process at a write or at the send. What it leaves is enough."""
     port = free_port()
     with (project / "bridge.toml").open("a") as file:
@@ -241,13 +250,13 @@ def test_a_bridge_that_is_killed(project, twin, at, is_after):
     bridge.file.close()
 
 
-def test_a_bridge_that_is_not_killed_answers(project, twin):
+def test_a_bridge_that_is_not_killed_answers(project: Path, twin: Twin) -> None:
     """The same without a kill. There are as many writes and sends as the test above goes through."""
     with (project / "bridge.toml").open("a") as file:
         file.write(ACCOUNTS)
     bridge = Bridge(project, twin)
     stops = Stops(100, False).set(pytest.MonkeyPatch(), bridge)
-    key = told(bridge.got(account_query("create_account.php", EMAIL, "secret1", user_name="ann")))
+    key = key_or_number(bridge.got(account_query("create_account.php", EMAIL, "secret1", user_name="ann")))
     assert isinstance(key, str) and stops.points == ["write", "send", "write"]
     assert len(POINTS) == 2 * len(stops.points)
     bridge.file.close()

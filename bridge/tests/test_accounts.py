@@ -1,6 +1,7 @@
 """Accounts that volunteers make: what clients get, limits, refusals of bsched, and that nothing secret is
 logged.
 """
+from pathlib import Path
 import json
 import re
 import threading
@@ -19,7 +20,7 @@ from joining import (
     look_up,
     made_accounts,
     rows,
-    told,
+    key_or_number,
     wait_until,
     works,
 )
@@ -31,6 +32,8 @@ from bsched_bridge.limits import RecentCounts, is_loopback, network_of
 from bsched_bridge.members import DayIsFull, Member
 from bsched_bridge.passwords import COST, Cost, Passwords, TooBusy, scrypt
 from bsched_bridge.passwords import client_hash as own_client_hash
+from twin import Twin
+from bridges import Bridge
 
 EMAIL = "ann@sums.example"
 
@@ -38,7 +41,7 @@ EMAIL = "ann@sums.example"
 # ---- What clients get
 
 
-def test_an_account_is_made_once_and_found_again(open_bridge, twin):
+def test_an_account_is_made_once_and_found_again(open_bridge: Bridge, twin: Twin) -> None:
     key = create(open_bridge)
     assert works(open_bridge, key)
     assert create(open_bridge) == key
@@ -51,7 +54,7 @@ def test_an_account_is_made_once_and_found_again(open_bridge, twin):
     assert look_up(open_bridge) == create(open_bridge) == key
 
 
-def test_what_is_sent_to_bsched(open_bridge, twin):
+def test_what_is_sent_to_bsched(open_bridge: Bridge, twin: Twin) -> None:
     key = create(open_bridge)
     ((batch, text),) = twin.imports
     assert re.fullmatch("account-[0-9a-f]{32}", batch)
@@ -72,10 +75,10 @@ QUERIES = [
 
 
 @pytest.mark.parametrize("query", QUERIES)
-def test_queries(open_bridge, query):
-    key = told(open_bridge.got(f"/p/create_account.php?{query}"))
+def test_queries(open_bridge: Bridge, query: str) -> None:
+    key = key_or_number(open_bridge.got(f"/p/create_account.php?{query}"))
     assert works(open_bridge, key)
-    assert told(open_bridge.got(f"/p/lookup_account.php?{query}")) == key
+    assert key_or_number(open_bridge.got(f"/p/lookup_account.php?{query}")) == key
     assert rows(open_bridge) == [(EMAIL, key, 1)]
 
 
@@ -95,7 +98,7 @@ def test_queries(open_bridge, query):
         ("a" * 250 + "@sums.example", -208),
     ],
 )
-def test_what_is_no_address(open_bridge, twin, email, creation):
+def test_what_is_no_address(open_bridge: Bridge, twin: Twin, email: str, creation: int) -> None:
     assert create(open_bridge, email) == creation
     if email != "ann":  # an account key would be looked up as such
         assert look_up(open_bridge, email) == -155
@@ -103,19 +106,19 @@ def test_what_is_no_address(open_bridge, twin, email, creation):
 
 
 @pytest.mark.parametrize("sent", ["", "0" * 31, "0" * 33, "g" * 32, client_hash("", EMAIL)])
-def test_what_is_no_password(open_bridge, sent):
+def test_what_is_no_password(open_bridge: Bridge, sent: str) -> None:
     query = f"email_addr=ann%40sums%2Eexample&passwd_hash={sent}"
-    assert told(open_bridge.got(f"/p/create_account.php?{query}")) == -206
-    assert told(open_bridge.got(f"/p/lookup_account.php?{query}")) == -155
+    assert key_or_number(open_bridge.got(f"/p/create_account.php?{query}")) == -206
+    assert key_or_number(open_bridge.got(f"/p/lookup_account.php?{query}")) == -155
     assert rows(open_bridge) == []
 
 
-def test_an_account_key_is_looked_up_too(open_bridge):
+def test_an_account_key_is_looked_up_too(open_bridge: Bridge) -> None:
     assert b"ann-key" in open_bridge.got("/p/lookup_account.php?email_addr=ann-key&passwd_hash=00")[2]
-    assert told(open_bridge.got("/p/lookup_account.php?email_addr=nobody&passwd_hash=00")) == -155
+    assert key_or_number(open_bridge.got("/p/lookup_account.php?email_addr=nobody&passwd_hash=00")) == -155
 
 
-def test_the_configuration(open_bridge):
+def test_the_configuration(open_bridge: Bridge) -> None:
     config = ElementTree.fromstring(open_bridge.got("/p/get_project_config.php")[2])
     assert config.findtext("min_passwd_length") == "6"
     absent = (
@@ -128,7 +131,7 @@ def test_the_configuration(open_bridge):
     assert [config.find(name) for name in absent] == [None] * 5
 
 
-def test_terms_need_consent(project, open_bridge, twin):
+def test_terms_need_consent(project: Path, open_bridge: Bridge, twin: Twin) -> None:
     (project / "terms.txt").write_text("Be <kind>.\n")
     with (project / "bridge.toml").open("a") as file:
         file.write('terms = "terms.txt"\n')
@@ -143,11 +146,11 @@ def test_terms_need_consent(project, open_bridge, twin):
     assert b"Be &lt;kind&gt;." in open_bridge.got("/p/terms")[2]
 
 
-def test_no_consent_is_kept_where_none_is_asked(open_bridge):
+def test_no_consent_is_kept_where_none_is_asked(open_bridge: Bridge) -> None:
     assert open_bridge.members.of_key(create(open_bridge)).consent_at is None
 
 
-def test_a_creation_is_for_no_head_and_no_browser(open_bridge, twin):
+def test_a_creation_is_for_no_head_and_no_browser(open_bridge: Bridge, twin: Twin) -> None:
     for page in ("create_account.php", "lookup_account.php"):
         query = account_query(page, EMAIL, "secret1", user_name="ann")
         assert open_bridge.got(query, "HEAD")[0] == "405 Method Not Allowed"
@@ -178,12 +181,12 @@ def test_a_creation_is_for_no_head_and_no_browser(open_bridge, twin):
         ("An\u202en", "Ann"),
     ],
 )
-def test_names(sent, name):
+def test_names(sent: str, name: str) -> None:
     assert clean_name(sent) == name
 
 
 @given(st.text())
-def test_any_name_becomes_one_that_bsched_takes(sent):
+def test_any_name_becomes_one_that_bsched_takes(sent: str) -> None:
     name = clean_name(sent)
     assert len(name.encode()) <= 64 and name == clean_name(name)
     if name:
@@ -192,7 +195,9 @@ def test_any_name_becomes_one_that_bsched_takes(sent):
 
 
 @pytest.mark.parametrize("sent, kept", [('A "B", <C>', 'A "B", <C>'), ("\t", None)])
-def test_a_name_that_is_told(project, open_bridge, twin, sent, kept):
+def test_a_name_that_is_told(
+    project: Path, open_bridge: Bridge, twin: Twin, sent: str, kept: str | None
+) -> None:
     with (project / "bridge.toml").open("a") as file:
         file.write('names = "told"\n')
     open_bridge.restart()
@@ -205,7 +210,7 @@ def test_a_name_that_is_told(project, open_bridge, twin, sent, kept):
 # ---- Limits
 
 
-def test_a_thousand_creations_from_one_address(open_bridge, twin):
+def test_a_thousand_creations_from_one_address(open_bridge: Bridge, twin: Twin) -> None:
     answers = [create(open_bridge, f"u{number}@sums.example") for number in range(1000)]
     assert [type(answer) for answer in answers[:3]] == [str] * 3
     assert answers[3:] == [-208] * 10 + [-183] * 987
@@ -214,13 +219,15 @@ def test_a_thousand_creations_from_one_address(open_bridge, twin):
     assert isinstance(create(open_bridge, "v@sums.example", client="198.51.100.8"), str)
 
 
-def test_nobody_can_ask_whether_many_addresses_have_accounts(project, open_bridge, monkeypatch):
+def test_nobody_can_ask_whether_many_addresses_have_accounts(
+    project: Path, open_bridge: Bridge, monkeypatch: pytest.MonkeyPatch
+) -> None:
     for number in range(20):
         create(open_bridge, f"u{number}@sums.example", client=f"192.0.2.{number}")
     key = create(open_bridge, client="192.0.2.99")
     monkeypatch.setattr("bsched_bridge.passwords.scrypt", lambda *_words: 1 // 0)  # it takes no hash
 
-    def asked(email, client):
+    def asked(email: str, client: str) -> str:
         form = urlencode({"key": key, "email": email, "password": "secret1"}).encode()
         kind = "application/x-www-form-urlencoded"
         page = open_bridge.got("/p/get_passwd.php", "POST", form, CONTENT_TYPE=kind, REMOTE_ADDR=client)[2]
@@ -231,7 +238,7 @@ def test_nobody_can_ask_whether_many_addresses_have_accounts(project, open_bridg
     assert asked("u0@sums.example", "192.0.2.50") == "many" == asked("new@sums.example", "192.0.2.51")
 
 
-def test_creations_that_say_that_an_address_is_free_are_counted(project, open_bridge):
+def test_creations_that_say_that_an_address_is_free_are_counted(project: Path, open_bridge: Bridge) -> None:
     (project / "terms.txt").write_text("Be kind.")
     with (project / "bridge.toml").open("a") as file:
         file.write('terms = "terms.txt"\n')
@@ -241,7 +248,9 @@ def test_creations_that_say_that_an_address_is_free_are_counted(project, open_br
     assert isinstance(create(open_bridge, client="192.0.2.1", consent_flag="1"), str)
 
 
-def test_a_clock_that_was_ahead_stops_no_accounts(open_bridge, monkeypatch):
+def test_a_clock_that_was_ahead_stops_no_accounts(
+    open_bridge: Bridge, monkeypatch: pytest.MonkeyPatch
+) -> None:
     monkeypatch.setattr("bsched_bridge.accounts.time.time", lambda: 4e9)
     for number in range(50):
         assert isinstance(create(open_bridge, f"u{number}@sums.example", client=f"192.0.2.{number}"), str)
@@ -249,7 +258,7 @@ def test_a_clock_that_was_ahead_stops_no_accounts(open_bridge, monkeypatch):
     assert isinstance(create(open_bridge, client="198.51.100.9"), str)
 
 
-def test_addresses_of_one_network_are_one(open_bridge):
+def test_addresses_of_one_network_are_one(open_bridge: Bridge) -> None:
     answers = [
         create(open_bridge, f"u{number}@sums.example", client=f"2001:db8::{number}:1") for number in range(5)
     ]
@@ -257,7 +266,9 @@ def test_addresses_of_one_network_are_one(open_bridge):
     assert isinstance(create(open_bridge, "v@sums.example", client="2001:db8:0:1::1"), str)
 
 
-def test_a_day_takes_so_many_accounts(project, open_bridge, twin, caplog):
+def test_a_day_takes_so_many_accounts(
+    project: Path, open_bridge: Bridge, twin: Twin, caplog: pytest.LogCaptureFixture
+) -> None:
     text = (
         (project / "bridge.toml")
         .read_text()
@@ -281,7 +292,7 @@ def test_a_day_takes_so_many_accounts(project, open_bridge, twin, caplog):
     assert create(open_bridge, "w@sums.example", client="198.51.100.5") == -208
 
 
-def test_accounts_of_the_operator_do_not_count(project, open_bridge):
+def test_accounts_of_the_operator_do_not_count(project: Path, open_bridge: Bridge) -> None:
     text = (project / "bridge.toml").read_text().replace("most_a_day = 50", "most_a_day = 1")
     (project / "bridge.toml").write_text(text)
     open_bridge.restart()
@@ -290,7 +301,7 @@ def test_accounts_of_the_operator_do_not_count(project, open_bridge):
     assert isinstance(create(open_bridge), str)
 
 
-def test_wrong_passwords_of_a_client(open_bridge):
+def test_wrong_passwords_of_a_client(open_bridge: Bridge) -> None:
     keys = [create(open_bridge, f"u{number}@sums.example") for number in range(3)]
     for number in range(10):
         assert (create if number % 2 else look_up)(open_bridge, f"u{number % 3}@sums.example", "wrong-1") in (
@@ -302,7 +313,7 @@ def test_wrong_passwords_of_a_client(open_bridge):
     assert look_up(open_bridge, "u0@sums.example", client="198.51.100.8") == keys[0]
 
 
-def test_wrong_passwords_for_an_address(open_bridge):
+def test_wrong_passwords_for_an_address(open_bridge: Bridge) -> None:
     key = create(open_bridge)
     for number in range(10):
         assert look_up(open_bridge, EMAIL, "wrong-1", client=f"198.51.100.{number}") == -155
@@ -314,17 +325,19 @@ def test_wrong_passwords_for_an_address(open_bridge):
     assert look_up(open_bridge, client="192.0.2.1") == key
 
 
-def test_right_passwords_do_not_count(open_bridge):
+def test_right_passwords_do_not_count(open_bridge: Bridge) -> None:
     key = create(open_bridge)
     assert [look_up(open_bridge) for _ in range(30)] == [key] * 30
 
 
-def of_key(bridge, key, client=CLIENT):
+def of_key(bridge: Bridge, key: str, client: str = CLIENT) -> int | str:
     """Returns the key or the error number from a look-up of a key."""
-    return told(bridge.got(f"/p/lookup_account.php?email_addr={key}&passwd_hash=00", REMOTE_ADDR=client))
+    return key_or_number(
+        bridge.got(f"/p/lookup_account.php?email_addr={key}&passwd_hash=00", REMOTE_ADDR=client)
+    )
 
 
-def test_wrong_keys_of_a_client(open_bridge, twin):
+def test_wrong_keys_of_a_client(open_bridge: Bridge, twin: Twin) -> None:
     key = create(open_bridge)
     assert [of_key(open_bridge, key) for _ in range(30)] == [key] * 30  # right keys do not count
     page = f"/p/account_finish.php?auth={key}"
@@ -340,14 +353,14 @@ def test_wrong_keys_of_a_client(open_bridge, twin):
     assert key.encode() in open_bridge.got(page, REMOTE_ADDR="198.51.100.8")[2]
 
 
-def test_a_key_about_which_bsched_gives_no_answer_does_not_count(open_bridge, twin):
+def test_a_key_about_which_bsched_gives_no_answer_does_not_count(open_bridge: Bridge, twin: Twin) -> None:
     key = create(open_bridge)
     twin.faults = ["unavailable"] * 20
     assert [of_key(open_bridge, "nobody") for _ in range(20)] == [-183] * 20
     assert of_key(open_bridge, key) == key
 
 
-def test_old_counts_and_surplus_keys_are_forgotten(monkeypatch):
+def test_old_counts_and_surplus_keys_are_forgotten(monkeypatch: pytest.MonkeyPatch) -> None:
     now = [0.0]
     counts = RecentCounts(2, 60, lambda: now[0])
     assert [counts.take("a") for _ in range(3)] == [True, True, False]
@@ -366,7 +379,9 @@ def test_old_counts_and_surplus_keys_are_forgotten(monkeypatch):
     counts.give_back("nobody")
 
 
-def test_counts_of_wrong_passwords_are_not_pushed_out(open_bridge, monkeypatch):
+def test_counts_of_wrong_passwords_are_not_pushed_out(
+    open_bridge: Bridge, monkeypatch: pytest.MonkeyPatch
+) -> None:
     monkeypatch.setattr("bsched_bridge.limits.MOST_KEYS", 30)
     key = create(open_bridge)
     for number in range(100):
@@ -384,13 +399,13 @@ def test_counts_of_wrong_passwords_are_not_pushed_out(open_bridge, monkeypatch):
     assert look_up(open_bridge) == key
 
 
-def test_whose_address_it_is(project, open_bridge):
+def test_whose_address_it_is(project: Path, open_bridge: Bridge) -> None:
     with (project / "bridge.toml").open("a") as file:
         file.write('address_field = "X-Real-IP"\nmost_from_address = 1\n')
     open_bridge.restart()
 
-    def made(email, peer, **fields):
-        return told(
+    def made(email: str, peer: str, **fields: str) -> int | str:
+        return key_or_number(
             open_bridge.got(
                 account_query("create_account.php", f"{email}@sums.example", "secret1"),
                 REMOTE_ADDR=peer,
@@ -423,14 +438,14 @@ def test_whose_address_it_is(project, open_bridge):
         ("198.51.100.7, 10.0.0.1", "", False),
     ],
 )
-def test_networks(address, network, is_own):
+def test_networks(address: str, network: str, is_own: bool) -> None:
     assert (network_of(address), is_loopback(address)) == (network, is_own)
 
 
 # ---- Passwords
 
 
-def test_what_is_kept_of_a_password(open_bridge):
+def test_what_is_kept_of_a_password(open_bridge: Bridge) -> None:
     create(open_bridge)
     ((salt, secret, cost),) = open_bridge.file.rows("SELECT salt, secret, cost FROM member")
     assert (len(salt), len(secret), cost) == (16, 64, "scrypt 16 8 1")
@@ -439,7 +454,7 @@ def test_what_is_kept_of_a_password(open_bridge):
     assert COST == Cost(2**15, 8, 1)
 
 
-def test_a_password_keeps_its_cost():
+def test_a_password_keeps_its_cost() -> None:
     secret = Passwords(Cost(2**4, 8, 1)).new_secret("0" * 32, CLIENT)
     other = Passwords(Cost(2**5, 8, 1))
     assert other.is_right("0" * 32, secret, CLIENT) and not other.is_right("1" * 32, secret, CLIENT)
@@ -447,20 +462,22 @@ def test_a_password_keeps_its_cost():
     assert own_client_hash("secret1", EMAIL) == client_hash("secret1", EMAIL)
 
 
-def test_an_unknown_address_takes_a_hash_too(open_bridge, monkeypatch):
+def test_an_unknown_address_takes_a_hash_too(open_bridge: Bridge, monkeypatch: pytest.MonkeyPatch) -> None:
     create(open_bridge)
     made = []
-    monkeypatch.setattr("bsched_bridge.passwords.scrypt", lambda told, salt, cost: made.append(cost) or b"")
+    monkeypatch.setattr(
+        "bsched_bridge.passwords.scrypt", lambda passwd_hash, salt, cost: made.append(cost) or b""
+    )
     look_up(open_bridge, "nobody@sums.example")
     look_up(open_bridge)
     assert made == [Cost(2**4, 8, 1)] * 2
 
 
-def test_two_hashes_at_once_and_few_that_wait(monkeypatch):
+def test_two_hashes_at_once_and_few_that_wait(monkeypatch: pytest.MonkeyPatch) -> None:
     monkeypatch.setattr("bsched_bridge.passwords.WAIT_SECONDS", 5.0)
     hashes, running, most, ended = Passwords(Cost(2**4, 8, 1)), [], [], threading.Event()
 
-    def slow(_told, _salt, _cost):
+    def slow(_told: str, _salt: bytes, _cost: Cost) -> bytes:
         running.append(1)
         most.append(len(running))
         ended.wait(5)
@@ -481,12 +498,12 @@ def test_two_hashes_at_once_and_few_that_wait(monkeypatch):
     hashes.new_secret("0" * 32, "another")
 
 
-def test_one_client_has_one_hash_at_once(open_bridge, monkeypatch):
+def test_one_client_has_one_hash_at_once(open_bridge: Bridge, monkeypatch: pytest.MonkeyPatch) -> None:
     key = create(open_bridge)
     began, ended = threading.Event(), threading.Event()
     scrypt = passwords.scrypt
 
-    def slow(*words):
+    def slow(*words: Cost | bytes | str) -> bytes:
         began.set()
         ended.wait(5)
         return scrypt(*words)
@@ -505,7 +522,7 @@ def test_one_client_has_one_hash_at_once(open_bridge, monkeypatch):
     assert look_up(open_bridge) == key
 
 
-def test_one_client_has_so_many_hashes_in_a_minute(open_bridge):
+def test_one_client_has_so_many_hashes_in_a_minute(open_bridge: Bridge) -> None:
     key = create(open_bridge)
     answers = [look_up(open_bridge) for _ in range(50)]
     assert answers == [key] * 39 + [-183] * 11
@@ -515,7 +532,7 @@ def test_one_client_has_so_many_hashes_in_a_minute(open_bridge):
     assert look_up(open_bridge) == key
 
 
-def test_a_hash_that_waited_too_long(monkeypatch):
+def test_a_hash_that_waited_too_long(monkeypatch: pytest.MonkeyPatch) -> None:
     monkeypatch.setattr("bsched_bridge.passwords.WAIT_SECONDS", 0.01)
     made = Passwords(Cost(2**4, 8, 1))
     for _ in range(passwords.AT_ONCE):
@@ -526,7 +543,9 @@ def test_a_hash_that_waited_too_long(monkeypatch):
     made.new_secret("0" * 32, CLIENT)
 
 
-def test_what_is_refused_takes_no_hash(project, open_bridge, monkeypatch):
+def test_what_is_refused_takes_no_hash(
+    project: Path, open_bridge: Bridge, monkeypatch: pytest.MonkeyPatch
+) -> None:
     create(open_bridge)
     text = (project / "bridge.toml").read_text().replace("most_a_day = 50", "most_a_day = 1")
     (project / "bridge.toml").write_text(text)
@@ -538,14 +557,14 @@ def test_what_is_refused_takes_no_hash(project, open_bridge, monkeypatch):
     assert create(open_bridge) == look_up(open_bridge) == -183
 
 
-def test_letters_are_made_small_as_the_client_does_it(open_bridge):
+def test_letters_are_made_small_as_the_client_does_it(open_bridge: Bridge) -> None:
     key = create(open_bridge, "É@sums.example")  # the client sends this for É@Sums.example
     assert look_up(open_bridge, "É@sums.example") == key
     assert rows(open_bridge)[0][0] == "É@sums.example"
 
 
-def test_a_bridge_that_is_busy(open_bridge, monkeypatch):
-    def busy(*_words):
+def test_a_bridge_that_is_busy(open_bridge: Bridge, monkeypatch: pytest.MonkeyPatch) -> None:
+    def busy(*_words: str) -> None:
         raise TooBusy
 
     monkeypatch.setattr(open_bridge.application.accounts.passwords, "new_secret", busy)
@@ -554,7 +573,7 @@ def test_a_bridge_that_is_busy(open_bridge, monkeypatch):
     assert isinstance(create(open_bridge), str)
 
 
-def test_account_messages_leave_threads_for_calls(open_bridge):
+def test_account_messages_leave_threads_for_calls(open_bridge: Bridge) -> None:
     """At most half of the threads work for accounts. Any further message is asked at once to try again."""
     answers = []
     locks = open_bridge.application.accounts._locks
@@ -564,7 +583,9 @@ def test_account_messages_leave_threads_for_calls(open_bridge):
             thread.start()
         wait_until(lambda: not open_bridge.application.account_places._places._value)
         assert create(open_bridge, "bob@sums.example") == look_up(open_bridge) == -183
-        assert told(open_bridge.got("/p/lookup_account.php?email_addr=ann-key&passwd_hash=00")) == -183
+        assert (
+            key_or_number(open_bridge.got("/p/lookup_account.php?email_addr=ann-key&passwd_hash=00")) == -183
+        )
         for page in ("account_finish.php?auth=ann-key", "account", "get_passwd.php"):
             method = "GET" if "?" in page else "POST"
             form = b"key=ann-key&email=bob%40sums.example&password=secret1"
@@ -581,7 +602,7 @@ def test_account_messages_leave_threads_for_calls(open_bridge):
 
 
 @pytest.mark.parametrize("fault", ["unheard", "lost", "unavailable", "garbage", "another"])
-def test_no_key_is_told_before_bsched_has_it(open_bridge, twin, fault):
+def test_no_key_is_told_before_bsched_has_it(open_bridge: Bridge, twin: Twin, fault: str) -> None:
     twin.import_faults = [fault]
     assert create(open_bridge) == -183
     twin.import_faults = [fault]
@@ -594,7 +615,7 @@ def test_no_key_is_told_before_bsched_has_it(open_bridge, twin, fault):
 
 
 @pytest.mark.parametrize("fault", ["unheard", "lost", "unavailable"])
-def test_an_open_account_is_finished_without_its_client(open_bridge, twin, fault):
+def test_an_open_account_is_finished_without_its_client(open_bridge: Bridge, twin: Twin, fault: str) -> None:
     twin.import_faults = [fault]
     assert create(open_bridge) == -183
     open_bridge.restart()
@@ -604,7 +625,7 @@ def test_an_open_account_is_finished_without_its_client(open_bridge, twin, fault
     assert made_accounts(twin) == [key] == [look_up(open_bridge)]
 
 
-def test_a_table_that_is_full(open_bridge, twin, caplog):
+def test_a_table_that_is_full(open_bridge: Bridge, twin: Twin, caplog: pytest.LogCaptureFixture) -> None:
     twin.import_faults = ['{"error":"table_full","number":18}'] * 4
     assert [create(open_bridge) for _ in range(4)] == [-208] * 4
     assert rows(open_bridge) == []
@@ -613,13 +634,13 @@ def test_a_table_that_is_full(open_bridge, twin, caplog):
     assert works(open_bridge, key)
 
 
-def test_a_key_that_is_in(open_bridge, twin):
+def test_a_key_that_is_in(open_bridge: Bridge, twin: Twin) -> None:
     twin.import_faults = ["lost", '{"error":"duplicate_name","row":1,"number":15}']
     assert create(open_bridge) == -183
     assert works(open_bridge, create(open_bridge))
 
 
-def test_a_batch_name_that_is_taken(open_bridge, twin):
+def test_a_batch_name_that_is_taken(open_bridge: Bridge, twin: Twin) -> None:
     twin.import_faults = ['{"error":"batch_reused","number":17}']
     key = create(open_bridge)
     (first, one), (second, other) = twin.imports
@@ -629,7 +650,9 @@ def test_a_batch_name_that_is_taken(open_bridge, twin):
 
 
 @pytest.mark.parametrize("error", ["not_operator", "bad_csv", "too_large", "no_route", "new"])
-def test_another_refusal_keeps_the_row(open_bridge, twin, caplog, error):
+def test_another_refusal_keeps_the_row(
+    open_bridge: Bridge, twin: Twin, caplog: pytest.LogCaptureFixture, error: str
+) -> None:
     twin.import_faults = [json.dumps({"error": error, "number": 1})]
     assert create(open_bridge) == -183
     assert len(rows(open_bridge)) == 1
@@ -639,12 +662,14 @@ def test_another_refusal_keeps_the_row(open_bridge, twin, caplog, error):
     assert works(open_bridge, create(open_bridge))
 
 
-def test_bsched_that_is_not_there(open_bridge, twin):
+def test_bsched_that_is_not_there(open_bridge: Bridge, twin: Twin) -> None:
     twin.close()
     assert create(open_bridge) == look_up(open_bridge) == -183
 
 
-def test_bsched_that_was_put_back_to_an_older_copy(open_bridge, twin, caplog):
+def test_bsched_that_was_put_back_to_an_older_copy(
+    open_bridge: Bridge, twin: Twin, caplog: pytest.LogCaptureFixture
+) -> None:
     key = create(open_bridge)
     assert works(open_bridge, key)
     machine = twin.service.machine
@@ -671,8 +696,8 @@ def test_bsched_that_was_put_back_to_an_older_copy(open_bridge, twin, caplog):
     assert rows(open_bridge) == [(EMAIL, key, 1)]
 
 
-def test_creations_at_once_are_one(open_bridge, twin, monkeypatch):
-    def slow(*words):
+def test_creations_at_once_are_one(open_bridge: Bridge, twin: Twin, monkeypatch: pytest.MonkeyPatch) -> None:
+    def slow(*words: Cost | bytes | str) -> bytes:
         time.sleep(0.1)
         return scrypt(*words)
 
@@ -687,7 +712,7 @@ def test_creations_at_once_are_one(open_bridge, twin, monkeypatch):
     assert answers == [key] * 4 and len(rows(open_bridge)) == 1
 
 
-def test_the_day_is_counted_where_the_row_is_made(open_bridge):
+def test_the_day_is_counted_where_the_row_is_made(open_bridge: Bridge) -> None:
     """Creations that come at once check the day before any of them has its row."""
     members, secret = open_bridge.members, Passwords(Cost(2**4, 8, 1)).new_secret("0" * 32, CLIENT)
     for number in range(2):
@@ -697,7 +722,7 @@ def test_the_day_is_counted_where_the_row_is_made(open_bridge):
     members.insert("v@sums.example", secret, "N", False, 87_400, 2)
 
 
-def test_a_full_disk(open_bridge, twin, monkeypatch):
+def test_a_full_disk(open_bridge: Bridge, twin: Twin, monkeypatch: pytest.MonkeyPatch) -> None:
     """For a while nothing can be written. No client gets a key, and afterwards there is one account for each
     address.
     """
@@ -706,7 +731,7 @@ def test_a_full_disk(open_bridge, twin, monkeypatch):
         assert create(open_bridge) == -183
     key = create(open_bridge)
     with monkeypatch.context() as patch:
-        patch.setattr(open_bridge.members, "imported", lambda member: 1 // 0)
+        patch.setattr(open_bridge.members, "mark_imported", lambda member: 1 // 0)
         assert create(open_bridge, "bob@sums.example") == -183
     other = create(open_bridge, "bob@sums.example")
     assert made_accounts(twin) == [key, other]
@@ -715,7 +740,9 @@ def test_a_full_disk(open_bridge, twin, monkeypatch):
 # ---- What nobody may read in a log
 
 
-def test_nothing_secret_is_logged(open_bridge, twin, caplog, monkeypatch):
+def test_nothing_secret_is_logged(
+    open_bridge: Bridge, twin: Twin, caplog: pytest.LogCaptureFixture, monkeypatch: pytest.MonkeyPatch
+) -> None:
     caplog.set_level(0)
     secrets = {EMAIL, "sums.example", client_hash("secret1", EMAIL), client_hash("wrong-1", EMAIL), "secret1"}
     twin.import_faults = [
@@ -735,13 +762,13 @@ def test_nothing_secret_is_logged(open_bridge, twin, caplog, monkeypatch):
     open_bridge.call(request(key=key, cpid="c1"))
     open_bridge.got(f"/p/account_finish.php?auth={key}")
 
-    def fails(*_words):
+    def fails(*_words: str) -> None:
         raise ValueError(f"{EMAIL} {key}")
 
     monkeypatch.setattr(open_bridge.application.accounts.members, "of_email", fails)
     assert create(open_bridge, client="203.0.113.9") == -183
     form = f"key={key}&email={EMAIL}&password=secret1".encode()
-    monkeypatch.setattr(open_bridge.application.accounts, "has_password", fails)
+    monkeypatch.setattr(open_bridge.application.accounts, "set_password", fails)
     kind = "application/x-www-form-urlencoded"
     assert open_bridge.got("/p/get_passwd.php", "POST", form, CONTENT_TYPE=kind)[0].startswith("500")
     assert caplog.text.count("a message could not be answered: ValueError") == 2
@@ -751,5 +778,5 @@ def test_nothing_secret_is_logged(open_bridge, twin, caplog, monkeypatch):
         assert authenticator not in caplog.text
 
 
-def test_addresses_as_the_manager_has_them():
+def test_addresses_as_the_manager_has_them() -> None:
     assert is_email("ann@sums.example") and is_email("ann+b@a-b.co.uk") and is_email("é@sums.example")

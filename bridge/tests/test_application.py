@@ -1,4 +1,6 @@
 """The pages, the downloads, and messages that the bridge refuses."""
+from typing import Any
+import os
 import re
 import xml.etree.ElementTree as ElementTree
 
@@ -7,9 +9,10 @@ from messages import FIRST, jobs, names, request, value
 
 from bsched_bridge import client_requests
 from bsched_bridge.code_signing import file_md5, signature_text
+from bridges import Bridge
 
 
-def test_the_master_page_has_both_forms(bridge):
+def test_the_master_page_has_both_forms(bridge: Bridge) -> None:
     status, fields, body = bridge.got("/p/")
     assert (status, fields["Content-Type"]) == ("200 OK", "text/html; charset=utf-8")
     lines = body.decode().split("\n")
@@ -21,14 +24,14 @@ def test_the_master_page_has_both_forms(bridge):
 HANGING_ERRORS = {"-136", "-161", "-205", "-206", "-204"}
 
 
-def account_answer(bridge, query):
+def account_answer(bridge: Bridge, query: str) -> Any:
     """Returns the answer to a message about an account. The client reads its body only if the status is 200."""
     status, fields, body = bridge.got(f"/p/{query}")
     assert (status, fields["Content-Type"]) == ("200 OK", "text/xml; charset=utf-8")
     return ElementTree.fromstring(body)
 
 
-def test_what_a_client_asks_before_it_attaches(bridge):
+def test_what_a_client_asks_before_it_attaches(bridge: Bridge) -> None:
     config = ElementTree.fromstring(bridge.got("/p/get_project_config.php")[2])
     assert config.findtext("name") == "Sums"
     assert config.findtext("master_url") == config.findtext("web_rpc_url_base") == "http://127.0.0.1:8081/p/"
@@ -38,39 +41,39 @@ def test_what_a_client_asks_before_it_attaches(bridge):
         assert config.findtext(member) == "1"
 
 
-def test_an_account_is_looked_up_by_its_key(bridge):
+def test_an_account_is_looked_up_by_its_key(bridge: Bridge) -> None:
     for member in ("authenticator", "email_addr"):
-        told = account_answer(bridge, f"lookup_account.php?{member}=ann-key&passwd_hash=00")
-        assert told.findtext("authenticator") == "ann-key"
+        answer = account_answer(bridge, f"lookup_account.php?{member}=ann-key&passwd_hash=00")
+        assert answer.findtext("authenticator") == "ann-key"
     for query in ("?authenticator=nobody", "?authenticator=a%20b", "?email_addr=", ""):
-        told = account_answer(bridge, f"lookup_account.php{query}")
-        assert (told.tag, told.findtext("error_num")) == ("error", "-155")
-        assert told.findtext("error_num") not in HANGING_ERRORS
+        answer = account_answer(bridge, f"lookup_account.php{query}")
+        assert (answer.tag, answer.findtext("error_num")) == ("error", "-155")
+        assert answer.findtext("error_num") not in HANGING_ERRORS
     assert bridge.twin.service.machine.hosts == {}  # asking makes no host
     for _ in range(20):  # without [accounts] the peer may be a proxy, so wrong keys don't count
         account_answer(bridge, "lookup_account.php?authenticator=nobody")
     assert account_answer(bridge, "lookup_account.php?authenticator=ann-key").tag == "account_out"
     with bridge.application.account_places.taken(), bridge.application.account_places.taken():
         with bridge.application.account_places.taken(), bridge.application.account_places.taken():
-            told = account_answer(bridge, "lookup_account.php?authenticator=ann-key")
-    assert told.findtext("error_num") == "-183"
+            answer = account_answer(bridge, "lookup_account.php?authenticator=ann-key")
+    assert answer.findtext("error_num") == "-183"
     bridge.twin.close()
     assert account_answer(bridge, "lookup_account.php?authenticator=ann-key").findtext("error_num") == "-183"
 
 
-def test_no_client_makes_an_account(bridge):
-    told = account_answer(bridge, "create_account.php?email_addr=a@b.example&passwd_hash=00&user_name=Ann")
-    assert (told.tag, told.findtext("error_num")) == ("error", "-208")
+def test_no_client_makes_an_account(bridge: Bridge) -> None:
+    answer = account_answer(bridge, "create_account.php?email_addr=a@b.example&passwd_hash=00&user_name=Ann")
+    assert (answer.tag, answer.findtext("error_num")) == ("error", "-208")
     assert bridge.twin.heard == []
 
 
-def cells(page, before, place):
+def cells(page: str, before: str, place: int) -> list[str]:
     """Returns the numbers in the rest of a table row, after the place-th occurrence of a text."""
     rest = page.split(before)[place].partition("</tr>")[0]
     return re.findall('<td class="number">([^<]*)</td>', rest)
 
 
-def test_the_status_page(bridge):
+def test_the_status_page(bridge: Bridge) -> None:
     bridge.call(request())
     page = bridge.got("/p/status")[2].decode()
     assert '<td>Ann</td><td class="number">0.000</td>' in page
@@ -80,7 +83,7 @@ def test_the_status_page(bridge):
     assert "Bob" not in bridge.got("/p/status")[2].decode()  # the page is not read anew each time
 
 
-def test_users_of_one_name_are_two(bridge):
+def test_users_of_one_name_are_two(bridge: Bridge) -> None:
     bridge.twin.service.imported("accounts", "second", "authenticator,name\nann-two,Ann\n")
     bridge.call(request())
     bridge.call(request(key="ann-two", cpid="c2"))
@@ -89,11 +92,11 @@ def test_users_of_one_name_are_two(bridge):
     assert "ann-two" not in page
 
 
-def test_the_status_page_of_no_hosts(bridge):
+def test_the_status_page_of_no_hosts(bridge: Bridge) -> None:
     assert "Users with computers that called: 0." in bridge.got("/p/status")[2].decode()
 
 
-def test_the_status_page_without_statements(bridge):
+def test_the_status_page_without_statements(bridge: Bridge) -> None:
     bridge.call(request())
     bridge.twin.close()
     page = bridge.got("/p/status")[2].decode()
@@ -102,7 +105,7 @@ def test_the_status_page_without_statements(bridge):
     assert "The scheduler has given no answer since 20" in page
 
 
-def test_a_reply_has_all_that_a_client_needs(bridge):
+def test_a_reply_has_all_that_a_client_needs(bridge: Bridge) -> None:
     bridge.call(request(seconds=61))
     reply = ElementTree.fromstring(bridge.call(request(seconds=61)))
     assert [job.findtext("name") for job in reply.findall("result")] == ["u1_0", "u2_0"]
@@ -123,7 +126,7 @@ def test_a_reply_has_all_that_a_client_needs(bridge):
     assert reply.findtext("code_sign_key").strip() == (bridge.folder / "key").read_text().strip()
 
 
-def test_the_key_is_told_to_a_client_that_has_none(bridge):
+def test_the_key_is_told_to_a_client_that_has_none(bridge: Bridge) -> None:
     key = (bridge.folder / "key").read_text()
     reply = bridge.call(request(extra=f"<code_sign_key>\n{key}\n</code_sign_key>\n"))
     assert b"code_sign_key" not in reply
@@ -132,7 +135,7 @@ def test_the_key_is_told_to_a_client_that_has_none(bridge):
     assert "changed its code signing key" in value(reply, "message")
 
 
-def test_a_job_whose_file_is_gone_comes_again(bridge):
+def test_a_job_whose_file_is_gone_comes_again(bridge: Bridge) -> None:
     (bridge.folder / "files" / "two.txt").unlink()
     reply = bridge.call(request(seconds=61))
     assert jobs(reply) == ["u1_0"]
@@ -141,7 +144,7 @@ def test_a_job_whose_file_is_gone_comes_again(bridge):
     assert jobs(bridge.call(request(hostid=FIRST, listed=["u1_0"], seconds=0))) == ["u2_0"]
 
 
-def test_a_name_of_any_characters(bridge):
+def test_a_name_of_any_characters(bridge: Bridge) -> None:
     bridge.twin.service.imported("accounts", "second", 'authenticator,name\ncid,"<C> &\x01\n\U0001f600"\n')
     reply = bridge.call(request(key="cid"))
     assert ElementTree.fromstring(reply).findtext("user_name") == "<C> &\ufffd\n\U0001f600"
@@ -149,10 +152,10 @@ def test_a_name_of_any_characters(bridge):
 
 
 @pytest.mark.parametrize(
-    "end_word, told",
+    "end_word, message",
     [("no_eligible_work", "No tasks are available"), ("in_progress_limit", "limit on tasks")],
 )
-def test_why_there_are_no_jobs(bridge, end_word, told):
+def test_why_there_are_no_jobs(bridge: Bridge, end_word: str, message: str) -> None:
     listed = []
     for _ in range(8):
         reply = bridge.call(request(hostid=int(bool(listed)), listed=listed, seconds=1000))
@@ -162,10 +165,10 @@ def test_why_there_are_no_jobs(bridge, end_word, told):
         if end_word == "no_eligible_work":
             bridge.call(request(hostid=FIRST, listed=[], reports=[(name, "1") for name in listed], seconds=0))
             listed = []
-    assert told in value(reply, "message")
+    assert message in value(reply, "message")
 
 
-def test_aborted_names_are_told(bridge):
+def test_aborted_names_are_told(bridge: Bridge) -> None:
     assert names(bridge.call(request(listed=["strange_0"])), "result_abort") == ["strange_0"]
 
 
@@ -173,14 +176,14 @@ def test_aborted_names_are_told(bridge):
     "body, why",
     [(b"", "incomplete or faulty XML"), (b"<a", "incomplete"), (b"<a/>", "not a scheduler_request")],
 )
-def test_a_faulty_request_gets_a_reply(bridge, body, why):
+def test_a_faulty_request_gets_a_reply(bridge: Bridge, body: bytes, why: str) -> None:
     reply = bridge.call(body)
     assert why in value(reply, "message")
     assert value(reply, "request_delay") == "3600.000000"
     assert bridge.twin.heard == []
 
 
-def test_what_is_no_message(bridge, monkeypatch):
+def test_what_is_no_message(bridge: Bridge, monkeypatch: pytest.MonkeyPatch) -> None:
     assert bridge.got("/")[0] == "404 Not Found"
     assert bridge.got("/p/nothing")[0] == "404 Not Found"
     assert bridge.got("/p/cgi")[:2] == (
@@ -202,10 +205,10 @@ def test_what_is_no_message(bridge, monkeypatch):
     assert bridge.got("/p/", "HEAD")[2] == b""
 
 
-def test_large_requests_are_read_one_after_the_other(bridge, monkeypatch):
+def test_large_requests_are_read_one_after_the_other(bridge: Bridge, monkeypatch: pytest.MonkeyPatch) -> None:
     large = request(extra=" " * 1024 * 1024)
-    monkeypatch.setattr(bridge.application._large, "wait_seconds", 0.01)
-    with bridge.application._large.held("large"):
+    monkeypatch.setattr(bridge.application.requests.reader.large, "wait_seconds", 0.01)
+    with bridge.application.requests.reader.large.held("large"):
         reply = bridge.call(large)
         assert value(reply, "message") == "The project is busy at the moment."
         assert (value(reply, "request_delay"), jobs(reply)) == ("60.000000", [])
@@ -213,12 +216,14 @@ def test_large_requests_are_read_one_after_the_other(bridge, monkeypatch):
     assert jobs(bridge.call(large)) == ["u1_0"]
 
 
-def test_a_fault_of_the_bridge_is_no_answer_to_a_client(bridge, monkeypatch):
+def test_a_fault_of_the_bridge_is_no_answer_to_a_client(
+    bridge: Bridge, monkeypatch: pytest.MonkeyPatch
+) -> None:
     monkeypatch.setattr(bridge.application.exchange, "answer", lambda _request: 1 // 0)
     assert bridge.got("/p/cgi", "POST", request().encode())[0] == "500 Internal Server Error"
 
 
-def test_downloads(bridge):
+def test_downloads(bridge: Bridge) -> None:
     status, fields, body = bridge.got("/p/download/sum_1")
     assert (status, fields["Content-Length"], body) == ("200 OK", "10", b"#!/bin/sh\n")
     status, fields, body = bridge.got("/p/download/sum_1", HTTP_RANGE="bytes=2-")
@@ -226,17 +231,21 @@ def test_downloads(bridge):
     assert bridge.got("/p/download/sum_1", HTTP_RANGE="bytes=10-")[0] == "416 Range Not Satisfiable"
     assert bridge.got("/p/download/sum_1", HTTP_RANGE="bytes=-1")[2] == b"#!/bin/sh\n"
     assert bridge.got("/p/download/sum_1", "HEAD")[2] == b""
+    changed = fields["Last-Modified"]  # nginx asks whether its copy is still good
+    assert bridge.got("/p/download/sum_1", HTTP_IF_MODIFIED_SINCE=changed)[::2] == ("304 Not Modified", b"")
+    os.utime(bridge.folder / "files" / "sum_1", (0, 0))
+    assert bridge.got("/p/download/sum_1", HTTP_IF_MODIFIED_SINCE=changed)[2] == b"#!/bin/sh\n"
     assert bridge.got("/p/download/sum_1", "POST")[0] == "405 Method Not Allowed"
 
 
 @pytest.mark.parametrize(
     "name", ["", "none", "../key", "..", ".", "/etc/passwd", "%2e%2e", "a/b", "sum_1/", "\x00"]
 )
-def test_what_may_not_be_downloaded(bridge, name):
+def test_what_may_not_be_downloaded(bridge: Bridge, name: str) -> None:
     assert bridge.got(f"/p/download/{name}")[0] == "404 Not Found"
 
 
-def further_file(bridge, key, members):
+def further_file(bridge: Bridge, key: Any, members: str) -> None:
     """Adds a further file to the version, and starts the bridge again."""
     (bridge.folder / "files" / "tool_1").write_text("#!/bin/sh\n")
     (bridge.folder / "tool_1.signature").write_text(
@@ -260,15 +269,17 @@ def further_file(bridge, key, members):
         (', executable = true, open_name = "tool"', "1"),
     ],
 )
-def test_a_further_file_of_a_version_can_be_a_program(bridge, key, members, executable):
+def test_a_further_file_of_a_version_can_be_a_program(
+    bridge: Bridge, key: Any, members: str, executable: str | None
+) -> None:
     further_file(bridge, key, members)
     reply = ElementTree.fromstring(bridge.call(request()))
-    told = {file.findtext("name"): file.findtext("executable") for file in reply.findall("file_info")}
-    assert told["sum_1"] == "1"
-    assert told["tool_1"] == executable
+    executables = {file.findtext("name"): file.findtext("executable") for file in reply.findall("file_info")}
+    assert executables["sum_1"] == "1"
+    assert executables["tool_1"] == executable
 
 
-def test_an_application_whose_results_are_reported_at_once(bridge):
+def test_an_application_whose_results_are_reported_at_once(bridge: Bridge) -> None:
     reply = bridge.call(request())
     assert (jobs(reply), value(reply, "report_immediately")) == (["u1_0"], None)
     path = bridge.folder / "catalogue.toml"
@@ -280,13 +291,13 @@ def test_an_application_whose_results_are_reported_at_once(bridge):
     ] == [("u2_0", "1")]
 
 
-def test_the_manager_gets_buttons(bridge):
+def test_the_manager_gets_buttons(bridge: Bridge) -> None:
     buttons = ElementTree.fromstring(bridge.call(request())).findall("gui_urls/gui_url")
     assert [button.findtext("url") for button in buttons] == ["http://127.0.0.1:8081/p/status"]
     assert bridge.got("/p/status")[0] == "200 OK"
 
 
-def test_the_manager_gets_a_button_for_the_account(open_bridge):
+def test_the_manager_gets_a_button_for_the_account(open_bridge: Bridge) -> None:
     buttons = ElementTree.fromstring(open_bridge.call(request())).findall("gui_urls/gui_url")
     assert [(button.findtext("name"), button.findtext("url")) for button in buttons] == [
         ("Your account", "http://127.0.0.1:8081/p/account"),
@@ -296,27 +307,29 @@ def test_the_manager_gets_a_button_for_the_account(open_bridge):
     assert open_bridge.got("/p/account")[0] == "200 OK"
 
 
-def test_files_that_are_read_slowly_leave_threads_for_pages_and_calls(bridge):
+def test_files_that_are_read_slowly_leave_threads_for_pages_and_calls(bridge: Bridge) -> None:
     """gunicorn has a thread for each file until its client has read it."""
-    told = []
+    changed = bridge.got("/p/download/two.txt")[1]["Last-Modified"]
+    started = []
 
-    def asked(name="two.txt", **more):
+    def asked(name: str = "two.txt", **more: str) -> Any:
         environ = {
             "REQUEST_METHOD": "GET",
             "PATH_INFO": f"/p/download/{name}",
             "SERVER_SOFTWARE": "gunicorn/20.1.0",
             **more,
         }
-        return bridge.application(environ, lambda status, fields: told.append(status[:3]))
+        return bridge.application(environ, lambda status, fields: started.append(status[:3]))
 
     for _ in range(10):  # none of these keeps a place
         asked("nothing")
         asked(HTTP_RANGE="bytes=9-")
         asked(REQUEST_METHOD="HEAD")
-    assert set(told) == {"404", "416", "200"}
-    told.clear()
+        asked(HTTP_IF_MODIFIED_SINCE=changed)
+    assert set(started) == {"404", "416", "200", "304"}
+    started.clear()
     slow = [asked() for _ in range(5)]
-    assert told == ["200"] * 4 + ["503"]
+    assert started == ["200"] * 4 + ["503"]
     assert jobs(bridge.call(request())) == ["u1_0"]
     slow[0].close()
-    assert b"".join(asked()) == b"2\n" and told[-1] == "200"
+    assert b"".join(asked()) == b"2\n" and started[-1] == "200"

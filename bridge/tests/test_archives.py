@@ -1,6 +1,7 @@
 """Credit from earlier files of the project is added to replies and to pages, and host numbers of such files
 name no host of the present one.
 """
+from pathlib import Path
 import re
 import sqlite3
 
@@ -13,9 +14,10 @@ from bsched_bridge.archives import Archives, read_archives
 from bsched_bridge.hosts import Key
 from bsched_bridge.operator_files import OperatorFault
 from bsched_bridge.settings import read_settings
+from bridges import Bridge
 
 
-def archive(path, credits):
+def archive(path: Path, credits: dict[tuple[str, str], int]) -> Path:
     """Makes an archive with some credit for each authenticator and host_cpid."""
     connection = sqlite3.connect(path)
     connection.executescript(plain_tables.FIRST_SCHEMA)
@@ -30,7 +32,7 @@ def archive(path, credits):
     return path
 
 
-def test_credit_is_summed_over_archives(tmp_path):
+def test_credit_is_summed_over_archives(tmp_path: Path) -> None:
     first = archive(tmp_path / "1.db", {("k1", "a"): 1000, ("k1", "b"): 500, ("k2", "a"): 7})
     second = archive(tmp_path / "2.db", {("k1", "a"): 30})
     archives = read_archives([first, second])
@@ -39,7 +41,7 @@ def test_credit_is_summed_over_archives(tmp_path):
     assert read_archives([]) == Archives()
 
 
-def test_an_archive_that_is_named_twice(tmp_path):
+def test_an_archive_that_is_named_twice(tmp_path: Path) -> None:
     first = archive(tmp_path / "1.db", {("k1", "a"): 1000})
     connection = sqlite3.connect(first)
     columns = "unit_id, num, host_id, sent, lapse, queued"
@@ -53,44 +55,44 @@ def test_an_archive_that_is_named_twice(tmp_path):
             read_archives([first, tmp_path / name])
 
 
-def test_a_file_that_is_no_archive(tmp_path):
+def test_a_file_that_is_no_archive(tmp_path: Path) -> None:
     path = tmp_path / "1.db"
-    for told in (b"", b"text" * 1000):
-        path.write_bytes(told)
+    for content in (b"", b"text" * 1000):
+        path.write_bytes(content)
         with pytest.raises(OperatorFault, match="1.db: can't be read as an archive"):
             read_archives([path])
 
 
-def test_settings(project):
+def test_settings(project: Path) -> None:
     path = project / "bridge.toml"
     text = path.read_text()
     assert read_settings(path).archives == ()
     (project / "2026.db").write_bytes(b"")
     path.write_text(f'{text}archives = ["2026.db"]\n')
     assert read_settings(path).archives == (project / "2026.db",)
-    for archives, told in (
+    for archives, message in (
         ('["none.db"]', "none.db is not a file"),
         ("[1]", "is not an array of texts in quotes"),
         ('"2026.db"', "is not an array of texts in quotes"),
     ):
         path.write_text(f"{text}archives = {archives}\n")
-        with pytest.raises(OperatorFault, match=f"line 8: archives.*{told}"):
+        with pytest.raises(OperatorFault, match=f"line 8: archives.*{message}"):
             read_settings(path)
 
 
-def test_replies_and_the_page_have_the_credit(project, bridge):
+def test_replies_and_the_page_have_the_credit(project: Path, bridge: Bridge) -> None:
     assert value(bridge.call(request()), "user_total_credit") == "0.000"
     archive(project / "2026.db", {("ann-key", "c1"): 4000, ("ann-key", "other"): 2500})
     with (project / "bridge.toml").open("a") as file:
         file.write('archives = ["2026.db"]\n')
     bridge.restart()
-    told = bridge.call(request(hostid=FIRST))
-    assert (value(told, "user_total_credit"), value(told, "host_total_credit")) == ("6.500", "4.000")
+    reply = bridge.call(request(hostid=FIRST))
+    assert (value(reply, "user_total_credit"), value(reply, "host_total_credit")) == ("6.500", "4.000")
     # the user's credit in the latest reply; the host's credit by its statement, which is 5.000 in the twin
     assert shown(bridge, "status") == ["1", "6.500", str(FIRST), "9.000", *"11111", "all", "", *"11111"]
 
 
-def shown(bridge, page):
+def shown(bridge: Bridge, page: str) -> list[str]:
     """Returns the numbers in the tables of a page."""
     return re.findall('<td class="number">([^<]*)</td>', bridge.got(f"/p/{page}")[2].decode())
 
@@ -98,7 +100,9 @@ def shown(bridge, page):
 ANN = "account_finish.php?auth=ann-key"
 
 
-def test_a_new_file_in_which_another_user_has_the_number_of_a_host(project, open_bridge, twin):
+def test_a_new_file_in_which_another_user_has_the_number_of_a_host(
+    project: Path, open_bridge: Bridge, twin: Twin
+) -> None:
     open_bridge.call(request())
     archive(project / "2026.db", {("ann-key", "c1"): 4000, ("ann-key", "other"): 2500})
     text = (project / "bridge.toml").read_text()

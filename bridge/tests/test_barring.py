@@ -1,4 +1,6 @@
 """What the operator's commands and volunteers do to accounts: lists, barring, deletion, and copies."""
+from pathlib import Path
+from typing import Any
 import io
 import json
 import os
@@ -16,12 +18,14 @@ from messages import request, value
 from bsched_bridge.__main__ import main
 from bsched_bridge.barring import Barred, forget
 from bsched_bridge.state_file import StateFault, StateFile
+from bridges import Bridge
+from bsched_bridge.scheduler import Reply
 
 ANN, PASSWORD = "ann@sums.example", "secret1"
 FORM = "application/x-www-form-urlencoded"
 
 
-def order(folder, name, *words):
+def order(folder: Path, name: str, *words: str) -> tuple[int, str, str]:
     """Runs a command of the operator, and returns its status and what it prints."""
     argv = ["bsched-bridge", name, "--config", str(folder / "bridge.toml"), *words]
     out, err = io.StringIO(), io.StringIO()
@@ -32,21 +36,21 @@ def order(folder, name, *words):
     return status, out.getvalue(), err.getvalue()
 
 
-def done(folder, name, *words):
+def done(folder: Path, name: str, *words: str) -> str:
     """Returns what a command prints that must succeed."""
-    status, told, fault = order(folder, name, *words)
+    status, output, fault = order(folder, name, *words)
     assert (status, fault) == (0, "")
-    return told
+    return output
 
 
-def refused(folder, name, *words):
+def refused(folder: Path, name: str, *words: str) -> str:
     """Returns the one line of a command that must be refused."""
-    status, told, fault = order(folder, name, *words)
-    assert (status, told, fault.count("\n")) == (1, "", 1)
+    status, output, fault = order(folder, name, *words)
+    assert (status, output, fault.count("\n")) == (1, "", 1)
     return fault
 
 
-def posted(bridge, page, **fields):
+def posted(bridge: Bridge, page: str, **fields: str) -> str:
     """Sends a form, and returns the text of the page."""
     body = urlencode(fields).encode()
     status, _, text = bridge.got(f"/p/{page}", "POST", body, CONTENT_TYPE=FORM, REMOTE_ADDR=CLIENT)
@@ -54,12 +58,12 @@ def posted(bridge, page, **fields):
     return text.decode()
 
 
-def message(bridge, key, cpid="c1"):
+def message(bridge: Bridge, key: str, cpid: str = "c1") -> str:
     """Returns what a client with a key reads."""
     return value(bridge.call(request(key=key, cpid=cpid)), "message")
 
 
-def files_with(folder, text):
+def files_with(folder: Path, text: str) -> list[Any]:
     """Returns the files of a folder that have a text."""
     return [path.name for path in folder.iterdir() if path.is_file() and text.encode() in path.read_bytes()]
 
@@ -67,7 +71,7 @@ def files_with(folder, text):
 # ---- Lists
 
 
-def test_accounts_are_listed_while_the_bridge_serves(project, open_bridge):
+def test_accounts_are_listed_while_the_bridge_serves(project: Path, open_bridge: Bridge) -> None:
     key = create(open_bridge)
     open_bridge.call(request(key=key))
     open_bridge.call(request(key="bob-key"))
@@ -80,7 +84,7 @@ def test_accounts_are_listed_while_the_bridge_serves(project, open_bridge):
 
 
 @pytest.mark.parametrize("by", ["address", "ADDRESS", "name", "key", "front"])
-def test_an_account_is_shown_by_any_of_its_names(project, open_bridge, by):
+def test_an_account_is_shown_by_any_of_its_names(project: Path, open_bridge: Bridge, by: str) -> None:
     key = create(open_bridge)
     open_bridge.call(request(key=key))
     names = {
@@ -90,12 +94,12 @@ def test_an_account_is_shown_by_any_of_its_names(project, open_bridge, by):
         "key": key,
         "front": key[:8],
     }
-    told = done(project, "show", names[by])
-    assert f"key: {key}\n" in told and f"address: {ANN}\n" in told and "state: good\n" in told
-    assert re.search(r"^computer \d+ \(1 in the tables\): 0.000 credit, called last ", told, re.MULTILINE)
+    output = done(project, "show", names[by])
+    assert f"key: {key}\n" in output and f"address: {ANN}\n" in output and "state: good\n" in output
+    assert re.search(r"^computer \d+ \(1 in the tables\): 0.000 credit, called last ", output, re.MULTILINE)
 
 
-def test_what_names_no_account_or_several(project, open_bridge):
+def test_what_names_no_account_or_several(project: Path, open_bridge: Bridge) -> None:
     one, other = create(open_bridge), create(open_bridge, "bob@sums.example")
     for key in (one, other):
         posted(open_bridge, "account_finish.php", key=key, name="Same")
@@ -104,7 +108,7 @@ def test_what_names_no_account_or_several(project, open_bridge):
     assert "2 accounts have this name" in refused(project, "bar", "Same")
 
 
-def test_who_agreed_to_be_named(project, open_bridge):
+def test_who_agreed_to_be_named(project: Path, open_bridge: Bridge) -> None:
     key, other = create(open_bridge), create(open_bridge, "bob@sums.example")
     posted(open_bridge, "account_finish.php", key=key, name='Zoë, "Z"', is_exported="1")
     posted(open_bridge, "account_finish.php", key=other, name="Bob")
@@ -119,7 +123,7 @@ def test_who_agreed_to_be_named(project, open_bridge):
 # ---- Barring
 
 
-def test_an_account_is_barred_and_freed_at_once(project, open_bridge):
+def test_an_account_is_barred_and_freed_at_once(project: Path, open_bridge: Bridge) -> None:
     key = create(open_bridge)
     assert "barred" in done(project, "bar", ANN)
     assert "has barred this account" in message(open_bridge, key)
@@ -128,7 +132,7 @@ def test_an_account_is_barred_and_freed_at_once(project, open_bridge):
     assert value(open_bridge.call(request(key=key)), "hostid") is not None
 
 
-def test_the_list_of_the_settings_counts_too(project, open_bridge):
+def test_the_list_of_the_settings_counts_too(project: Path, open_bridge: Bridge) -> None:
     key = create(open_bridge)
     path = project / "bridge.toml"
     path.write_text(f'barred = ["{key}"]\ncontact = "op@sums.example"\n' + path.read_text())
@@ -140,7 +144,7 @@ def test_the_list_of_the_settings_counts_too(project, open_bridge):
 # ---- Deletion
 
 
-def is_forgotten(project, bridge, key):
+def is_forgotten(project: Path, bridge: Bridge, key: str) -> None:
     """Checks that nothing of a volunteer is left."""
     (row,) = bridge.file.rows(
         "SELECT email, secret, name, consent_at, is_exported FROM member WHERE authenticator = ?", key
@@ -152,7 +156,7 @@ def is_forgotten(project, bridge, key):
     bridge.start()
 
 
-def test_a_volunteer_deletes_the_account(project, open_bridge):
+def test_a_volunteer_deletes_the_account(project: Path, open_bridge: Bridge) -> None:
     key = create(open_bridge)
     open_bridge.call(request(key=key, cpid="computer-of-ann"))
     posted(open_bridge, "account_finish.php", key=key, name="Zoë", is_exported="1")
@@ -173,18 +177,18 @@ def test_a_volunteer_deletes_the_account(project, open_bridge):
     assert again != key and value(open_bridge.call(request(key=again)), "hostid") is not None
 
 
-def test_nobody_gets_a_deleted_account_back_by_its_key(project, open_bridge):
+def test_nobody_gets_a_deleted_account_back_by_its_key(project: Path, open_bridge: Bridge) -> None:
     key = create(open_bridge)
     done(project, "delete", "--yes", ANN)
-    told = posted(open_bridge, "get_passwd.php", key=key, email="eve@sums.example", password="secret2")
-    assert "No account has this key" in told
+    output = posted(open_bridge, "get_passwd.php", key=key, email="eve@sums.example", password="secret2")
+    assert "No account has this key" in output
     assert open_bridge.got(f"/p/account_finish.php?auth={key}")[0] == "404 Not Found"
     query = f"/p/lookup_account.php?email_addr={key}&passwd_hash={client_hash('x', key)}"
     assert b"-155" in open_bridge.got(query, REMOTE_ADDR=CLIENT)[2]
     assert files_with(project, "eve@sums.example") == []
 
 
-def test_the_operator_deletes_an_account(project, open_bridge):
+def test_the_operator_deletes_an_account(project: Path, open_bridge: Bridge) -> None:
     key = create(open_bridge)
     open_bridge.call(request(key=key))
     assert "--yes" in refused(project, "delete", ANN)
@@ -192,31 +196,31 @@ def test_the_operator_deletes_an_account(project, open_bridge):
     is_forgotten(project, open_bridge, key)
     assert "was deleted" in refused(project, "unbar", key)
     assert "deleted" in done(project, "bar", key)
-    told = json.loads(done(project, "consented", "--json"))
-    assert told == {"authenticator": key, "name": "deleted", "is_deleted": True}
+    output = json.loads(done(project, "consented", "--json"))
+    assert output == {"authenticator": key, "name": "deleted", "is_deleted": True}
     assert done(project, "consented") == "" and "0 users" not in done(project, "members")
 
 
-def test_a_message_in_work_writes_nothing_of_a_deleted_account(project, open_bridge):
+def test_a_message_in_work_writes_nothing_of_a_deleted_account(project: Path, open_bridge: Bridge) -> None:
     """A call is under way when its account is deleted, and so are changes of the name and the password."""
     key = create(open_bridge)
     member = open_bridge.members.of_key(key)
     scheduler = open_bridge.application.scheduler
     call_once = scheduler.call_once
 
-    def deleted_meanwhile(body):
+    def deleted_meanwhile(body: bytes) -> Reply:
         open_bridge.application.exchange.barring.delete(key, 7)
         return call_once(body)
 
     scheduler.call_once = deleted_meanwhile
     open_bridge.call(request(key=key, cpid="computer-of-ann"))
-    open_bridge.members.changed(member, "Zoë", True)
-    open_bridge.members.has_password(member, ANN, member.secret)
+    open_bridge.members.change(member, "Zoë", True)
+    open_bridge.members.set_password(member, ANN, member.secret)
     is_forgotten(project, open_bridge, key)
     assert files_with(project, "computer-of-ann") == []
 
 
-def test_a_stop_within_a_deletion(project, open_bridge):
+def test_a_stop_within_a_deletion(project: Path, open_bridge: Bridge) -> None:
     """The account is whole or gone: a deletion is one transaction."""
     key = create(open_bridge)
     barring = open_bridge.application.exchange.barring
@@ -226,7 +230,7 @@ def test_a_stop_within_a_deletion(project, open_bridge):
         class Counted:
             """Counts statements, and ends at one of them."""
 
-            def execute(self, *words):
+            def execute(self, *words: str | tuple[Any, ...]) -> Any:
                 left[0] -= 1
                 if left[0] == 0:
                     raise RuntimeError
@@ -243,7 +247,7 @@ def test_a_stop_within_a_deletion(project, open_bridge):
 # ---- Copies
 
 
-def test_a_copy_while_the_bridge_serves(project, open_bridge):
+def test_a_copy_while_the_bridge_serves(project: Path, open_bridge: Bridge) -> None:
     key = create(open_bridge)
     copies = project / "copies"
     copies.mkdir()
@@ -262,7 +266,7 @@ def test_a_copy_while_the_bridge_serves(project, open_bridge):
     assert look_up(open_bridge) == key
 
 
-def test_commands_need_a_bridge_that_ran_once(project):
+def test_commands_need_a_bridge_that_ran_once(project: Path) -> None:
     assert "the bridge makes it at its first start" in refused(project, "members")
     StateFile(project / "bridge.db").close()
     assert done(project, "members") == ""
@@ -273,7 +277,7 @@ def test_commands_need_a_bridge_that_ran_once(project):
 
 
 @pytest.mark.skipif(os.geteuid() != 0, reason="only root reads the files of others")
-def test_root_leaves_no_file_of_its_own(project):
+def test_root_leaves_no_file_of_its_own(project: Path) -> None:
     StateFile(project / "bridge.db").close()
     for path in (project, *project.iterdir()):
         os.chown(path, 65534, 65534)
@@ -287,7 +291,7 @@ def test_root_leaves_no_file_of_its_own(project):
     assert (project / "a.state").stat().st_uid == 65534
 
 
-def test_a_second_bridge_is_refused_while_a_command_works(project, open_bridge):
+def test_a_second_bridge_is_refused_while_a_command_works(project: Path, open_bridge: Bridge) -> None:
     guest = StateFile(project / "bridge.db", is_guest=True)
     with pytest.raises(StateFault, match="no other bridge may have it"):
         StateFile(project / "bridge.db")
@@ -295,8 +299,8 @@ def test_a_second_bridge_is_refused_while_a_command_works(project, open_bridge):
     assert create(open_bridge)
 
 
-def test_the_version():
+def test_the_version() -> None:
     command = [sys.executable, "-m", "bsched_bridge", "--version"]
     bridge = os.path.dirname(os.path.dirname(os.path.abspath(__file__)))
-    told = subprocess.run(command, capture_output=True, text=True, timeout=60, cwd=bridge)
-    assert re.fullmatch(r"bsched-bridge \d+\.\d+\.\d+\n", told.stdout)
+    completed = subprocess.run(command, capture_output=True, text=True, timeout=60, cwd=bridge)
+    assert re.fullmatch(r"bsched-bridge \d+\.\d+\.\d+\n", completed.stdout)

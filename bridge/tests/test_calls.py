@@ -1,4 +1,5 @@
 """The JSON of calls, at the limits of the profile."""
+from typing import Any
 import json
 from dataclasses import replace
 
@@ -8,19 +9,20 @@ from plain_formats import record_of
 
 from bsched_bridge import calls
 from bsched_bridge.client_requests import Report, read_request
+from bsched_bridge.client_requests import ClientRequest
 
 REQUEST = read_request([request(hostid=7).encode()])
 
 
-def told(asked, in_hand=(), seconds=0):
+def call(asked: ClientRequest, in_hand: list[str] | tuple[Any, ...] = (), seconds: int = 0) -> dict[str, Any]:
     """Returns the record of the call of a request. The twin's reader must accept it."""
     body = calls.call_text(asked, "made", 5, list(in_hand), seconds)
     record_of(body)
     return json.loads(body)
 
 
-def test_a_call():
-    assert told(REQUEST) == {
+def test_a_call() -> None:
+    assert call(REQUEST) == {
         "authenticator": "ann-key",
         "hostid": 0,
         "rpc_seqno": 5,
@@ -38,30 +40,30 @@ def test_a_call():
     }
 
 
-def test_no_list_is_another_request_than_an_empty_one():
-    assert "other_results" not in told(replace(REQUEST, other_results=None))
+def test_no_list_is_another_request_than_an_empty_one() -> None:
+    assert "other_results" not in call(replace(REQUEST, other_results=None))
 
 
-def test_jobs_in_hand_are_told_as_had():
-    call = told(replace(REQUEST, other_results=("u1_0",)), ["u2_0", "u1_0"], 20)
-    assert call["other_results"] == ["u1_0", "u2_0"]
-    assert call["work_req_seconds"] == 40
-    assert told(REQUEST, ["u2_0"], 100)["work_req_seconds"] == 0
-    assert "other_results" not in told(replace(REQUEST, other_results=None), ["u2_0"], 20)
+def test_jobs_in_hand_are_told_as_had() -> None:
+    sent = call(replace(REQUEST, other_results=("u1_0",)), ["u2_0", "u1_0"], 20)
+    assert sent["other_results"] == ["u1_0", "u2_0"]
+    assert sent["work_req_seconds"] == 40
+    assert call(REQUEST, ["u2_0"], 100)["work_req_seconds"] == 0
+    assert "other_results" not in call(replace(REQUEST, other_results=None), ["u2_0"], 20)
 
 
-def test_more_reports_than_fit_are_told_by_name():
-    call = told(replace(REQUEST, results=tuple(Report(f"u_{number}", 0, "") for number in range(300))))
-    assert [report["name"] for report in call["results"]] == [f"u_{number}" for number in range(256)]
-    assert call["other_results"] == [f"u_{number}" for number in range(256, 300)]
+def test_more_reports_than_fit_are_told_by_name() -> None:
+    sent = call(replace(REQUEST, results=tuple(Report(f"u_{number}", 0, "") for number in range(300))))
+    assert [report["name"] for report in sent["results"]] == [f"u_{number}" for number in range(256)]
+    assert sent["other_results"] == [f"u_{number}" for number in range(256, 300)]
 
 
-def test_more_names_than_fit_are_left_out():
+def test_more_names_than_fit_are_left_out() -> None:
     names = tuple(f"u_{number}" for number in range(1024))
-    assert len(told(replace(REQUEST, other_results=names))["other_results"]) == 1024
-    assert "other_results" not in told(replace(REQUEST, other_results=(*names, "more")))
+    assert len(call(replace(REQUEST, other_results=names))["other_results"]) == 1024
+    assert "other_results" not in call(replace(REQUEST, other_results=(*names, "more")))
     results = tuple(Report(f"r_{number}", 0, "") for number in range(257))
-    assert "other_results" not in told(replace(REQUEST, other_results=names, results=results))
+    assert "other_results" not in call(replace(REQUEST, other_results=names, results=results))
 
 
 @pytest.mark.parametrize(
@@ -71,10 +73,10 @@ def test_more_names_than_fit_are_left_out():
 )
 @pytest.mark.parametrize("length", [5, 254])
 @pytest.mark.parametrize("listed", [None, 0, 700, 1024])
-def test_no_call_is_too_large(output, length, listed):
+def test_no_call_is_too_large(output: str, length: int, listed: int | None) -> None:
     results = tuple(Report(f"{number:04}".rjust(length, "r"), 0, output) for number in range(300))
     other = None if listed is None else tuple(f"{number:04}".rjust(length, "o") for number in range(listed))
-    call = told(replace(REQUEST, results=results, other_results=other))
-    assert call["results"]
-    if "other_results" in call:  # each result is either reported or listed
-        assert len(call["results"]) + len(call["other_results"]) == 300 + listed
+    sent = call(replace(REQUEST, results=results, other_results=other))
+    assert sent["results"]
+    if "other_results" in sent:  # each result is either reported or listed
+        assert len(sent["results"]) + len(sent["other_results"]) == 300 + listed

@@ -1,4 +1,5 @@
 """What the bridge reads from XML, and what it refuses."""
+from typing import Any
 import re
 import subprocess
 import sys
@@ -14,60 +15,61 @@ from messages import request
 from bsched_bridge import client_requests, request_parts
 from bsched_bridge.client_requests import Report
 from bsched_bridge.request_parts import MOST_XML, RequestFault, between
+from bsched_bridge.client_requests import ClientRequest
 
 RECORDED = Path(__file__).parent / "requests"
 
 
-def recorded(name):
+def recorded(name: str) -> bytes:
     return (RECORDED / f"{name}.xml").read_bytes()
 
 
-def read_request(body, size=65_536):
+def read_request(body: bytes, size: int = 65_536) -> ClientRequest | None:
     """Returns the request in a body that comes in blocks of a size."""
     return client_requests.read_request(body[start : start + size] for start in range(0, len(body), size))
 
 
-def test_a_first_request():
-    told = read_request(recorded("first"))
-    assert told.authenticator == "ann-key"
-    assert told.hostid == 0
-    assert told.host_cpid == "0fb84cfbc167689574d58ef96c0de1b7"
+def test_a_first_request() -> None:
+    parsed = read_request(recorded("first"))
+    assert parsed.authenticator == "ann-key"
+    assert parsed.hostid == 0
+    assert parsed.host_cpid == "0fb84cfbc167689574d58ef96c0de1b7"
     # rounded down
-    assert (told.p_fpops, told.m_nbytes, told.d_free) == (1_000_000_000, 25_276_080_128, 66_681_540_608)
-    assert told.work_req_seconds == 1  # rounded up
-    assert (told.platform_name, told.alt_platforms) == ("x86_64-pc-linux-gnu", ("i686-pc-linux-gnu",))
-    assert told.other_results == ()  # the client says that it has nothing
-    assert told.results == ()
-    assert told.code_sign_key == ""
+    assert (parsed.p_fpops, parsed.m_nbytes, parsed.d_free) == (1_000_000_000, 25_276_080_128, 66_681_540_608)
+    assert parsed.work_req_seconds == 1  # rounded up
+    assert (parsed.platform_name, parsed.alt_platforms) == ("x86_64-pc-linux-gnu", ("i686-pc-linux-gnu",))
+    assert parsed.other_results == ()  # the client says that it has nothing
+    assert parsed.results == ()
+    assert parsed.code_sign_key == ""
 
 
-def test_reports_and_what_the_client_has():
-    told = read_request(recorded("reports"))
-    assert told.hostid == 1
-    assert told.other_results == ("sum_5_0", "sum_6_1")
-    assert told.results == (
+def test_reports_and_what_the_client_has() -> None:
+    parsed = read_request(recorded("reports"))
+    assert parsed.hostid == 1
+    assert parsed.other_results == ("sum_5_0", "sum_6_1")
+    assert parsed.results == (
         Report("sum_1_0", 0, "500500"),
         # not finished, so no success
         Report("sum_2_0", 1, "<message>\ncouldn't start app: missing file</message>"),
         Report("sum_3_0", 203, "half"),
         Report("sum_4_0", 0, "-12"),  # what the program marked as its answer
     )
-    assert told.code_sign_key == "102400ff."
+    assert parsed.code_sign_key == "102400ff."
 
 
-def test_no_list_and_numbers_out_of_range():
-    told = read_request(recorded("unlisted"))
-    assert told.other_results is None
-    assert (told.p_fpops, told.m_nbytes, told.d_free) == (1, 0, 10**18)
-    assert told.work_req_seconds == 0
+def test_no_list_and_numbers_out_of_range() -> None:
+    parsed = read_request(recorded("unlisted"))
+    assert parsed.other_results is None
+    assert (parsed.p_fpops, parsed.m_nbytes, parsed.d_free) == (1, 0, 10**18)
+    assert parsed.work_req_seconds == 0
 
 
-def test_more_than_the_profile_takes():
+def test_more_than_the_profile_takes() -> None:
     platforms = "".join(f"<alt_platform><name>p{number}</name></alt_platform>" for number in range(9))
-    told = read_request(request(seconds=1e12, extra=platforms, reports=[("u1_0", "é" * 600)]).encode())
-    assert told.work_req_seconds == 10**9
-    assert told.alt_platforms == tuple(f"p{number}" for number in range(7))
-    assert told.results[0].output == "é" * 512
+    parsed = read_request(request(seconds=1e12, extra=platforms, reports=[("u1_0", "é" * 600)]).encode())
+    assert parsed.work_req_seconds == 10**9
+    assert parsed.alt_platforms == tuple(f"p{number}" for number in range(7))
+    assert parsed.results[0].output == "é" * 512
     assert (
         read_request(request(reports=[("u1_0", "x" + "é" * 600)]).encode()).results[0].output
         == "x" + "é" * 511
@@ -90,17 +92,17 @@ def test_more_than_the_profile_takes():
         (b"]]>\n<name>u9_9</name>", "]]>\n<name>u9_9</name>"),
     ],
 )
-def test_standard_error_of_any_bytes(output, read):
+def test_standard_error_of_any_bytes(output: bytes, read: str) -> None:
     body = request(reports=[("u1_0", "HERE")]).encode().replace(b"HERE", output)
     assert read_request(body).results[0].output == read
 
 
-def test_each_result_has_its_own_standard_error():
+def test_each_result_has_its_own_standard_error() -> None:
     body = request(reports=[("u1_0", "a ]]> b"), ("u2_0", "c"), ("u3_0", "]]>")])
     assert [report.output for report in read_request(body.encode()).results] == ["a ]]> b", "c", "]]>"]
 
 
-def test_sections_are_looked_at_once():
+def test_sections_are_looked_at_once() -> None:
     part = b"<stderr_out><![CDATA["
     began = time.process_time()
     for body in (part * 350_000, (part + b"]]>") * 350_000, (part + b"]]></stderr_out>") * 200_000):
@@ -116,7 +118,7 @@ PARTS = [b"<t>", b"</t>", b"<", b">", b"t", b"/", b"\n", b"\r", b"\xe2", b"\xa8"
 @example(b"</t><t>a<t>b</t>c</t>d")
 @example(b"<t></t>")
 @example(b"<t>a")
-def test_what_is_between_two_tags(text):
+def test_what_is_between_two_tags(text: bytes) -> None:
     for pattern, to_the_last in ((b"<t>(.*?)</t>", False), (b"<t>(.*)</t>", True)):
         found = re.search(pattern, text, re.DOTALL)
         assert between(text, b"<t>", b"</t>", to_the_last) == (found and found[1])
@@ -124,7 +126,7 @@ def test_what_is_between_two_tags(text):
 
 @pytest.mark.parametrize("name", ["first", "reports", "unlisted"])
 @given(size=st.integers(1, 300))
-def test_the_size_of_blocks_makes_no_difference(name, size):
+def test_the_size_of_blocks_makes_no_difference(name: str, size: int) -> None:
     assert read_request(recorded(name), size) == read_request(recorded(name))
 
 
@@ -134,7 +136,7 @@ def test_the_size_of_blocks_makes_no_difference(name, size):
     ),
     st.integers(1, 60),
 )
-def test_any_standard_error_in_blocks_of_any_size(parts, size):
+def test_any_standard_error_in_blocks_of_any_size(parts: list[str], size: int) -> None:
     output = "".join(parts)
     body = request(reports=[("u1_0", "HERE"), ("u2_0", "two")]).replace("HERE", f"<answer>{output}</answer>")
     expected = output.partition("</answer>")[0].strip()
@@ -142,7 +144,7 @@ def test_any_standard_error_in_blocks_of_any_size(parts, size):
         assert [one.output for one in read_request(body.encode(), size).results] == [expected, "two"]
 
 
-def test_messages_of_programs_are_left_out():
+def test_messages_of_programs_are_left_out() -> None:
     message = (
         "<msg_from_host>\n<result_name>u1_0</result_name>\n<text>a < b & c]]>\x01</text>\n</msg_from_host>\n"
     )
@@ -153,7 +155,7 @@ def test_messages_of_programs_are_left_out():
 
 
 @pytest.mark.parametrize("tag", ["<answer>", "<stderr_txt>", "<stderr_txt><answer>"])
-def test_tags_that_are_never_closed(tag):
+def test_tags_that_are_never_closed(tag: str) -> None:
     output = tag * (request_parts.MOST_ERROR // 25)
     assert (
         read_request(
@@ -166,7 +168,7 @@ def test_tags_that_are_never_closed(tag):
 
 
 @pytest.mark.parametrize(
-    "told, status",
+    "exit_elements, status",
     [
         ("0</exit_status><state>5", 0),
         ("0</exit_status><state>3", 1),
@@ -175,19 +177,19 @@ def test_tags_that_are_never_closed(tag):
         ("7</exit_status><state>5", 7),
     ],
 )
-def test_exit_statuses(told, status):
-    body = request(reports=[("u1_0", "")]).replace("0</exit_status><state>5", told)
+def test_exit_statuses(exit_elements: str, status: int) -> None:
+    body = request(reports=[("u1_0", "")]).replace("0</exit_status><state>5", exit_elements)
     assert read_request(body.encode()).results[0].exit_status == status
 
 
-def test_a_result_that_can_have_no_name_is_passed_over():
+def test_a_result_that_can_have_no_name_is_passed_over() -> None:
     assert read_request(request(reports=[("u" * 255, ""), ("u1_0", "")]).encode()).results == (
         Report("u1_0", 0, ""),
     )
 
 
 @pytest.mark.parametrize("name", ["first", "reports", "unlisted"])
-def test_a_request_that_is_cut_anywhere_is_refused(name):
+def test_a_request_that_is_cut_anywhere_is_refused(name: str) -> None:
     body = recorded(name).rstrip()
     for end in range(len(body)):
         with pytest.raises(RequestFault):
@@ -217,12 +219,12 @@ FAULTS = {
 
 
 @pytest.mark.parametrize("fault", FAULTS)
-def test_faulty_requests(fault):
+def test_faulty_requests(fault: str) -> None:
     with pytest.raises(RequestFault):
         read_request(FAULTS[fault].encode())
 
 
-def test_a_huge_request():
+def test_a_huge_request() -> None:
     with pytest.raises(RequestFault, match="request is too long"):
         read_request(b"<scheduler_request>" + b" " * MOST_XML)
     with pytest.raises(RequestFault, match="standard error of a result is too long"):
@@ -232,48 +234,48 @@ def test_a_huge_request():
 
 
 @pytest.mark.parametrize("text", ["<a/>" * client_requests.MOST_ELEMENTS, "<a>" * 21])
-def test_a_request_of_too_many_elements(text):
+def test_a_request_of_too_many_elements(text: str) -> None:
     with pytest.raises(RequestFault, match="too many elements"):
         read_request(b"<scheduler_request>" + text.encode())
 
 
-def test_a_request_of_too_many_results():
+def test_a_request_of_too_many_results() -> None:
     error = b"<stderr_out></stderr_out>"
     with pytest.raises(RequestFault, match="too many results"):
         read_request(b"<scheduler_request>" + error * (request_parts.MOST_ERRORS + 1))
 
 
 @pytest.mark.parametrize("text", ["<a " + "".join(f"a{n}=''" for n in range(20_000)), "<!--" + "x" * 140_000])
-def test_a_tag_of_too_many_attributes(text):
+def test_a_tag_of_too_many_attributes(text: str) -> None:
     with pytest.raises(RequestFault):
         read_request(b"<scheduler_request>" + text.encode())
 
 
-def test_bytes_that_are_no_xml_outside_of_a_standard_error():
-    told = read_request(request(extra="<name>A\x01HERE\ufffe</name>").encode().replace(b"HERE", b"\xff"))
-    assert told.host_cpid == "c1"
+def test_bytes_that_are_no_xml_outside_of_a_standard_error() -> None:
+    parsed = read_request(request(extra="<name>A\x01HERE\ufffe</name>").encode().replace(b"HERE", b"\xff"))
+    assert parsed.host_cpid == "c1"
 
 
-def test_hostile_requests_take_little_memory_and_time():
+def test_hostile_requests_take_little_memory_and_time() -> None:
     """Eight at once take as much memory as 64, since the others wait; bridge/tests/hostile.py reads more."""
-    told = subprocess.run(
+    completed = subprocess.run(
         [sys.executable, Path(__file__).parent / "hostile.py", "8", "2"],
         check=True,
         capture_output=True,
         text=True,
     ).stdout
-    lines = re.findall(r"^(\d+) MB, ([0-9.]+) seconds: ", told, re.MULTILINE)
+    lines = re.findall(r"^(\d+) MB, ([0-9.]+) seconds: ", completed, re.MULTILINE)
     assert len(lines) == len(SHAPES)
     assert max(int(peak) for peak, _ in lines) < 300
     assert max(float(seconds) for _, seconds in lines) < 2
 
 
-def test_a_deep_request():
+def test_a_deep_request() -> None:
     with pytest.raises(RequestFault):
         read_request(b"<scheduler_request>" + b"<a>" * 100_000)
 
 
-def test_a_number_of_many_digits():
+def test_a_number_of_many_digits() -> None:
     assert read_request(request(m_nbytes="1e999999", d_free="1" * 100_000).encode()).m_nbytes == 10**18
 
 
@@ -301,11 +303,13 @@ GIVEN_UP = UPLOADED.replace("u1_0_0", "u1_0_1").replace(
         ("<file_info><error_msg/></file_info>", 0, (-187, "output file  was not uploaded: ")),
     ],
 )
-def test_a_result_whose_upload_was_given_up_is_no_success(files, status, report):
+def test_a_result_whose_upload_was_given_up_is_no_success(
+    files: str, status: int, report: tuple[int, str]
+) -> None:
     body = (
         request(reports=[("u1_0", "7")])
         .replace("<exit_status>0</exit_status>", f"<exit_status>{status}</exit_status>")
         .replace("</stderr_out></result>", f"</stderr_out>{files}</result>")
     )
-    (told,) = read_request(body.encode()).results
-    assert (told.exit_status, told.output) == report
+    (result,) = read_request(body.encode()).results
+    assert (result.exit_status, result.output) == report

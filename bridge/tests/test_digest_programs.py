@@ -1,4 +1,6 @@
 """Digest programs: what they can reach, how they end, and what bsched gets."""
+from collections.abc import Callable
+from typing import Any
 import shutil
 import socket
 import subprocess
@@ -15,12 +17,13 @@ from bsched_bridge.catalogue import read_catalogue
 from bsched_bridge.digest_programs import BadFiles, DigestFault, DigestProgram, check_digest, digest_of
 from bsched_bridge.operator_files import OperatorFault
 from bsched_bridge.output_files import OutputFile
+from bridges import Bridge
 
 EXAMPLES = Path(__file__).resolve().parent.parent.parent / "examples" / "digest_programs"
 OUT = OutputFile("out", 1000, False, True), OutputFile("log", 1000, True, False)
 
 
-def can_run():
+def can_run() -> bool:
     """Returns whether bubblewrap works here: some machines allow no namespaces."""
     words = [digest_programs.BWRAP, "--unshare-all", "--ro-bind", "/", "/", "/bin/true"]
     return shutil.which(digest_programs.BWRAP) and subprocess.run(words, capture_output=True).returncode == 0
@@ -30,10 +33,10 @@ pytestmark = pytest.mark.skipif(not can_run(), reason="bubblewrap can't run here
 
 
 @pytest.fixture
-def program(tmp_path):
+def program(tmp_path: Path) -> Callable[..., Any]:
     """Returns a function that makes a digest program of a shell script."""
 
-    def made(text, seconds=10, example=None):
+    def made(text: str, seconds: int = 10, example: Path | None = None) -> DigestProgram:
         path = tmp_path / "program"
         path.write_text(f"#!/bin/sh\n{text}\n")
         path.chmod(0o755)
@@ -43,14 +46,16 @@ def program(tmp_path):
 
 
 @pytest.fixture
-def out(tmp_path):
+def out(tmp_path: Path) -> list[tuple[str, Path]]:
     """Returns the files of a result: one that has some words."""
     path = tmp_path / "content"
     path.write_text("some words\n")
     return [("out", path)]
 
 
-def test_the_program_gets_the_files_in_their_order(program, tmp_path, out):
+def test_the_program_gets_the_files_in_their_order(
+    program: Callable[..., Any], tmp_path: Path, out: list[tuple[str, Path]]
+) -> None:
     other = tmp_path / "other"
     other.write_text("more\n")
     files = [("b", other), *out]
@@ -58,7 +63,7 @@ def test_the_program_gets_the_files_in_their_order(program, tmp_path, out):
 
 
 @pytest.mark.parametrize(
-    "script, said",
+    "script, output",
     [
         ("env | grep -v ^PWD=; true", ""),  # the shell itself sets PWD
         ("id -u", "65534"),
@@ -77,9 +82,11 @@ def test_the_program_gets_the_files_in_their_order(program, tmp_path, out):
         ("python3 -c 'bytes(2 << 30)' 2> /dev/null || echo refused", "refused"),
     ],
 )
-def test_what_a_program_can_reach(program, out, script, said):
-    told = digest_of(program(script), out)
-    assert told.replace("etc\n", "") == said
+def test_what_a_program_can_reach(
+    program: Callable[..., Any], out: list[tuple[str, Path]], script: str, output: str
+) -> None:
+    text = digest_of(program(script), out)
+    assert text.replace("etc\n", "") == output
 
 
 @pytest.mark.parametrize(
@@ -93,18 +100,24 @@ def test_what_a_program_can_reach(program, out, script, said):
         ("exec /none", "its status is 12[67]"),
     ],
 )
-def test_a_program_that_fails_says_nothing(program, out, script, fault):
+def test_a_program_that_fails_says_nothing(
+    program: Callable[..., Any], out: list[tuple[str, Path]], script: str, fault: str
+) -> None:
     with pytest.raises(DigestFault, match=fault):
         digest_of(program(script), out)
 
 
-def test_a_program_can_not_reach_this_machine(program, out):
+def test_a_program_can_not_reach_this_machine(
+    program: Callable[..., Any], out: list[tuple[str, Path]]
+) -> None:
     with socket.create_server(("127.0.0.1", 0)) as server:
         script = f'socket.socket().connect_ex(("127.0.0.1", {server.getsockname()[1]}))'
         assert digest_of(program(f"python3 -c 'import socket; print({script})'"), out) == "111"
 
 
-def test_a_program_that_takes_too_long_is_killed(program, out):
+def test_a_program_that_takes_too_long_is_killed(
+    program: Callable[..., Any], out: list[tuple[str, Path]]
+) -> None:
     began = time.monotonic()
     with pytest.raises(DigestFault, match="more than 1 seconds"):
         digest_of(program("sleep 300 & sleep 299", seconds=1), out)
@@ -112,18 +125,20 @@ def test_a_program_that_takes_too_long_is_killed(program, out):
     assert subprocess.run(["pgrep", "-f", "sleep 299"], capture_output=True).stdout == b""
 
 
-def test_1024_bytes_are_read(program, out):
+def test_1024_bytes_are_read(program: Callable[..., Any], out: list[tuple[str, Path]]) -> None:
     assert digest_of(program("head -c 1024 /dev/urandom | tr -c a a"), out) == "a" * 1024
 
 
-def test_bad_files(program, out):
+def test_bad_files(program: Callable[..., Any], out: list[tuple[str, Path]]) -> None:
     with pytest.raises(BadFiles, match="^too few words$"):
         digest_of(program("echo too few words; exit 1"), out)
     with pytest.raises(BadFiles, match="says that the files are bad"):
         digest_of(program("exit 1"), out)
 
 
-def test_a_fault_of_the_sandbox_is_no_fault_of_the_files(program, out, tmp_path, monkeypatch):
+def test_a_fault_of_the_sandbox_is_no_fault_of_the_files(
+    program: Callable[..., Any], out: list[tuple[str, Path]], tmp_path: Path, monkeypatch: pytest.MonkeyPatch
+) -> None:
     with pytest.raises(DigestFault, match="could not start it"):
         digest_of(program("echo good"), [("out", tmp_path / "none")])
     path = program("echo good").path
@@ -138,7 +153,7 @@ def test_a_fault_of_the_sandbox_is_no_fault_of_the_files(program, out, tmp_path,
 # ---- The examples
 
 
-def example(name, tmp_path, *texts):
+def example(name: str, tmp_path: Path, *texts: str) -> str | None:
     """Returns what an example prints for files with these texts."""
     files = []
     for place, text in enumerate(texts):
@@ -148,7 +163,7 @@ def example(name, tmp_path, *texts):
     return digest_of(DigestProgram(EXAMPLES / name, 20, None), files)
 
 
-def test_numbers_are_rounded(tmp_path):
+def test_numbers_are_rounded(tmp_path: Path) -> None:
     first = example("rounded", tmp_path, "1.0000001 2e3\n-0.0 5\n")
     assert first.startswith("rounded sha256:") and first.endswith(" 4")
     assert example("rounded", tmp_path, "0.99999999   2000.0003\n0 5.0\n") == first
@@ -160,7 +175,7 @@ def test_numbers_are_rounded(tmp_path):
         example("rounded", tmp_path, "nan\n")
 
 
-def test_lines_in_any_order(tmp_path):
+def test_lines_in_any_order(tmp_path: Path) -> None:
     first = example("any_order", tmp_path, "b\na\n")
     assert first == f"any_order sha256:{sha256_of(b'a' + chr(10).encode() + b'b' + chr(10).encode())} 2"
     assert example("any_order", tmp_path, "a\nb\nb\n") == first
@@ -173,7 +188,7 @@ def test_lines_in_any_order(tmp_path):
 
 
 @pytest.fixture
-def digest_bridge(file_bridge):
+def digest_bridge(file_bridge: Bridge) -> Bridge:
     """A bridge of an application with a digest program, which a test can replace."""
     folder = file_bridge.folder / "digests"
     folder.mkdir()
@@ -186,27 +201,29 @@ def digest_bridge(file_bridge):
     return file_bridge
 
 
-def replaced(bridge, text):
+def replaced(bridge: Bridge, text: str) -> None:
     """Replaces the digest program."""
     (bridge.folder / "digests" / "any_order").write_text(f"#!/bin/sh\n{text}\n")
 
 
-def test_results_agree_by_their_digests(digest_bridge):
-    told = []
+def test_results_agree_by_their_digests(digest_bridge: Bridge) -> None:
+    reports = []
     for place, (client, data) in enumerate((("ann", b"one\ntwo\n"), ("bob", b"two\none\n"))):
         infos = worked(digest_bridge, data, key=f"{client}-key", cpid=client)
         body = report(f"u1_{place}", infos, hostid=FIRST + place, key=f"{client}-key", cpid=client)
-        told.append(reported(digest_bridge, body))
-    assert told[0] == told[1]
-    assert told[0][0] == 0 and told[0][1].startswith("any_order sha256:")
+        reports.append(reported(digest_bridge, body))
+    assert reports[0] == reports[1]
+    assert reports[0][0] == 0 and reports[0][1].startswith("any_order sha256:")
     assert len(on_disk(digest_bridge.folder)) == 2  # the files are those of each
 
 
-def test_bad_files_are_an_error(digest_bridge):
+def test_bad_files_are_an_error(digest_bridge: Bridge) -> None:
     assert reported(digest_bridge, report("u1_0", worked(digest_bridge, b""))) == (1, "the file has no line")
 
 
-def test_a_program_that_fails_puts_the_report_off(digest_bridge, caplog):
+def test_a_program_that_fails_puts_the_report_off(
+    digest_bridge: Bridge, caplog: pytest.LogCaptureFixture
+) -> None:
     infos = worked(digest_bridge, b"one\n")
     body = report("u1_0", infos)
     replaced(digest_bridge, "exit 2")
@@ -222,7 +239,9 @@ def test_a_program_that_fails_puts_the_report_off(digest_bridge, caplog):
     assert reported(digest_bridge, body) == (0, "mended")
 
 
-def test_programs_take_a_limited_time_of_a_request(digest_bridge, monkeypatch):
+def test_programs_take_a_limited_time_of_a_request(
+    digest_bridge: Bridge, monkeypatch: pytest.MonkeyPatch
+) -> None:
     monkeypatch.setattr("bsched_bridge.report_checks.DIGEST_SECONDS", -1.0)
     body = report("u1_0", worked(digest_bridge, b"one\n"))
     assert names(digest_bridge.call(body), "result_ack") == []
@@ -245,14 +264,14 @@ def test_programs_take_a_limited_time_of_a_request(digest_bridge, monkeypatch):
         ("\noutput_files = [", '\ndigest_example = "none"\noutput_files = [', "none does not exist"),
     ],
 )
-def test_faulty_catalogues(digest_bridge, old, new, fault):
+def test_faulty_catalogues(digest_bridge: Bridge, old: str, new: str, fault: str) -> None:
     path = digest_bridge.folder / "catalogue.toml"
     path.write_text(path.read_text().replace(old, new, 1))
     with pytest.raises(OperatorFault, match=fault):
         read_catalogue(path)
 
 
-def test_the_check_runs_the_program_twice_on_its_example(program, tmp_path):
+def test_the_check_runs_the_program_twice_on_its_example(program: Callable[..., Any], tmp_path: Path) -> None:
     folder = tmp_path / "example"
     folder.mkdir()
     (folder / "out").write_text("some words\n")
@@ -265,7 +284,9 @@ def test_the_check_runs_the_program_twice_on_its_example(program, tmp_path):
         check_digest(program("echo no; exit 1", example=folder), OUT)
 
 
-def test_the_check_says_if_bubblewrap_can_not_run(program, monkeypatch):
+def test_the_check_says_if_bubblewrap_can_not_run(
+    program: Callable[..., Any], monkeypatch: pytest.MonkeyPatch
+) -> None:
     monkeypatch.setattr(digest_programs, "SANDBOX", ("--ro-bind", "/none", "/usr"))
     with pytest.raises(DigestFault, match="bubblewrap can't run here"):
         check_digest(program("true"), OUT)

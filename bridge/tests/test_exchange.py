@@ -1,4 +1,6 @@
 """The promises of the bridge: counts, lost answers, restarts, and what a client sees of a refusal."""
+from pathlib import Path
+from typing import Any
 import json
 import threading
 
@@ -11,9 +13,10 @@ from bsched_bridge.hosts import FIRST_KEY, Key
 from bsched_bridge.scheduler import Job, NoAnswer, Reply
 from bsched_bridge.call_numbers import MOST_OF_STRANGERS
 from bsched_bridge.exchange import Resending, jobs_with
+from bridges import Bridge
 
 
-def test_a_first_call(bridge, twin):
+def test_a_first_call(bridge: Bridge, twin: Twin) -> None:
     reply = bridge.call(request())
     assert value(reply, "hostid") == str(FIRST)
     assert jobs(reply) == ["u1_0"]
@@ -22,19 +25,19 @@ def test_a_first_call(bridge, twin):
     assert (call["hostid"], call["rpc_seqno"], call["other_results"]) == (0, 1, [])
 
 
-def test_hostid_is_left_out_for_a_client_that_has_one(bridge):
+def test_hostid_is_left_out_for_a_client_that_has_one(bridge: Bridge) -> None:
     bridge.call(request())
     assert value(bridge.call(request(hostid=FIRST, listed=["u1_0"])), "hostid") is None
     assert value(bridge.call(request(hostid=77, cpid="c1")), "hostid") == str(FIRST)  # 77 is not its number
 
 
-def test_the_bridge_counts_by_itself(bridge, twin):
+def test_the_bridge_counts_by_itself(bridge: Bridge, twin: Twin) -> None:
     for seqno in (5, 5, 0, 7):  # for any number of the client
         bridge.call(request(seqno=seqno, listed=None))
     assert [call["rpc_seqno"] for call in twin.calls()] == [1, 2, 3, 4]
 
 
-def test_a_host_cpid_that_changes_is_mapped(bridge, twin):
+def test_a_host_cpid_that_changes_is_mapped(bridge: Bridge, twin: Twin) -> None:
     bridge.call(request(cpid="first"))
     bridge.call(request(cpid="second", hostid=FIRST))
     assert [call["host_info"]["host_cpid"] for call in twin.calls()] == ["first", "first"]
@@ -44,13 +47,13 @@ def test_a_host_cpid_that_changes_is_mapped(bridge, twin):
     assert twin.calls()[-1]["host_info"]["host_cpid"] == "first"
 
 
-def test_a_reply_that_the_client_lost(bridge):
+def test_a_reply_that_the_client_lost(bridge: Bridge) -> None:
     assert jobs(bridge.call(request())) == ["u1_0"]
     assert jobs(bridge.call(request())) == ["u1_0"]  # the client lists nothing, so the job comes again
     assert jobs(bridge.call(request(hostid=FIRST, listed=["u1_0"]))) == ["u2_0"]
 
 
-def test_a_quorum_brings_credit(bridge):
+def test_a_quorum_brings_credit(bridge: Bridge) -> None:
     bridge.call(request())
     bridge.call(request(key="bob-key", cpid="c2"))
     assert names(bridge.call(request(hostid=FIRST, seconds=0, reports=[("u1_0", "42")])), "result_ack") == [
@@ -63,15 +66,15 @@ def test_a_quorum_brings_credit(bridge):
     assert value(bridge.call(request(hostid=FIRST, seconds=0)), "host_total_credit") == "5.000"
 
 
-def test_an_answer_that_is_lost_is_asked_for_again_with_the_same_bytes(bridge, twin):
+def test_an_answer_that_is_lost_is_asked_for_again_with_the_same_bytes(bridge: Bridge, twin: Twin) -> None:
     twin.faults = ["lost", "lost"]
     assert jobs(bridge.call(request())) == ["u1_0"]
     assert twin.heard[0] == twin.heard[1] == twin.heard[2]
-    assert twin.told[0] == twin.told[1] == twin.told[2]
+    assert twin.answers[0] == twin.answers[1] == twin.answers[2]
 
 
 @pytest.mark.parametrize("fault", ["unheard", "lost", "unavailable", "garbage"])
-def test_no_answer_is_a_reply_with_a_delay_and_no_loss(bridge, twin, fault):
+def test_no_answer_is_a_reply_with_a_delay_and_no_loss(bridge: Bridge, twin: Twin, fault: str) -> None:
     bridge.call(request())
     twin.faults = [fault] * 3
     reply = bridge.call(request(hostid=FIRST, reports=[("u1_0", "42")]))
@@ -85,28 +88,30 @@ def test_no_answer_is_a_reply_with_a_delay_and_no_loss(bridge, twin, fault):
     assert len(twin.heard) == 6
 
 
-def test_members_that_the_bridge_does_not_know_are_passed_over(bridge, twin):
+def test_members_that_the_bridge_does_not_know_are_passed_over(bridge: Bridge, twin: Twin) -> None:
     handle = twin.service.scheduler
 
-    def newer(body, now):
-        said = json.loads(handle(body, now))
-        jobs = [{**job, "job_news": [1]} for job in said["results"]]
-        return json.dumps({**said, "results": jobs, "news": {"a": 1}})
+    def newer(body: bytes, now: int) -> str:
+        answer = json.loads(handle(body, now))
+        jobs = [{**job, "job_news": [1]} for job in answer["results"]]
+        return json.dumps({**answer, "results": jobs, "news": {"a": 1}})
 
     twin.service.scheduler = newer
     assert jobs(bridge.call(request())) == ["u1_0"]
     assert len(twin.heard) == 1
 
 
-def test_an_answer_that_lacks_a_member_is_none(bridge, twin):
+def test_an_answer_that_lacks_a_member_is_none(bridge: Bridge, twin: Twin) -> None:
     handle = twin.service.scheduler
     twin.service.scheduler = lambda body, now: handle(body, now).replace('"end_word":', '"last_word":')
     assert value(bridge.call(request()), "project_is_down") == "1"
 
 
-def test_an_answer_that_is_too_long_is_an_error(bridge, twin, monkeypatch, caplog):
+def test_an_answer_that_is_too_long_is_an_error(
+    bridge: Bridge, twin: Twin, monkeypatch: pytest.MonkeyPatch, caplog: pytest.LogCaptureFixture
+) -> None:
     bridge.call(request())
-    longest = max(map(len, twin.told))
+    longest = max(map(len, twin.answers))
     monkeypatch.setattr("bsched_bridge.scheduler.MOST_ANSWER", longest)
     assert names(bridge.call(request(hostid=FIRST, reports=[("u1_0", "42")], seconds=0)), "result_ack") == [
         "u1_0"
@@ -116,14 +121,16 @@ def test_an_answer_that_is_too_long_is_an_error(bridge, twin, monkeypatch, caplo
     assert "the answer of bsched to POST /scheduler is longer than 100 bytes" in caplog.text
 
 
-def test_bsched_that_is_not_there(bridge, twin):
+def test_bsched_that_is_not_there(bridge: Bridge, twin: Twin) -> None:
     twin.close()
     assert value(bridge.call(request()), "project_is_down") == "1"
 
 
 @pytest.mark.parametrize("resend", [True, False])
 @pytest.mark.parametrize("listed", [(), None])
-def test_jobs_of_an_answer_that_came_too_late_are_kept(project, monkeypatch, resend, listed):
+def test_jobs_of_an_answer_that_came_too_late_are_kept(
+    project: Path, monkeypatch: pytest.MonkeyPatch, resend: bool, listed: tuple[Any, ...] | None
+) -> None:
     from bridges import Bridge
 
     monkeypatch.setattr("bsched_bridge.scheduler.PAUSE_SECONDS", 0.0)
@@ -143,7 +150,9 @@ def test_jobs_of_an_answer_that_came_too_late_are_kept(project, monkeypatch, res
 
 
 @pytest.mark.parametrize("is_restarted", [True, False])
-def test_jobs_of_a_reply_that_the_client_lost_go_out_once_more(project, monkeypatch, is_restarted):
+def test_jobs_of_a_reply_that_the_client_lost_go_out_once_more(
+    project: Path, monkeypatch: pytest.MonkeyPatch, is_restarted: bool
+) -> None:
     from bridges import Bridge
 
     twin = Twin(resend_lost_results=False)
@@ -163,20 +172,20 @@ def test_jobs_of_a_reply_that_the_client_lost_go_out_once_more(project, monkeypa
     twin.close()
 
 
-def test_jobs_that_the_client_reports_are_not_in_hand(bridge, twin):
+def test_jobs_that_the_client_reports_are_not_in_hand(bridge: Bridge, twin: Twin) -> None:
     assert jobs(bridge.call(request())) == ["u1_0"]
     reply = bridge.call(request(hostid=FIRST, listed=[], reports=[("u1_0", "42")], seconds=0))
     assert (jobs(reply), names(reply, "result_ack")) == ([], ["u1_0"])
     assert twin.calls()[1]["other_results"] == []
 
 
-def test_a_client_that_lists_nothing_gets_no_job_twice(bridge, twin):
+def test_a_client_that_lists_nothing_gets_no_job_twice(bridge: Bridge, twin: Twin) -> None:
     assert jobs(bridge.call(request(listed=None))) == ["u1_0"]
     assert jobs(bridge.call(request(hostid=FIRST, listed=None))) == ["u2_0"]
     assert twin.calls()[1]["work_req_seconds"] == 60
 
 
-def test_a_stop_between_a_call_and_its_answer(bridge, twin):
+def test_a_stop_between_a_call_and_its_answer(bridge: Bridge, twin: Twin) -> None:
     """When bsched gets a call, the call's bytes are in the state file. So a stop at that moment leaves enough
     to continue.
     """
@@ -184,7 +193,7 @@ def test_a_stop_between_a_call_and_its_answer(bridge, twin):
     seen = []
     handle = twin.service.scheduler
 
-    def looked(body, now):
+    def looked(body: bytes, now: int) -> str:
         seen.append((body, bridge.numbers.open_call(Key("ann-key", "c1"))))
         return handle(body, now)
 
@@ -193,7 +202,7 @@ def test_a_stop_between_a_call_and_its_answer(bridge, twin):
     assert seen[0][0] == seen[0][1]
 
 
-def test_open_calls_are_sent_again_at_the_start(bridge, twin):
+def test_open_calls_are_sent_again_at_the_start(bridge: Bridge, twin: Twin) -> None:
     bridge.call(request())
     twin.faults = ["unheard"] * 3
     bridge.call(request(hostid=FIRST, reports=[("u1_0", "42")], seconds=0))
@@ -204,16 +213,16 @@ def test_open_calls_are_sent_again_at_the_start(bridge, twin):
     resending.end()
     assert twin.heard[3] == twin.heard[4]
     assert len(twin.heard) == 5  # and no more after the answer
-    assert json.loads(twin.told[-1])["result_ack"] == ["u1_0"]
+    assert json.loads(twin.answers[-1])["result_ack"] == ["u1_0"]
 
 
-def test_a_call_that_gets_no_answer_does_not_keep_others_from_theirs(bridge, twin):
+def test_a_call_that_gets_no_answer_does_not_keep_others_from_theirs(bridge: Bridge, twin: Twin) -> None:
     twin.faults = ["unheard"] * 6
     bridge.call(request())
     bridge.call(request(key="bob-key", cpid="c2"))
     handle = twin.service.scheduler
 
-    def fails_for_ann(body, now):
+    def fails_for_ann(body: Any, now: Any) -> Any:
         if b"ann-key" in body:
             raise OSError("no answer")
         return handle(body, now)
@@ -229,28 +238,30 @@ def test_a_call_that_gets_no_answer_does_not_keep_others_from_theirs(bridge, twi
     resending.end()
 
 
-def test_late_answers_are_not_handed_on_twice(bridge, twin):
+def test_late_answers_are_not_handed_on_twice(bridge: Bridge, twin: Twin) -> None:
     twin.faults = ["lost"] * 3
     bridge.call(request())
     bridge.application.exchange.resend(Key("ann-key", "c1"))
     assert jobs(bridge.call(request(listed=["u1_0"], seconds=0))) == []  # the client has it by now
 
 
-def test_jobs_in_hand_that_bsched_aborts_or_acknowledges_are_not_handed_on():
+def test_jobs_in_hand_that_bsched_aborts_or_acknowledges_are_not_handed_on() -> None:
     a, b, c, d = (Job(f"{name}_0", name, "sum", "linux", 1, 60, 1000, False) for name in "abcd")
     reply = Reply(1, "Ann", 0, 0, 60, "enough", ["b_0"], ["a_0"], [c], 1)
     assert [job.name for job in jobs_with(reply, [a, b, c, d])] == ["d_0", "c_0"]
 
 
 @pytest.mark.parametrize("status", [500, 502, 503])
-def test_a_server_error_is_no_answer(bridge, twin, monkeypatch, status):
+def test_a_server_error_is_no_answer(
+    bridge: Bridge, twin: Twin, monkeypatch: pytest.MonkeyPatch, status: int
+) -> None:
     bridge.call(request())
-    told = '{"error":"hosts_full","number":12}'.encode()
-    monkeypatch.setattr(bridge.application.scheduler, "_exchange", lambda *_words: (status, told))
+    refusal = '{"error":"hosts_full","number":12}'.encode()
+    monkeypatch.setattr(bridge.application.scheduler, "_exchange", lambda *_words: (status, refusal))
     assert value(bridge.call(request(hostid=FIRST)), "project_is_down") == "1"
 
 
-def test_a_computer_that_used_all_its_numbers(bridge):
+def test_a_computer_that_used_all_its_numbers(bridge: Bridge) -> None:
     bridge.call(request())
     with bridge.file.transaction() as connection:
         connection.execute("UPDATE host SET last_number = 2147483647")
@@ -259,11 +270,11 @@ def test_a_computer_that_used_all_its_numbers(bridge):
     assert value(reply, "request_delay") == "86400.000000"
 
 
-def test_imports_that_get_no_answer_keep_no_calls_from_theirs(bridge, twin):
+def test_imports_that_get_no_answer_keep_no_calls_from_theirs(bridge: Bridge, twin: Twin) -> None:
     twin.faults = ["unheard"] * 3
     bridge.call(request())
 
-    def imports():
+    def imports() -> None:
         raise NoAnswer("no answer")
 
     resending = Resending(bridge.application.exchange, 0.01, imports)
@@ -272,7 +283,7 @@ def test_imports_that_get_no_answer_keep_no_calls_from_theirs(bridge, twin):
     resending.end()
 
 
-def test_two_requests_of_a_client_at_once_share_no_number(bridge, twin):
+def test_two_requests_of_a_client_at_once_share_no_number(bridge: Bridge, twin: Twin) -> None:
     twin.faults = ["slow"] * 4
     threads = [threading.Thread(target=bridge.call, args=(request(listed=None),)) for _ in range(4)]
     for thread in threads:
@@ -282,7 +293,7 @@ def test_two_requests_of_a_client_at_once_share_no_number(bridge, twin):
     assert [call["rpc_seqno"] for call in twin.calls()] == [1, 2, 3, 4]
 
 
-def test_two_clients_at_once_do_not_wait_for_one_another(bridge, twin):
+def test_two_clients_at_once_do_not_wait_for_one_another(bridge: Bridge, twin: Twin) -> None:
     locks = bridge.application.exchange._locks
     with locks.held(Key("ann-key", "c1")):
         assert jobs(bridge.call(request(key="bob-key", cpid="c2"))) == ["u1_0"]
@@ -292,7 +303,7 @@ def test_two_clients_at_once_do_not_wait_for_one_another(bridge, twin):
     assert locks._locks == {}
 
 
-def test_a_count_that_was_lost_goes_on(bridge, twin, project):
+def test_a_count_that_was_lost_goes_on(bridge: Bridge, twin: Twin, project: Path) -> None:
     for _ in range(3):
         bridge.call(request())
     bridge.file.close()
@@ -339,7 +350,7 @@ REFUSALS = {
 
 
 @pytest.mark.parametrize("error", REFUSALS)
-def test_refusals(bridge, twin, error):
+def test_refusals(bridge: Bridge, twin: Twin, error: str) -> None:
     message, delay, priority = REFUSALS[error]
     bridge.call(request())
     more = {"last": 5} if error in ("stale", "reused") else {}
@@ -354,13 +365,13 @@ def test_refusals(bridge, twin, error):
     assert names(bridge.call(request(hostid=FIRST, reports=[("u1_0", "42")])), "result_ack") == ["u1_0"]
 
 
-def test_a_faulty_member_is_named(bridge, twin):
+def test_a_faulty_member_is_named(bridge: Bridge, twin: Twin) -> None:
     twin.faults = ['{"error":"bad_member","member":"platform_name","number":7}']
     assert "(platform_name)" in value(bridge.call(request()), "message")
 
 
 @pytest.mark.parametrize("error", ["stale", "reused"])
-def test_a_count_behind_that_of_bsched(bridge, twin, error):
+def test_a_count_behind_that_of_bsched(bridge: Bridge, twin: Twin, error: str) -> None:
     twin.faults = [json.dumps({"error": error, "last": 41, "number": 10})]
     bridge.call(request())
     assert [call["rpc_seqno"] for call in twin.calls()] == [1, 42]
@@ -369,18 +380,20 @@ def test_a_count_behind_that_of_bsched(bridge, twin, error):
     assert [call["rpc_seqno"] for call in twin.calls()[2:]] == [43, 51, 61]
 
 
-def test_an_account_that_does_not_stand_leaves_nothing(bridge):
+def test_an_account_that_does_not_stand_leaves_nothing(bridge: Bridge) -> None:
     assert "Invalid or missing account key" in value(bridge.call(request(key="nobody")), "message")
     assert bridge.file.row("SELECT count(*) FROM host") == (0,)
 
 
-def made_up(number):
+def made_up(number: int) -> str:
     """Returns a long request of an account that somebody made up."""
     return request(key=f"made-up-{number}", reports=[(f"u{n}_0", "x" * 1000) for n in range(250)])
 
 
-def test_calls_of_accounts_that_somebody_made_up_take_no_disk(project, bridge, twin):
-    def disk():
+def test_calls_of_accounts_that_somebody_made_up_take_no_disk(
+    project: Path, bridge: Bridge, twin: Twin
+) -> None:
+    def disk() -> int:
         return sum(path.stat().st_size for path in project.glob("bridge.db*"))
 
     twin.faults = ["unheard"] * 10_000
@@ -395,7 +408,9 @@ def test_calls_of_accounts_that_somebody_made_up_take_no_disk(project, bridge, t
     assert "Invalid or missing account key" in value(bridge.call(made_up(0)), "message")
 
 
-def test_calls_of_unknown_accounts_are_limited(bridge, twin, monkeypatch):
+def test_calls_of_unknown_accounts_are_limited(
+    bridge: Bridge, twin: Twin, monkeypatch: pytest.MonkeyPatch
+) -> None:
     twin.faults = ["unheard"] * 10_000
     for number in range(MOST_OF_STRANGERS + 5):
         bridge.application.scheduler.silent_since = None  # as if another message had an answer meanwhile
@@ -405,7 +420,7 @@ def test_calls_of_unknown_accounts_are_limited(bridge, twin, monkeypatch):
     assert jobs(bridge.call(request())) == ["u1_0"]
 
 
-def test_calls_of_known_hosts_and_accounts_are_stored(bridge, twin):
+def test_calls_of_known_hosts_and_accounts_are_stored(bridge: Bridge, twin: Twin) -> None:
     bridge.call(request())
     twin.faults = ["unheard"] * 9
     for cpid, hostid in (("c1", FIRST), ("c2", 0), ("c3", 0)):
@@ -413,7 +428,7 @@ def test_calls_of_known_hosts_and_accounts_are_stored(bridge, twin):
     assert bridge.file.row("SELECT count(*) FROM host WHERE open_call IS NOT NULL") == (3,)
 
 
-def test_a_resent_call_that_is_refused_is_let_go(bridge, twin):
+def test_a_resent_call_that_is_refused_is_let_go(bridge: Bridge, twin: Twin) -> None:
     twin.faults = ["unheard"] * 3 + ['{"error":"hosts_full","number":12}']
     bridge.call(request())
     assert jobs(bridge.call(request())) == ["u1_0"]

@@ -1,21 +1,24 @@
 """How many hosts an account may have, and barred accounts. The settings are read again without a restart."""
+from pathlib import Path
 import os
 import threading
 
 import pytest
 from messages import FIRST, request, value
+from twin import Twin
+from bridges import Bridge
 
 FULL = "Your account has 3 computers at this project, and may have no more."
 
 
 @pytest.fixture
-def small(project, bridge):
+def small(project: Path, bridge: Bridge) -> Bridge:
     """A bridge that allows each account three hosts."""
     settings(project, "most_hosts = 3")
     return bridge
 
 
-def settings(project, *lines):
+def settings(project: Path, *lines: str) -> None:
     """Writes other settings on hosts."""
     path = project / "bridge.toml"
     kept = [line for line in path.read_text().splitlines() if not line.startswith(("most_hosts", "barred"))]
@@ -23,14 +26,14 @@ def settings(project, *lines):
     os.utime(path, ns=(path.stat().st_atime_ns, path.stat().st_mtime_ns + 1))
 
 
-def called(bridge, number, key="ann-key", hostid=0):
+def called(bridge: Bridge, number: int, key: str = "ann-key", hostid: int = 0) -> str:
     """Has a host call. Returns the place of its hostid in the order of all, or the message to the volunteer."""
     reply = bridge.call(request(key=key, cpid=f"c{number}", hostid=hostid, seconds=0))
-    told = value(reply, "hostid")
-    return str(int(told) - FIRST + 1) if told else value(reply, "message") or "known"
+    hostid = value(reply, "hostid")
+    return str(int(hostid) - FIRST + 1) if hostid else value(reply, "message") or "known"
 
 
-def test_one_account_fills_no_project(bridge, twin):
+def test_one_account_fills_no_project(bridge: Bridge, twin: Twin) -> None:
     """The limit is 20 by default."""
     answers = [called(bridge, number) for number in range(200)]
     assert answers[:20] == [str(number) for number in range(1, 21)]
@@ -38,7 +41,7 @@ def test_one_account_fills_no_project(bridge, twin):
     assert len(twin.service.machine.hosts) == 20
 
 
-def test_a_host_too_many_gets_a_message(small, twin, caplog):
+def test_a_host_too_many_gets_a_message(small: Bridge, twin: Twin, caplog: pytest.LogCaptureFixture) -> None:
     assert [called(small, number) for number in range(3)] == ["1", "2", "3"]
     reply = small.call(request(cpid="c9"))
     assert FULL in value(reply, "message") and 'priority="notice"' in reply.decode()
@@ -52,7 +55,7 @@ def test_a_host_too_many_gets_a_message(small, twin, caplog):
     assert len(twin.service.machine.hosts) == 4
 
 
-def test_a_host_whose_answer_was_lost_counts(small, twin):
+def test_a_host_whose_answer_was_lost_counts(small: Bridge, twin: Twin) -> None:
     twin.faults = ["lost"] * 3
     called(small, 0)
     assert [called(small, number) for number in (1, 2)] == ["1", "2"]
@@ -60,7 +63,7 @@ def test_a_host_whose_answer_was_lost_counts(small, twin):
     assert called(small, 0) == "3"
 
 
-def test_hosts_that_come_at_once(small, twin):
+def test_hosts_that_come_at_once(small: Bridge, twin: Twin) -> None:
     answers = []
     threads = [
         threading.Thread(target=lambda number=number: answers.append(called(small, number)))
@@ -73,7 +76,7 @@ def test_hosts_that_come_at_once(small, twin):
     assert len([answer for answer in answers if answer.isdigit()]) == 3 == len(twin.service.machine.hosts)
 
 
-def test_the_settings_are_read_again(project, small, caplog):
+def test_the_settings_are_read_again(project: Path, small: Bridge, caplog: pytest.LogCaptureFixture) -> None:
     assert [called(small, number) for number in range(3)] == ["1", "2", "3"]
     assert FULL in called(small, 3)
     settings(project, "most_hosts = 4")
@@ -93,7 +96,9 @@ def test_the_settings_are_read_again(project, small, caplog):
     assert caplog.text.count("stay as they were") == 2  # once for each edit
 
 
-def test_a_barred_account(project, bridge, twin, caplog):
+def test_a_barred_account(
+    project: Path, bridge: Bridge, twin: Twin, caplog: pytest.LogCaptureFixture
+) -> None:
     assert called(bridge, 0) == "1"
     settings(project, 'barred = ["ann-key", "other"]')
     heard = len(twin.heard)
@@ -107,7 +112,7 @@ def test_a_barred_account(project, bridge, twin, caplog):
     assert called(bridge, 0, hostid=FIRST) == "known"
 
 
-def test_hosts_that_bsched_has_lost_make_room(small, twin):
+def test_hosts_that_bsched_has_lost_make_room(small: Bridge, twin: Twin) -> None:
     assert [called(small, number) for number in range(3)] == ["1", "2", "3"]
     machine = twin.service.machine
     for key in [key for key, host in machine.hosts.items() if host.number == 3]:  # as in an older copy
@@ -118,7 +123,9 @@ def test_hosts_that_bsched_has_lost_make_room(small, twin):
     assert len(machine.hosts) == 3
 
 
-def test_without_the_state_file_the_hosts_that_call_count(small, twin, project, monkeypatch):
+def test_without_the_state_file_the_hosts_that_call_count(
+    small: Bridge, twin: Twin, project: Path, monkeypatch: pytest.MonkeyPatch
+) -> None:
     for number in range(3):
         called(small, number)
     small.file.close()
@@ -132,7 +139,7 @@ def test_without_the_state_file_the_hosts_that_call_count(small, twin, project, 
     assert called(small, 0, hostid=FIRST) == "104"
 
 
-def test_no_answer_about_a_host(small, twin):
+def test_no_answer_about_a_host(small: Bridge, twin: Twin) -> None:
     for number in range(3):
         called(small, number)
     twin.close()

@@ -1,16 +1,19 @@
 """Whose host a client is: numbers that clients were told, changed host_cpids, copies, and lost state files."""
+from pathlib import Path
 import pytest
 from messages import FIRST, jobs, names, request, value
 from random_lives import further_file
 
 from bsched_bridge.host_search import MOST_SEARCHES
 from bsched_bridge.hosts import FIRST_SECOND, LAST_BY_CLOCK, Hosts, Key
+from twin import Twin
+from bridges import Bridge
 
 A, B = FIRST, FIRST + 1  # two computers of Ann
 
 
 @pytest.fixture
-def two(bridge, twin):
+def two(bridge: Bridge, twin: Twin) -> Bridge:
     """A bridge with two computers of Ann: A has u1_0, and B has u2_0."""
     twin.statement = None
     assert jobs(bridge.call(request(cpid="a"))) == ["u1_0"]
@@ -18,7 +21,7 @@ def two(bridge, twin):
     return bridge
 
 
-def loses_state(bridge, monkeypatch, later=1000):
+def loses_state(bridge: Bridge, monkeypatch: pytest.MonkeyPatch, later: int = 1000) -> None:
     """The bridge loses its state file, and starts with a new one some seconds later."""
     bridge.file.close()
     for path in bridge.folder.glob("bridge.db*"):
@@ -27,7 +30,7 @@ def loses_state(bridge, monkeypatch, later=1000):
     bridge.start()
 
 
-def recorded(twin, name):
+def recorded(twin: Twin, name: str) -> str | None:
     """Returns the host_cpid of the host whose report of a result is recorded, or None."""
     unit, _, number = name.rpartition("_")
     instance = twin.service.machine.rows["workunits"][unit].instances[int(number)]
@@ -36,22 +39,23 @@ def recorded(twin, name):
     return next(key[1] for key, host in twin.service.machine.hosts.items() if host is instance.host)
 
 
-def test_numbers_rise_and_are_those_of_the_bridge(two, twin):
+def test_numbers_rise_and_are_those_of_the_bridge(two: Bridge, twin: Twin) -> None:
     assert [host.hostid for host in two.hosts.heard(9)] == [B, A]
     assert value(two.call(request(cpid="b1", key="bob-key")), "hostid") == str(FIRST + 2)
     assert [host.number for host in twin.service.machine.hosts.values()] == [1, 2, 3]
 
 
-def test_numbers_are_above_those_of_an_earlier_file(bridge, monkeypatch):
+def test_numbers_are_above_those_of_an_earlier_file(bridge: Bridge, monkeypatch: pytest.MonkeyPatch) -> None:
     from bsched_bridge import hosts
 
+    assert hosts.LAST_BY_CLOCK <= hosts.MOST_NUMBER // 2 + 1
     for moment, number in ((FIRST_SECOND - 5, 0), (FIRST_SECOND + 7, 7), (2**40, LAST_BY_CLOCK)):
         monkeypatch.undo()
         monkeypatch.setattr("bsched_bridge.hosts.time.time", lambda moment=moment: moment)
         assert hosts.number_by_clock() == number
 
 
-def test_a_further_file_in_which_the_numbers_are_exchanged(two, twin):
+def test_a_further_file_in_which_the_numbers_are_exchanged(two: Bridge, twin: Twin) -> None:
     twin.service = further_file(twin.service, 1)
     assert jobs(two.call(request(hostid=B, cpid="b", listed=["u2_0"]))) == ["f1u1_0"]
     assert jobs(two.call(request(hostid=A, cpid="a", listed=["u1_0"]))) == ["f1u2_0"]
@@ -62,14 +66,14 @@ def test_a_further_file_in_which_the_numbers_are_exchanged(two, twin):
     assert "f1u2_0" not in jobs(reply)
 
 
-def test_a_host_cpid_that_another_computer_had(two, twin):
+def test_a_host_cpid_that_another_computer_had(two: Bridge, twin: Twin) -> None:
     two.call(request(hostid=A, cpid="other", listed=["u1_0"], seconds=0))
     reply = two.call(request(hostid=B, cpid="a", reports=[("u2_0", "42")]))
     assert names(reply, "result_ack") == ["u2_0"] and recorded(twin, "u2_0") == "b"
     assert "u1_0" not in jobs(reply)
 
 
-def test_restored_tables_that_give_a_number_again(two, twin):
+def test_restored_tables_that_give_a_number_again(two: Bridge, twin: Twin) -> None:
     import copy
 
     older = copy.deepcopy(twin.service)
@@ -84,7 +88,7 @@ def test_restored_tables_that_give_a_number_again(two, twin):
 # ---- A state file that is lost, or older
 
 
-def test_a_lost_state_file(two, twin, monkeypatch):
+def test_a_lost_state_file(two: Bridge, twin: Twin, monkeypatch: pytest.MonkeyPatch) -> None:
     loses_state(two, monkeypatch)
     reply = two.call(request(hostid=B, cpid="b", seqno=5, reports=[("u2_0", "42")], seconds=0))
     assert names(reply, "result_ack") == ["u2_0"] and recorded(twin, "u2_0") == "b"
@@ -95,7 +99,9 @@ def test_a_lost_state_file(two, twin, monkeypatch):
     assert value(reply, "hostid") == str(FIRST + 1002)
 
 
-def test_a_lost_state_file_and_a_changed_host_cpid(two, twin, monkeypatch, caplog):
+def test_a_lost_state_file_and_a_changed_host_cpid(
+    two: Bridge, twin: Twin, monkeypatch: pytest.MonkeyPatch, caplog: pytest.LogCaptureFixture
+) -> None:
     two.call(request(hostid=B, cpid="new", listed=["u2_0"], seconds=0))
     loses_state(two, monkeypatch)
     for _ in range(2):
@@ -115,7 +121,9 @@ def test_a_lost_state_file_and_a_changed_host_cpid(two, twin, monkeypatch, caplo
     assert value(two.call(request(cpid="new", seconds=0)), "hostid") == str(FIRST + 1001)
 
 
-def test_an_older_state_file_and_a_changed_host_cpid(two, twin, monkeypatch):
+def test_an_older_state_file_and_a_changed_host_cpid(
+    two: Bridge, twin: Twin, monkeypatch: pytest.MonkeyPatch
+) -> None:
     two.file.close()
     older = {path: path.read_bytes() for path in two.folder.glob("bridge.db*")}
     two.start()
@@ -132,7 +140,7 @@ def test_an_older_state_file_and_a_changed_host_cpid(two, twin, monkeypatch):
     assert len(twin.service.machine.hosts) == 3
 
 
-def test_a_client_of_an_unknown_number_gets_no_jobs_of_another(two, twin):
+def test_a_client_of_an_unknown_number_gets_no_jobs_of_another(two: Bridge, twin: Twin) -> None:
     """Its results say that it is another computer than its host_cpid says, as after a restore of the tables."""
     reply = two.call(request(hostid=77, cpid="a", listed=["u2_0"]))
     assert value(reply, "hostid") == str(FIRST + 2)
@@ -145,7 +153,7 @@ def test_a_client_of_an_unknown_number_gets_no_jobs_of_another(two, twin):
     assert value(reply, "hostid") == str(A) and names(reply, "result_ack") == ["u2_0"]
 
 
-def test_a_client_of_an_upgraded_bridge_with_another_host_cpid(two, twin):
+def test_a_client_of_an_upgraded_bridge_with_another_host_cpid(two: Bridge, twin: Twin) -> None:
     with two.file.transaction() as connection:
         connection.execute("UPDATE host SET hostid = NULL, client_seqno = NULL, has_former_number = 1")
     reply = two.call(request(hostid=1, cpid="new", seqno=9, listed=["u2_0"], seconds=0))
@@ -155,10 +163,12 @@ def test_a_client_of_an_upgraded_bridge_with_another_host_cpid(two, twin):
     assert len(twin.service.machine.hosts) == 2
 
 
-@pytest.mark.parametrize("told", ["no answer", "refused"])
-def test_without_a_statement_nothing_is_acknowledged(two, twin, monkeypatch, told):
+@pytest.mark.parametrize("fault", ["no answer", "refused"])
+def test_without_a_statement_nothing_is_acknowledged(
+    two: Bridge, twin: Twin, monkeypatch: pytest.MonkeyPatch, fault: str
+) -> None:
     loses_state(two, monkeypatch)
-    if told == "refused":
+    if fault == "refused":
         monkeypatch.setattr(two.application.scheduler, "statement", lambda *_words: None)
     else:
         # the call is answered after another try, and the question for the host is not
@@ -170,7 +180,9 @@ def test_without_a_statement_nothing_is_acknowledged(two, twin, monkeypatch, tol
     assert names(reply, "result_ack") == ["u2_0"] and recorded(twin, "u2_0") == "b"
 
 
-def test_without_the_operators_key_a_host_is_the_one_with_bscheds_number(two, twin, monkeypatch):
+def test_without_the_operators_key_a_host_is_the_one_with_bscheds_number(
+    two: Bridge, twin: Twin, monkeypatch: pytest.MonkeyPatch
+) -> None:
     with two.file.transaction() as connection:  # as after an upgrade of the state file
         connection.execute("UPDATE host SET hostid = NULL, client_seqno = NULL")
     two.application.exchange.search.operator_key = None
@@ -182,7 +194,9 @@ def test_without_the_operators_key_a_host_is_the_one_with_bscheds_number(two, tw
     assert len(twin.service.machine.hosts) == 2
 
 
-def test_searches_are_limited(two, twin):
+def test_searches_are_limited(two: Bridge, twin: Twin) -> None:
+    for _ in range(MOST_SEARCHES + 1):  # a client without results needs none
+        two.call(request(hostid=77, cpid="a", listed=[], seconds=0))
     for _ in range(MOST_SEARCHES):
         two.call(request(hostid=77, cpid="a", listed=["u1_0"], seconds=0))
     heard = len(twin.heard)
@@ -194,7 +208,7 @@ def test_searches_are_limited(two, twin):
 # ---- Copies
 
 
-def test_a_copy_gets_a_host_of_its_own(two, twin):
+def test_a_copy_gets_a_host_of_its_own(two: Bridge, twin: Twin) -> None:
     for seqno in (1, 2, 3):
         assert (
             value(two.call(request(hostid=A, cpid="a", seqno=seqno, listed=["u1_0"], seconds=0)), "hostid")
@@ -211,7 +225,7 @@ def test_a_copy_gets_a_host_of_its_own(two, twin):
     assert names(reply, "result_ack") == ["u1_0"] and recorded(twin, "u1_0") == "a"
 
 
-def test_what_a_copy_finished_is_reported_for_the_original(two, twin):
+def test_what_a_copy_finished_is_reported_for_the_original(two: Bridge, twin: Twin) -> None:
     two.call(request(hostid=A, cpid="a", seqno=3, listed=["u1_0"], seconds=0))
     reply = two.call(request(hostid=A, cpid="a", seqno=2, reports=[("u1_0", "42")], seconds=0))
     assert names(reply, "result_ack") == ["u1_0"] and recorded(twin, "u1_0") == "a"
@@ -220,7 +234,7 @@ def test_what_a_copy_finished_is_reported_for_the_original(two, twin):
     assert names(reply, "result_abort") == ["u1_0"]
 
 
-def test_a_copy_of_a_host_that_bsched_knows_by_another_number(two, twin):
+def test_a_copy_of_a_host_that_bsched_knows_by_another_number(two: Bridge, twin: Twin) -> None:
     """As after a restore of an older state file: the statement of that number is another host's."""
     two.call(request(hostid=A, cpid="a", seqno=3, listed=["u1_0"], seconds=0))
     with two.file.transaction() as connection:
@@ -229,7 +243,7 @@ def test_a_copy_of_a_host_that_bsched_knows_by_another_number(two, twin):
     assert names(reply, "result_ack") == ["u1_0"] and recorded(twin, "u1_0") == "a"
 
 
-def test_results_of_a_copy_that_bsched_does_not_know_are_forgotten(two, twin):
+def test_results_of_a_copy_that_bsched_does_not_know_are_forgotten(two: Bridge, twin: Twin) -> None:
     """As after a restore of older tables: the original may forget them, too."""
     two.call(request(hostid=A, cpid="a", seqno=3, listed=["u1_0"], seconds=0))
     reply = two.call(request(hostid=A, cpid="a", seqno=2, reports=[("u8_0", "42")], seconds=0))
@@ -237,14 +251,14 @@ def test_results_of_a_copy_that_bsched_does_not_know_are_forgotten(two, twin):
     assert recorded(twin, "u8_0") is None
 
 
-def test_jobs_in_hand_of_the_original_stay_for_it(two, twin, project):
+def test_jobs_in_hand_of_the_original_stay_for_it(two: Bridge, twin: Twin, project: Path) -> None:
     two.call(request(hostid=A, cpid="a", seqno=3, listed=["u1_0"], seconds=60))  # the reply is lost
     reply = two.call(request(hostid=A, cpid="a", seqno=2, reports=[("u1_0", "42")], seconds=0))
     assert names(reply, "result_ack") == ["u1_0"] and jobs(reply) == []
     assert jobs(two.call(request(hostid=A, cpid="a", seqno=3, listed=["u1_0"], seconds=0))) == ["u3_0"]
 
 
-def test_a_request_that_is_sent_again_is_no_copy(two):
+def test_a_request_that_is_sent_again_is_no_copy(two: Bridge) -> None:
     for seqno in (3, 3, 4):
         reply = two.call(request(hostid=A, cpid="a", seqno=seqno, listed=["u1_0"], seconds=0))
         assert value(reply, "hostid") is None
@@ -252,7 +266,7 @@ def test_a_request_that_is_sent_again_is_no_copy(two):
     assert value(two.call(request(hostid=A, cpid="a", seqno=3, seconds=0)), "hostid") == str(FIRST + 2)
 
 
-def test_a_copy_whose_call_gets_no_answer_is_one_host(two, twin):
+def test_a_copy_whose_call_gets_no_answer_is_one_host(two: Bridge, twin: Twin) -> None:
     two.call(request(hostid=A, cpid="a", seqno=3, listed=["u1_0"], seconds=0))
     for _ in range(3):
         twin.faults = ["lost"] * 3
@@ -264,7 +278,7 @@ def test_a_copy_whose_call_gets_no_answer_is_one_host(two, twin):
     assert value(two.call(request(hostid=A, cpid="a", seqno=2)), "hostid") == str(FIRST + 3)
 
 
-def test_a_copy_counts_for_the_limit_of_hosts(project, two, twin):
+def test_a_copy_counts_for_the_limit_of_hosts(project: Path, two: Bridge, twin: Twin) -> None:
     with (project / "bridge.toml").open("a") as file:
         file.write("most_hosts = 2\n")
     two.call(request(hostid=A, cpid="a", seqno=3, listed=["u1_0"], seconds=0))
@@ -273,7 +287,7 @@ def test_a_copy_counts_for_the_limit_of_hosts(project, two, twin):
     assert names(reply, "result_ack") == []
 
 
-def test_a_number_of_another_account_is_not_known(two, twin):
+def test_a_number_of_another_account_is_not_known(two: Bridge, twin: Twin) -> None:
     reply = two.call(request(hostid=A, key="bob-key", cpid="x", seconds=0))
     assert value(reply, "hostid") == str(FIRST + 2)
 
@@ -281,20 +295,22 @@ def test_a_number_of_another_account_is_not_known(two, twin):
 # ---- An upgraded state file
 
 
-def test_clients_with_the_former_numbers(two, twin):
+def test_clients_with_the_former_numbers(two: Bridge, twin: Twin) -> None:
     """Before the upgrade A was told bsched's number in earlier tables, which is that of B now."""
     with two.file.transaction() as connection:
         connection.execute("UPDATE host SET hostid = NULL, client_seqno = NULL")
     reply = two.call(request(hostid=2, cpid="a", seqno=40, reports=[("u1_0", "42")], seconds=0))
     assert names(reply, "result_ack") == ["u1_0"] and recorded(twin, "u1_0") == "a"
-    told = value(reply, "hostid")
+    hostid = value(reply, "hostid")
     # the reply is lost, and the client sends the same again
     reply = two.call(request(hostid=2, cpid="a", seqno=40, reports=[("u1_0", "42")], seconds=0))
-    assert value(reply, "hostid") == told and names(reply, "result_ack") == ["u1_0"]
-    assert value(two.call(request(hostid=told, cpid="new", seqno=1, seconds=0)), "hostid") is None
+    assert value(reply, "hostid") == hostid and names(reply, "result_ack") == ["u1_0"]
+    assert value(two.call(request(hostid=hostid, cpid="new", seqno=1, seconds=0)), "hostid") is None
 
 
-def test_a_host_without_a_reply_is_forgotten_after_a_refusal_and_one_with_a_number_is_not(two, twin):
+def test_a_host_without_a_reply_is_forgotten_after_a_refusal_and_one_with_a_number_is_not(
+    two: Bridge, twin: Twin
+) -> None:
     twin.faults = ['{"error":"hosts_full","number":12}'] * 2
     two.call(request(cpid="c"))
     two.call(request(hostid=A, cpid="a"))

@@ -1,35 +1,39 @@
 """A bsched that hangs: it takes connections and gives no answer."""
+from collections.abc import Callable, Iterator
+from typing import Any
 import http.client
 import socket
 import threading
 import time
 
 import pytest
-import waitress
+import waitress  # type: ignore[import]
 from joining import wait_until
 from messages import request
 
 from bsched_bridge import scheduler
 from bsched_bridge.scheduler import Hung, NoAnswer, Scheduler
 from bsched_bridge.settings import Address
+from twin import Twin
+from bridges import Bridge
 
 
 @pytest.fixture
-def silent():
+def silent() -> Iterator[Address]:
     """A port that takes connections and answers none."""
     with socket.create_server(("127.0.0.1", 0), backlog=100) as listener:
         yield Address(*listener.getsockname())
 
 
-def seconds(action):
+def seconds(action: Callable[..., Any]) -> tuple[float, type[Any]]:
     """Returns how long an action takes that gets no answer, and the fault."""
     began = time.monotonic()
-    with pytest.raises(NoAnswer) as told:
+    with pytest.raises(NoAnswer) as raised:
         action()
-    return time.monotonic() - began, told.type
+    return time.monotonic() - began, raised.type
 
 
-def test_after_a_time_out_messages_fail_at_once(silent):
+def test_after_a_time_out_messages_fail_at_once(silent: Address) -> None:
     asked = Scheduler(silent, 1)
     took, fault = seconds(lambda: asked.call(b"{}"))
     assert 1 <= took < 2 and fault is NoAnswer  # one attempt
@@ -39,7 +43,9 @@ def test_after_a_time_out_messages_fail_at_once(silent):
     assert asked.silent_since is not None and asked.is_slow
 
 
-def test_one_message_shows_whether_there_are_answers_again(silent, twin, monkeypatch):
+def test_one_message_shows_whether_there_are_answers_again(
+    silent: Address, twin: Twin, monkeypatch: pytest.MonkeyPatch
+) -> None:
     monkeypatch.setattr("bsched_bridge.scheduler.HUNG_SECONDS", 0.1)
     asked = Scheduler(silent, 1)
     seconds(lambda: asked.has_account("ann-key"))
@@ -55,7 +61,7 @@ def test_one_message_shows_whether_there_are_answers_again(silent, twin, monkeyp
     assert asked.silent_since is None and not asked.is_slow
 
 
-def test_a_bsched_that_is_not_there_is_asked_each_time(silent):
+def test_a_bsched_that_is_not_there_is_asked_each_time(silent: Address) -> None:
     with socket.create_server(("127.0.0.1", 0)) as listener:
         address = Address(*listener.getsockname())
     asked = Scheduler(address, 1)
@@ -63,19 +69,21 @@ def test_a_bsched_that_is_not_there_is_asked_each_time(silent):
     assert asked._began == {}
 
 
-def test_pages_and_files_are_answered_while_bsched_hangs(bridge, silent, monkeypatch):
+def test_pages_and_files_are_answered_while_bsched_hangs(
+    bridge: Bridge, silent: Address, monkeypatch: pytest.MonkeyPatch
+) -> None:
     monkeypatch.setattr(bridge.application.scheduler, "address", silent)
     threads = bridge.application.settings.threads
     server = waitress.create_server(bridge.application, host="127.0.0.1", port=0, threads=threads)
     threading.Thread(target=server.run, daemon=True).start()
     port = server.effective_port
 
-    def got(method, path, body=None):
+    def got(method: str, path: str, body: str | None = None) -> bytes:
         connection = http.client.HTTPConnection("127.0.0.1", port, timeout=30)
         connection.request(method, path, body)
-        told = connection.getresponse().read()
+        body = connection.getresponse().read()
         connection.close()
-        return told
+        return body
 
     callers = [
         threading.Thread(target=got, args=("POST", "/p/cgi", request(cpid=f"c{number}")))

@@ -1,4 +1,6 @@
 """Random lives of clients. Answers, replies and bridges get lost, and nothing else does."""
+from pathlib import Path
+from typing import Any
 import http.client
 import json
 import random
@@ -11,6 +13,7 @@ from messages import jobs, names, request, value
 from random_lives import LIFE_SETTINGS, Life, SimulatedClock, life_twin
 
 from trial.programs import Bridge
+from twin import Twin
 
 FAULTS = ["lost", "unheard", "unavailable", "garbage"]
 
@@ -20,7 +23,7 @@ class Client:
     acknowledged.
     """
 
-    def __init__(self, key, cpid, lists):
+    def __init__(self, key: str, cpid: str, lists: bool) -> None:
         self.key, self.cpid, self.lists, self.hostid, self.working, self.finished = (
             key,
             cpid,
@@ -30,11 +33,13 @@ class Client:
             set(),
         )
 
-    def call(self, bridge, chance, loses, seconds=61):
+    def call(
+        self, bridge: KilledBridge | Bridge, chance: Any, loses: bool, seconds: int = 61
+    ) -> bytes | None:
         """Calls. The reply may get lost on the way, and the bridge may be killed."""
         self.finished |= {name for name in self.working if chance.random() < 0.5}
         self.working -= self.finished
-        told = request(
+        body = request(
             hostid=self.hostid,
             key=self.key,
             cpid=self.cpid,
@@ -43,7 +48,7 @@ class Client:
             reports=[(name, name.split("_")[0]) for name in sorted(self.finished)],
         )
         try:
-            reply = bridge.call(told)
+            reply = bridge.call(body)
         except (OSError, http.client.HTTPException):
             return
         if loses:
@@ -60,7 +65,7 @@ class Client:
 
 
 @pytest.mark.parametrize("seed", range(12))
-def test_a_life(bridge, twin, seed):
+def test_a_life(bridge: Bridge, twin: Twin, seed: int) -> None:
     chance = random.Random(seed)
     clients = [Client("ann-key", "c1", True), Client("bob-key", "c2", True)]
     for step in range(120):
@@ -85,7 +90,7 @@ def test_a_life(bridge, twin, seed):
     looked_at_numbers(twin)
 
 
-def looked_at_numbers(twin):
+def looked_at_numbers(twin: Twin) -> None:
     """Checks that the numbers of a key rise, that only the same bytes repeat a number, and that no call was
     refused.
     """
@@ -98,12 +103,12 @@ def looked_at_numbers(twin):
         number, before = last.get(key, (0, b""))
         assert call["rpc_seqno"] > number or (call["rpc_seqno"] == number and body == before)
         last[key] = call["rpc_seqno"], body
-    refusals = {json.loads(told)["error"] for told in twin.told if '"error"' in told}
+    refusals = {json.loads(answer)["error"] for answer in twin.answers if '"error"' in answer}
     assert refusals <= {"unavailable", "bad_host"}  # a question of the bridge is refused as bad_host
 
 
 @pytest.mark.parametrize("seed", range(6))
-def test_a_life_of_a_client_that_lists_nothing(bridge, twin, seed):
+def test_a_life_of_a_client_that_lists_nothing(bridge: Bridge, twin: Twin, seed: int) -> None:
     """bsched sends nothing again to such a client. Only the bridge passes on the jobs of late answers."""
     chance = random.Random(seed)
     clients = [Client("ann-key", "c1", False), Client("bob-key", "c2", False)]
@@ -125,7 +130,9 @@ def test_a_life_of_a_client_that_lists_nothing(bridge, twin, seed):
 
 
 @pytest.mark.parametrize("seed", range(4))
-def test_each_acknowledged_report_is_recorded_and_no_job_is_given_twice(project, monkeypatch, seed):
+def test_each_acknowledged_report_is_recorded_and_no_job_is_given_twice(
+    project: Path, monkeypatch: pytest.MonkeyPatch, seed: int
+) -> None:
     """bridge/try_lives has many more steps."""
     from bridges import Bridge
 
@@ -148,7 +155,7 @@ def test_each_acknowledged_report_is_recorded_and_no_job_is_given_twice(project,
 class KilledBridge(Bridge):
     """A bridge in a process of its own."""
 
-    def call(self, body):
+    def call(self, body: str) -> bytes | None:
         """Returns the reply to a scheduler_request. Raises OSError or HTTPException if the bridge is killed
         before the reply comes.
         """
@@ -161,7 +168,7 @@ class KilledBridge(Bridge):
 
 
 @pytest.mark.parametrize("seed", range(2))
-def test_a_bridge_that_is_killed_at_random_moments(project, twin, seed):
+def test_a_bridge_that_is_killed_at_random_moments(project: Path, twin: Twin, seed: int) -> None:
     chance = random.Random(seed)
     with socket.socket() as listener:
         listener.bind(("127.0.0.1", 0))
@@ -177,7 +184,7 @@ def test_a_bridge_that_is_killed_at_random_moments(project, twin, seed):
     clients = [Client("ann-key", "c1", True), Client("bob-key", "c2", True)]
     ended = threading.Event()
 
-    def live(client, chance):
+    def live(client: Client, chance: Any) -> None:
         while not ended.is_set():
             client.call(bridge, chance, loses=False)
             time.sleep(0.002)

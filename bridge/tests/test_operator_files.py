@@ -1,4 +1,6 @@
 """Faults of the settings and of the catalogue are reported with their line."""
+from pathlib import Path
+from typing import Any
 import re
 import socket
 import subprocess
@@ -11,9 +13,10 @@ from bsched_bridge.catalogue import read_catalogue
 from bsched_bridge.code_signing import new_key, signature_text
 from bsched_bridge.operator_files import OperatorFault
 from bsched_bridge.settings import AccountSettings, Address, HostRules, read_settings
+from twin import Twin
 
 
-def test_settings(project):
+def test_settings(project: Path) -> None:
     settings = read_settings(project / "bridge.toml")
     assert settings.listen == Address("127.0.0.1", 8081)
     assert settings.path == "/p/"
@@ -23,7 +26,7 @@ def test_settings(project):
     assert (settings.accounts, settings.welcome, settings.counts) == (None, None, None)
 
 
-def test_settings_of_accounts(project):
+def test_settings_of_accounts(project: Path) -> None:
     (project / "terms.txt").write_text("Be kind.\n")
     with (project / "bridge.toml").open("a") as file:
         file.write(
@@ -43,7 +46,7 @@ def test_settings_of_accounts(project):
         ("http://127.0.0.1:8081/p/", "", False),
     ],
 )
-def test_a_proxy_that_tells_no_addresses(project, url, field, is_without):
+def test_a_proxy_that_tells_no_addresses(project: Path, url: str, field: str, is_without: bool) -> None:
     path = project / "bridge.toml"
     assert not read_settings(path).is_without_addresses
     text = path.read_text().replace("http://127.0.0.1:8081/p/", url)
@@ -51,7 +54,7 @@ def test_a_proxy_that_tells_no_addresses(project, url, field, is_without):
     assert read_settings(path).is_without_addresses is is_without
 
 
-def test_accounts_are_imported_with_the_operators_key(project):
+def test_accounts_are_imported_with_the_operators_key(project: Path) -> None:
     path = project / "bridge.toml"
     text = path.read_text().replace('operator_key = "change-this-key"\n', "")
     path.write_text(text + "[accounts]\nmost_a_day = 1\n")
@@ -70,7 +73,7 @@ def test_accounts_are_imported_with_the_operators_key(project):
         ("http://10.0.0.1/p/", False),
     ],
 )
-def test_passwords_are_sent_over_tls(project, url, is_good):
+def test_passwords_are_sent_over_tls(project: Path, url: str, is_good: bool) -> None:
     path = project / "bridge.toml"
     text = path.read_text().replace("http://127.0.0.1:8081/p/", url)
     path.write_text(text + "[accounts]\nmost_a_day = 1\n")
@@ -131,16 +134,16 @@ SETTINGS_FAULTS = [
 
 
 @pytest.mark.parametrize("old, new, line, what", SETTINGS_FAULTS)
-def test_faulty_settings(project, old, new, line, what):
+def test_faulty_settings(project: Path, old: str, new: str, line: int | None, what: str) -> None:
     path = project / "bridge.toml"
     path.write_text(path.read_text().replace(old, new, 1))
-    with pytest.raises(OperatorFault) as told:
+    with pytest.raises(OperatorFault) as raised:
         read_settings(path)
-    assert re.search(what, str(told.value))
-    assert str(told.value).startswith(f"{path}: " if line is None else f"{path}: line {line}: ")
+    assert re.search(what, str(raised.value))
+    assert str(raised.value).startswith(f"{path}: " if line is None else f"{path}: line {line}: ")
 
 
-def test_settings_that_can_not_be_read(project):
+def test_settings_that_can_not_be_read(project: Path) -> None:
     with pytest.raises(OperatorFault, match="No such file"):
         read_settings(project / "none.toml")
     (project / "bridge.toml").write_bytes(b'name = "Sums"\n# \xff\n')
@@ -148,7 +151,7 @@ def test_settings_that_can_not_be_read(project):
         read_settings(project / "bridge.toml")
 
 
-def test_a_catalogue(project):
+def test_a_catalogue(project: Path) -> None:
     catalogue = read_catalogue(project / "catalogue.toml")
     app = catalogue.apps["sum"]
     assert catalogue.work(app, "u1").command_line == "--name u1"
@@ -205,22 +208,22 @@ CATALOGUE_FAULTS = [
 
 
 @pytest.mark.parametrize("old, new, line, what", CATALOGUE_FAULTS)
-def test_faulty_catalogues(project, old, new, line, what):
+def test_faulty_catalogues(project: Path, old: str, new: str, line: int, what: str) -> None:
     path = project / "catalogue.toml"
     path.write_text(path.read_text().replace(old, new, 1))
-    with pytest.raises(OperatorFault) as told:
+    with pytest.raises(OperatorFault) as raised:
         read_catalogue(path)
-    assert re.search(what, str(told.value))
-    assert str(told.value).startswith(f"{path}: line {line}: ")
+    assert re.search(what, str(raised.value))
+    assert str(raised.value).startswith(f"{path}: line {line}: ")
 
 
-def test_a_program_that_was_changed_after_it_was_signed(project):
+def test_a_program_that_was_changed_after_it_was_signed(project: Path) -> None:
     (project / "files" / "sum_1").write_text("#!/bin/sh\nrm -rf /\n")
     with pytest.raises(OperatorFault, match="line 13: .* is not the signature of sum_1"):
         read_catalogue(project / "catalogue.toml")
 
 
-def test_a_signature_of_another_key(project):
+def test_a_signature_of_another_key(project: Path) -> None:
     from bsched_bridge.code_signing import file_md5
 
     (project / "sum_1.signature").write_text(signature_text(file_md5(project / "files" / "sum_1"), new_key()))
@@ -228,7 +231,7 @@ def test_a_signature_of_another_key(project):
         read_catalogue(project / "catalogue.toml")
 
 
-def ordered(folder, *words):
+def ordered(folder: Path, *words: str) -> Any:
     """Runs the command line, and returns what it did."""
     return subprocess.run(
         [sys.executable, "-m", "bsched_bridge", *words],
@@ -240,43 +243,43 @@ def ordered(folder, *words):
     )
 
 
-def free_port():
+def free_port() -> int:
     """Returns a port at which nobody listens."""
     with socket.create_server(("127.0.0.1", 0)) as made:
         return made.getsockname()[1]
 
 
-def at_port(project, port):
+def at_port(project: Path, port: int) -> None:
     """Gives the bridge the port of a scheduler."""
     path = project / "bridge.toml"
     path.write_text(re.sub("127.0.0.1:8080", f"127.0.0.1:{port}", path.read_text()))
 
 
-def test_the_check_asks_the_scheduler(project, twin):
+def test_the_check_asks_the_scheduler(project: Path, twin: Twin) -> None:
     at_port(project, twin.address.port)
-    told = ordered(project, "--config", "bridge.toml", "--check")
+    completed = ordered(project, "--config", "bridge.toml", "--check")
     place = f"the scheduler at 127.0.0.1:{twin.address.port}"
-    assert (told.returncode, told.stdout.splitlines()[1:]) == (0, [f"{place} knows operator_key"])
+    assert (completed.returncode, completed.stdout.splitlines()[1:]) == (0, [f"{place} knows operator_key"])
     path = project / "bridge.toml"
     path.write_text(path.read_text().replace("change-this-key", "another-key"))
-    told = ordered(project, "--config", "bridge.toml", "--check")
+    completed = ordered(project, "--config", "bridge.toml", "--check")
     fault = f"{place} refuses operator_key: it is that of another project, or the key is another one"
-    assert (told.returncode, told.stderr) == (1, f"bsched-bridge: bridge.toml: line 5: {fault}\n")
+    assert (completed.returncode, completed.stderr) == (1, f"bsched-bridge: bridge.toml: line 5: {fault}\n")
 
 
-def test_the_command_line(project):
+def test_the_command_line(project: Path) -> None:
     at_port(project, free_port())
-    told = ordered(project, "--config", "bridge.toml", "--check")
-    lines = told.stdout.splitlines()
-    assert (told.returncode, lines[0]) == (0, "good: 1 applications, 1 versions, 1 workunits")
+    completed = ordered(project, "--config", "bridge.toml", "--check")
+    lines = completed.stdout.splitlines()
+    assert (completed.returncode, lines[0]) == (0, "good: 1 applications, 1 versions, 1 workunits")
     assert lines[1].endswith("so operator_key was not compared") and "gives no answer" in lines[1]
     with (project / "bridge.toml").open("a") as file:
         file.write("[accounts]\nmost_a_day = 7\n")
-    told = ordered(project, "--config", "bridge.toml", "--check")
-    assert told.stdout.splitlines()[1] == "volunteers make accounts: at most 7 a day, 3 from one address"
+    completed = ordered(project, "--config", "bridge.toml", "--check")
+    assert completed.stdout.splitlines()[1] == "volunteers make accounts: at most 7 a day, 3 from one address"
     (project / "catalogue.toml").write_text("x = 1\n")
-    told = ordered(project, "--config", "bridge.toml")
-    assert (told.returncode, told.stderr) == (
+    completed = ordered(project, "--config", "bridge.toml")
+    assert (completed.returncode, completed.stderr) == (
         1,
         "bsched-bridge: catalogue.toml: line 1: code_sign_key is missing\n",
     )
@@ -285,20 +288,20 @@ def test_the_command_line(project):
 
 
 @pytest.mark.parametrize(
-    "name, told",
+    "name, message",
     [
         ("key", "code_sign_key: .*key can't be read"),
         ("sum_1.signature", "the signature .* can't be read"),
     ],
 )
-def test_files_of_the_catalogue_that_cant_be_read(project, name, told):
+def test_files_of_the_catalogue_that_cant_be_read(project: Path, name: str, message: str) -> None:
     (project / name).write_bytes(b"\xff")
-    with pytest.raises(OperatorFault, match=told):
+    with pytest.raises(OperatorFault, match=message):
         read_catalogue(project / "catalogue.toml")
 
 
-def test_a_program_that_cant_be_read(project, monkeypatch):
-    def fails(_path):
+def test_a_program_that_cant_be_read(project: Path, monkeypatch: pytest.MonkeyPatch) -> None:
+    def fails(_path: Path) -> None:
         raise OSError("no such device")
 
     monkeypatch.setattr("bsched_bridge.catalogue.file_md5", fails)

@@ -1,4 +1,6 @@
 """The pages for people: what they show, their forms, and what a browser may do with them."""
+from pathlib import Path
+from typing import Any
 import json
 import re
 import threading
@@ -10,6 +12,8 @@ from joining import CLIENT, create, look_up
 from messages import request
 
 from bsched_bridge.markup import STYLE, Markup, element, joined, linked, paragraphs, table
+from twin import Twin
+from bridges import Bridge
 
 EMPTY = {"meta", "link", "input", "br"}
 FORM = "application/x-www-form-urlencoded"
@@ -18,39 +22,39 @@ FORM = "application/x-www-form-urlencoded"
 class Page(HTMLParser):
     """A page as a browser reads it. Each element is closed, and there is no script, and no style but the one."""
 
-    def __init__(self, text):
+    def __init__(self, text: str) -> None:
         super().__init__()
         self.open, self.tags, self.text, self.inputs, self.links, self.ids = [], [], "", {}, [], {}
         self.feed(text)
         self.close()
         assert self.open == [], self.open
 
-    def handle_starttag(self, tag, attributes):
-        told = dict(attributes)
-        assert not [name for name in told if name.startswith("on") or name == "style"]
-        self.tags.append((tag, told))
+    def handle_starttag(self, tag: str, attributes: list[Any]) -> None:
+        fields = dict(attributes)
+        assert not [name for name in fields if name.startswith("on") or name == "style"]
+        self.tags.append((tag, fields))
         if tag not in EMPTY:
             self.open.append(tag)
         if tag == "input":
-            self.inputs[told["name"]] = told
+            self.inputs[fields["name"]] = fields
         if tag == "a":
-            self.links.append(told["href"])
-        if "id" in told:
-            assert told["id"] not in self.ids or tag == "input"
-            self.ids[told["id"]] = told
+            self.links.append(fields["href"])
+        if "id" in fields:
+            assert fields["id"] not in self.ids or tag == "input"
+            self.ids[fields["id"]] = fields
 
-    def handle_endtag(self, tag):
+    def handle_endtag(self, tag: str) -> None:
         assert self.open.pop() == tag
 
-    def handle_data(self, data):
+    def handle_data(self, data: str) -> None:
         if self.open and self.open[-1] != "style":
             self.text += data
 
 
-def page_of(answer, status="200 OK", has_key=False):
+def page_of(answer: tuple[str, dict[str, str], bytes], status: str = "200 OK", has_key: bool = False) -> Page:
     """Returns the page of an answer, and checks the answer's fields."""
-    told, fields, body = answer
-    assert (told, fields["Content-Type"]) == (status, "text/html; charset=utf-8")
+    line, fields, body = answer
+    assert (line, fields["Content-Type"]) == (status, "text/html; charset=utf-8")
     assert fields["Referrer-Policy"] == "no-referrer"
     policy = fields["Content-Security-Policy"]
     assert (
@@ -63,15 +67,19 @@ def page_of(answer, status="200 OK", has_key=False):
     assert text.count(f"<style>{STYLE}</style>") == 1 and "<script" not in text and "javascript:" not in text
     page = Page(text)
     assert ("meta", {"name": "viewport", "content": "width=device-width, initial-scale=1"}) in page.tags
-    for tag, told in page.tags:  # each field has a label, and its descriptions exist
-        if tag == "input" and told["type"] not in ("hidden", "checkbox"):
-            assert [1 for name, other in page.tags if name == "label" and other.get("for") == told["id"]]
-            for target in (told.get("aria-describedby") or "").split():
+    for tag, attributes in page.tags:  # each field has a label, and its descriptions exist
+        if tag == "input" and attributes["type"] not in ("hidden", "checkbox"):
+            assert [
+                1 for name, other in page.tags if name == "label" and other.get("for") == attributes["id"]
+            ]
+            for target in (attributes.get("aria-describedby") or "").split():
                 assert target in page.ids
     return page
 
 
-def posted(bridge, path, client=CLIENT, **fields):
+def posted(
+    bridge: Bridge, path: str, client: str = CLIENT, **fields: str
+) -> tuple[str, dict[str, str], bytes]:
     """Returns the answer to a form."""
     body = urlencode(fields).encode()
     return bridge.got(f"/p/{path}", "POST", body, CONTENT_TYPE=FORM, REMOTE_ADDR=client, HTTP_ORIGIN="null")
@@ -80,7 +88,7 @@ def posted(bridge, path, client=CLIENT, **fields):
 # ---- Markup
 
 
-def test_texts_are_escaped():
+def test_texts_are_escaped() -> None:
     assert element("p", "<b>&\"'", class_='a"b') == '<p class="a&quot;b">&lt;b&gt;&amp;&quot;&#x27;</p>'
     assert element("p", element("b", "<"), Markup("<i></i>")) == "<p><b>&lt;</b><i></i></p>"
     assert (
@@ -91,7 +99,7 @@ def test_texts_are_escaped():
     assert table(["<"], [["<"], [5]]).count("&lt;") == 2
 
 
-def test_what_an_operator_writes():
+def test_what_an_operator_writes() -> None:
     text = "One <b>\r\nline\n\n\n see https://sums.example/a?b=1&c=2. \n\njavascript:alert(1)"
     assert paragraphs(text) == (
         '<div class="text"><p>One &lt;b&gt;\nline</p><p>see <a href="https://sums.example/a?b=1&amp;c=2">'
@@ -103,7 +111,7 @@ def test_what_an_operator_writes():
 # ---- How to join
 
 
-def test_the_operators_own_words(project, bridge):
+def test_the_operators_own_words(project: Path, bridge: Bridge) -> None:
     (project / "welcome.txt").write_text("We add <numbers>.\n\nJoin us!\n")
     (project / "bridge.toml").write_text('welcome = "welcome.txt"\n' + (project / "bridge.toml").read_text())
     bridge.restart()
@@ -115,7 +123,7 @@ def test_the_operators_own_words(project, bridge):
     assert '<link rel="boinc_scheduler" href="http://127.0.0.1:8081/p/cgi">' in lines
 
 
-def test_how_to_join(project, open_bridge):
+def test_how_to_join(project: Path, open_bridge: Bridge) -> None:
     page = page_of(open_bridge.got("/p/"))
     assert "No, new user" in page.text and "http://127.0.0.1:8081/p/" in page.text
     assert page.links == ["https://boinc.berkeley.edu/download.php", "status", "account"]
@@ -127,7 +135,7 @@ def test_how_to_join(project, open_bridge):
     assert "Be kind." in page_of(open_bridge.got("/p/terms")).text
 
 
-def test_no_accounts_no_pages_of_accounts(bridge):
+def test_no_accounts_no_pages_of_accounts(bridge: Bridge) -> None:
     for path in ("account", "account_finish.php?auth=ann-key", "terms"):
         assert bridge.got(f"/p/{path}")[0] == "404 Not Found"
     assert "no passwords" in page_of(bridge.got("/p/get_passwd.php")).text
@@ -136,7 +144,7 @@ def test_no_accounts_no_pages_of_accounts(bridge):
 # ---- An account
 
 
-def test_the_page_of_an_account(open_bridge, twin):
+def test_the_page_of_an_account(open_bridge: Bridge, twin: Twin) -> None:
     key = create(open_bridge)
     name = open_bridge.members.of_key(key).name
     page = page_of(open_bridge.got(f"/p/account_finish.php?auth={key}"), has_key=True)
@@ -149,7 +157,9 @@ def test_the_page_of_an_account(open_bridge, twin):
     assert twin.service.machine.rows["accounts"][key].name == name
 
 
-def test_the_credit_of_more_hosts_than_the_page_shows(open_bridge, monkeypatch):
+def test_the_credit_of_more_hosts_than_the_page_shows(
+    open_bridge: Bridge, monkeypatch: pytest.MonkeyPatch
+) -> None:
     for module in ("statements", "account_pages"):
         monkeypatch.setattr(f"bsched_bridge.{module}.MOST_HOSTS", 1)
     for number in range(2):
@@ -163,19 +173,19 @@ def test_the_credit_of_more_hosts_than_the_page_shows(open_bridge, monkeypatch):
     assert "Together 123.456." in page.text
 
 
-def test_an_account_of_the_operator_has_a_page(open_bridge):
+def test_an_account_of_the_operator_has_a_page(open_bridge: Bridge) -> None:
     page_of(open_bridge.got("/p/account_finish.php?auth=ann-key"), "404 Not Found")  # no host has called yet
     open_bridge.call(request())
     assert "Ann" in page_of(open_bridge.got("/p/account_finish.php?auth=ann-key"), has_key=True).text
 
 
 @pytest.mark.parametrize("query", ["", "?auth=", "?auth=nobody", "?auth=%3Cb%3E", "?auth=%27%20OR%201"])
-def test_a_key_that_nobody_has(open_bridge, query):
+def test_a_key_that_nobody_has(open_bridge: Bridge, query: str) -> None:
     page = page_of(open_bridge.got(f"/p/account_finish.php{query}"), "404 Not Found")
     assert "No account has this key." in page.text
 
 
-def test_a_look_changes_nothing(open_bridge):
+def test_a_look_changes_nothing(open_bridge: Bridge) -> None:
     key = create(open_bridge)
     before = open_bridge.members.of_key(key)
     for query in ("", "&name=Eve&is_exported=1", "&key=1"):
@@ -183,7 +193,7 @@ def test_a_look_changes_nothing(open_bridge):
     assert open_bridge.members.of_key(key) == before
 
 
-def test_a_name_and_consent_are_changed(open_bridge):
+def test_a_name_and_consent_are_changed(open_bridge: Bridge) -> None:
     key = create(open_bridge)
     page = page_of(
         posted(open_bridge, "account_finish.php", key=key, name=" Ann <A>\x00 ", is_exported="1"),
@@ -201,7 +211,7 @@ def test_a_name_and_consent_are_changed(open_bridge):
     assert open_bridge.members.of_key(key).is_exported is False
 
 
-def test_an_empty_name_is_a_fault_beside_its_field(open_bridge):
+def test_an_empty_name_is_a_fault_beside_its_field(open_bridge: Bridge) -> None:
     key = create(open_bridge)
     name = open_bridge.members.of_key(key).name
     page = page_of(posted(open_bridge, "account_finish.php", key=key, name=" \t"), has_key=True)
@@ -210,40 +220,40 @@ def test_an_empty_name_is_a_fault_beside_its_field(open_bridge):
     assert open_bridge.members.of_key(key).name == name
 
 
-def test_a_form_without_its_key(open_bridge):
-    for told in ({}, {"key": "nobody"}):
-        page = page_of(posted(open_bridge, "account_finish.php", name="Eve", **told))
+def test_a_form_without_its_key(open_bridge: Bridge) -> None:
+    for form in ({}, {"key": "nobody"}):
+        page = page_of(posted(open_bridge, "account_finish.php", name="Eve", **form))
         assert "No account has this key." in page.text
 
 
-def test_the_way_to_an_account(open_bridge):
+def test_the_way_to_an_account(open_bridge: Bridge) -> None:
     key = create(open_bridge)
     assert set(page_of(open_bridge.got("/p/account")).inputs) == {"email", "password", "key"}
     assert key in page_of(posted(open_bridge, "account", key=f" {key} "), has_key=True).text
-    told = posted(open_bridge, "account", email="Ann@Sums.Example ", password="secret1")
-    assert key in page_of(told, has_key=True).text
+    answer = posted(open_bridge, "account", email="Ann@Sums.Example ", password="secret1")
+    assert key in page_of(answer, has_key=True).text
     page = page_of(posted(open_bridge, "account", email="ann@sums.example", password="wrong-1"))
     assert "No account has this e-mail address and password." in page.text
     assert page.inputs["email"]["value"] == "ann@sums.example" and "value" not in page.inputs["password"]
     assert key not in page.text
 
 
-def test_wrong_keys_and_passwords_of_forms_count(open_bridge):
+def test_wrong_keys_and_passwords_of_forms_count(open_bridge: Bridge) -> None:
     key = create(open_bridge)
     for number in range(10):
-        told = {"key": "nobody"} if number % 2 else {"email": "ann@sums.example", "password": "wrong-1"}
-        page_of(posted(open_bridge, "account", **told))
-    for path, told in (
+        form = {"key": "nobody"} if number % 2 else {"email": "ann@sums.example", "password": "wrong-1"}
+        page_of(posted(open_bridge, "account", **form))
+    for path, form in (
         ("account", {"key": key}),
         ("account", {"email": "ann@sums.example", "password": "secret1"}),
         ("account_finish.php", {"key": key, "name": "A"}),
         ("get_passwd.php", {"key": key, "email": "a@b.example", "password": "secret2"}),
     ):
-        assert "Too many wrong passwords" in page_of(posted(open_bridge, path, **told)).text
+        assert "Too many wrong passwords" in page_of(posted(open_bridge, path, **form)).text
     assert key in page_of(posted(open_bridge, "account", "198.51.100.9", key=key)).text
 
 
-def test_a_new_password(open_bridge):
+def test_a_new_password(open_bridge: Bridge) -> None:
     key = create(open_bridge)
     assert set(page_of(open_bridge.got("/p/get_passwd.php")).inputs) == {"key", "email", "password"}
     page = page_of(
@@ -255,7 +265,7 @@ def test_a_new_password(open_bridge):
     assert create(open_bridge, "new@sums.example", "secret2") == key
 
 
-def test_an_account_of_the_operator_gets_a_password(open_bridge):
+def test_an_account_of_the_operator_gets_a_password(open_bridge: Bridge) -> None:
     open_bridge.call(request())
     page_of(
         posted(open_bridge, "get_passwd.php", key="ann-key", email="ann@sums.example", password="secret2")
@@ -279,17 +289,19 @@ def test_an_account_of_the_operator_gets_a_password(open_bridge):
         ({"email": "bob@sums.example"}, "email", "Another account has this e-mail address."),
     ],
 )
-def test_a_new_password_that_can_not_be(open_bridge, fields, field, what):
+def test_a_new_password_that_can_not_be(
+    open_bridge: Bridge, fields: dict[str, str], field: str, what: str
+) -> None:
     key = create(open_bridge)
     create(open_bridge, "bob@sums.example")
-    told = {"key": key, "email": "new@sums.example", "password": "secret2", **fields}
-    page = page_of(posted(open_bridge, "get_passwd.php", **told))
+    form = {"key": key, "email": "new@sums.example", "password": "secret2", **fields}
+    page = page_of(posted(open_bridge, "get_passwd.php", **form))
     assert what in page.text and page.inputs[field]["aria-invalid"] == "true"
     assert f"{field}-fault" in page.inputs[field]["aria-describedby"]
     assert look_up(open_bridge) == key
 
 
-def test_what_is_no_form(open_bridge):
+def test_what_is_no_form(open_bridge: Bridge) -> None:
     for path in ("account", "account_finish.php", "get_passwd.php"):
         assert open_bridge.got(f"/p/{path}", "POST", b"{}", CONTENT_TYPE="application/json")[0].startswith(
             "415"
@@ -305,7 +317,7 @@ def test_what_is_no_form(open_bridge):
 # ---- The status page
 
 
-def test_a_ranking_of_all_users(open_bridge, twin):
+def test_a_ranking_of_all_users(open_bridge: Bridge, twin: Twin) -> None:
     twin.service.imported(
         "accounts", "many", "authenticator,name\n" + "".join(f"k{n},User {n:03}\n" for n in range(130))
     )
@@ -331,11 +343,11 @@ def test_a_ranking_of_all_users(open_bridge, twin):
     assert page.links == ["status?page=2", "."]
     page = page_of(open_bridge.got("/p/status?page=2"))
     assert "User 029" in page.text and "101User 029" in page.text and page.links == ["status?page=1", "."]
-    for told in ("0", "-1", "x", "99999999", "", "٣", "3"):
-        assert page_of(open_bridge.got(f"/p/status?page={told}")).links[-1] == "."
+    for text in ("0", "-1", "x", "99999999", "", "٣", "3"):
+        assert page_of(open_bridge.got(f"/p/status?page={text}")).links[-1] == "."
 
 
-def test_a_scheduler_that_is_silent(open_bridge, twin):
+def test_a_scheduler_that_is_silent(open_bridge: Bridge, twin: Twin) -> None:
     open_bridge.call(request())
     assert "no answer since" not in page_of(open_bridge.got("/p/status")).text
     twin.import_faults = ["unavailable"]
@@ -353,7 +365,7 @@ def test_a_scheduler_that_is_silent(open_bridge, twin):
     assert since.search(first)[1] == since.search(again)[1]
 
 
-def test_nobody_waits_while_somebody_else_reads_the_status(open_bridge):
+def test_nobody_waits_while_somebody_else_reads_the_status(open_bridge: Bridge) -> None:
     open_bridge.call(request())
     with open_bridge.application.statements._lock:
         pages = []
@@ -365,7 +377,7 @@ def test_nobody_waits_while_somebody_else_reads_the_status(open_bridge):
     assert "waiting" in page_of(open_bridge.got("/p/status")).text
 
 
-def test_statements_that_take_too_long(open_bridge, monkeypatch):
+def test_statements_that_take_too_long(open_bridge: Bridge, monkeypatch: pytest.MonkeyPatch) -> None:
     open_bridge.call(request())
     monkeypatch.setattr("bsched_bridge.statements.READ_SECONDS", -1.0)
     page = page_of(open_bridge.got("/p/status"))
@@ -384,7 +396,7 @@ def test_statements_that_take_too_long(open_bridge, monkeypatch):
         ('{"workunits":1}', False),
     ],
 )
-def test_workunits_of_a_copy(project, bridge, text, is_shown):
+def test_workunits_of_a_copy(project: Path, bridge: Bridge, text: str | None, is_shown: bool) -> None:
     (project / "bridge.toml").write_text('counts = "counts.json"\n' + (project / "bridge.toml").read_text())
     if text is not None:
         (project / "counts.json").write_text(text)
@@ -414,7 +426,9 @@ FROM_HERE = [
 
 
 @pytest.mark.parametrize("fields", ELSEWHERE)
-def test_pages_of_other_sites_can_neither_try_passwords_nor_lock_people_out(open_bridge, fields):
+def test_pages_of_other_sites_can_neither_try_passwords_nor_lock_people_out(
+    open_bridge: Bridge, fields: dict[str, str]
+) -> None:
     key = create(open_bridge)
     body, kind = b"email=ann@sums.example&password=wrong&key=x", {
         "CONTENT_TYPE": "application/x-www-form-urlencoded"
@@ -431,7 +445,7 @@ def test_pages_of_other_sites_can_neither_try_passwords_nor_lock_people_out(open
 
 
 @pytest.mark.parametrize("fields", FROM_HERE)
-def test_the_pages_own_forms_are_taken(open_bridge, fields):
+def test_the_pages_own_forms_are_taken(open_bridge: Bridge, fields: dict[str, Any]) -> None:
     key = create(open_bridge)
     assert open_bridge.got(f"/p/account_finish.php?auth={key}", **fields)[0].startswith("200")
     kind = {"CONTENT_TYPE": "application/x-www-form-urlencoded"}
@@ -440,7 +454,7 @@ def test_the_pages_own_forms_are_taken(open_bridge, fields):
 
 
 @pytest.mark.parametrize("page", ["account", "get_passwd.php", "account_finish.php?auth=nobody"])
-def test_browsers_store_no_page_that_may_have_a_key(open_bridge, page):
+def test_browsers_store_no_page_that_may_have_a_key(open_bridge: Bridge, page: str) -> None:
     assert open_bridge.got(f"/p/{page}")[1]["Cache-Control"] == "no-store"
     form = urlencode({"key": "some-key", "email": "x", "password": "y"}).encode()
     kind = {"CONTENT_TYPE": "application/x-www-form-urlencoded"}
@@ -449,7 +463,7 @@ def test_browsers_store_no_page_that_may_have_a_key(open_bridge, page):
 
 
 @pytest.mark.parametrize("statement", ["", "result\n", "a,b\n1\n", "result,app,credit\ntotal,,x\n"])
-def test_a_statement_that_cant_be_read(open_bridge, twin, statement):
+def test_a_statement_that_cant_be_read(open_bridge: Bridge, twin: Twin, statement: str) -> None:
     open_bridge.call(request())
     twin.statement = statement
     page = page_of(open_bridge.got("/p/status"))

@@ -1,4 +1,6 @@
 """Plan classes: which platforms bsched gets, and what the reply says of a version."""
+from pathlib import Path
+from typing import Any
 import xml.etree.ElementTree as ElementTree
 
 import pytest
@@ -7,6 +9,8 @@ from messages import FIRST, jobs, request
 from bsched_bridge.client_requests import Coproc, read_request
 from bsched_bridge.operator_files import OperatorFault
 from bsched_bridge.plan_classes import PlanClass, by_resource
+from bridges import Bridge
+from bsched_bridge.client_requests import ClientRequest
 
 X86, I686 = "x86_64-pc-linux-gnu", "i686-pc-linux-gnu"
 MT = PlanClass("mt", 2, 16, None, 1.0, None, None, "--nthreads {ncpus}")
@@ -27,7 +31,12 @@ COPROCS = """\
 """
 
 
-def asked(ncpus=4, cpu=100, gpu=None, alternatives=(I686,)):
+def asked(
+    ncpus: int = 4,
+    cpu: int = 100,
+    gpu: float | int | None = None,
+    alternatives: list[str] | tuple[str] = (I686,),
+) -> ClientRequest:
     """Returns the request of a host."""
     extra = f"<cpu_req_secs>{cpu}</cpu_req_secs>" + "".join(
         f"<alt_platform><name>{name}</name></alt_platform>" for name in alternatives
@@ -38,30 +47,30 @@ def asked(ncpus=4, cpu=100, gpu=None, alternatives=(I686,)):
     return read_request([body.encode()])
 
 
-def sent(told, platforms=ALL):
+def sent(asking: ClientRequest, platforms: Any = ALL) -> tuple[list[str], int]:
     """Returns the platforms and the seconds that bsched gets."""
-    told = by_resource(told, (GPU, MT), platforms)
-    return [told.platform_name, *told.alt_platforms], told.work_req_seconds
+    asking = by_resource(asking, (GPU, MT), platforms)
+    return [asking.platform_name, *asking.alt_platforms], asking.work_req_seconds
 
 
-def test_what_a_request_says_of_coprocessors():
-    told = asked(gpu=103680.5)
-    assert (told.p_ncpus, told.cpu_req_secs) == (4, 100)
-    assert told.coprocs == (Coproc("fakegpu", 2, 103681),)
-    told = read_request([request(seconds=7).encode()])  # of an old client
-    assert (told.p_ncpus, told.cpu_req_secs, told.coprocs) == (1, 7, ())
+def test_what_a_request_says_of_coprocessors() -> None:
+    asking = asked(gpu=103680.5)
+    assert (asking.p_ncpus, asking.cpu_req_secs) == (4, 100)
+    assert asking.coprocs == (Coproc("fakegpu", 2, 103681),)
+    asking = read_request([request(seconds=7).encode()])  # of an old client
+    assert (asking.p_ncpus, asking.cpu_req_secs, asking.coprocs) == (1, 7, ())
     cards = "".join(
         f"<{name}><count>1</count><req_secs>5</req_secs></{name}>"
         for name in ("coproc_cuda", "coproc_ati", "coproc_intel_gpu", "coproc_other")
     )
-    told = read_request(
+    asking = read_request(
         [request(extra=f"<coprocs>{cards}<coproc><count>1</count></coproc></coprocs>").encode()]
     )
-    assert [one.type for one in told.coprocs] == ["NVIDIA", "ATI", "intel_gpu"]
+    assert [one.type for one in asking.coprocs] == ["NVIDIA", "ATI", "intel_gpu"]
 
 
 @pytest.mark.parametrize(
-    "told, platforms, seconds",
+    "asking, platforms, seconds",
     [
         (asked(), [f"{X86}.mt", f"{I686}.mt", X86, I686], 100),
         (asked(ncpus=1), [X86, I686], 100),
@@ -73,16 +82,16 @@ def test_what_a_request_says_of_coprocessors():
         (asked(cpu=0, gpu=0), [f"{X86}.fake", f"{X86}.mt", f"{I686}.fake", f"{I686}.mt", X86, I686], 0),
     ],
 )
-def test_the_platforms_of_a_call(told, platforms, seconds):
-    assert sent(told) == (platforms, seconds)
+def test_the_platforms_of_a_call(asking: ClientRequest, platforms: list[str], seconds: int) -> None:
+    assert sent(asking) == (platforms, seconds)
 
 
-def test_only_platforms_with_versions_are_sent():
+def test_only_platforms_with_versions_are_sent() -> None:
     assert sent(asked(gpu=500), frozenset({X86, f"{X86}.mt"})) == ([f"{X86}.mt", X86, I686], 100)
     assert sent(asked(cpu=0, gpu=500), frozenset({X86})) == ([X86, I686], 0)
 
 
-def test_at_most_eight_platforms_are_sent():
+def test_at_most_eight_platforms_are_sent() -> None:
     others = [f"p{number}" for number in range(7)]
     platforms = frozenset(f"{name}.mt" for name in (X86, *others))
     assert sent(asked(alternatives=others), platforms)[0] == [f"{name}.mt" for name in (X86, *others)]
@@ -112,7 +121,7 @@ files = [{ name = "sum_1", signature = "sum_1.signature", main_program = true }]
 
 
 @pytest.fixture
-def class_bridge(bridge):
+def class_bridge(bridge: Bridge) -> Bridge:
     """A bridge with versions of two plan classes."""
     path = bridge.folder / "catalogue.toml"
     more = CLASSES + VERSION.replace("CLASS", "mt") + VERSION.replace("CLASS", "fake")
@@ -124,14 +133,14 @@ def class_bridge(bridge):
     return bridge
 
 
-def test_a_job_of_several_processors(class_bridge):
+def test_a_job_of_several_processors(class_bridge: Bridge) -> None:
     body = request(extra="<cpu_req_secs>60</cpu_req_secs>").replace(
         "<p_fpops>", "<p_ncpus>4</p_ncpus><p_fpops>"
     )
     reply = ElementTree.fromstring(class_bridge.call(body))
     version = reply.find("app_version")
-    told = [(one.tag, one.text) for one in version if one.tag not in ("file_ref", "app_name")]
-    assert told == [
+    elements = [(one.tag, one.text) for one in version if one.tag not in ("file_ref", "app_name")]
+    assert elements == [
         ("version_num", "2"),
         ("platform", X86),
         ("plan_class", "mt"),
@@ -145,7 +154,7 @@ def test_a_job_of_several_processors(class_bridge):
     assert reply.findtext("workunit/rsc_fpops_est") == "60000000000"
 
 
-def test_a_job_of_a_coprocessor_alone(class_bridge):
+def test_a_job_of_a_coprocessor_alone(class_bridge: Bridge) -> None:
     extra = "<cpu_req_secs>0</cpu_req_secs>" + COPROCS.format(seconds=60)
     reply = ElementTree.fromstring(class_bridge.call(request(seconds=0, extra=extra)))
     version = reply.find("app_version")
@@ -155,7 +164,7 @@ def test_a_job_of_a_coprocessor_alone(class_bridge):
     assert version.find("cmdline") is None
 
 
-def test_a_host_without_the_resources_gets_a_plain_version(class_bridge):
+def test_a_host_without_the_resources_gets_a_plain_version(class_bridge: Bridge) -> None:
     reply = class_bridge.call(request())
     assert jobs(reply) == ["u1_0"]
     assert b"plan_class" not in reply
@@ -164,7 +173,7 @@ def test_a_host_without_the_resources_gets_a_plain_version(class_bridge):
     assert jobs(class_bridge.call(request(hostid=FIRST, seconds=0))) == ["u1_0"]
 
 
-def test_the_platforms_of_the_project_are_plain(class_bridge):
+def test_the_platforms_of_the_project_are_plain(class_bridge: Bridge) -> None:
     config = ElementTree.fromstring(class_bridge.got("/p/get_project_config.php")[2])
     assert [one.text for one in config.findall("platforms/platform/platform_name")] == [X86]
 
@@ -186,7 +195,7 @@ def test_the_platforms_of_the_project_are_plain(class_bridge):
         ('"--nthreads {ncpus}"', '"a\\nb"', "command_line has more than 256 bytes, or a control character"),
     ],
 )
-def test_faulty_classes(project, old, new, fault):
+def test_faulty_classes(project: Path, old: str, new: str, fault: str) -> None:
     from bsched_bridge.catalogue import read_catalogue
 
     path = project / "catalogue.toml"

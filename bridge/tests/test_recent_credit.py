@@ -1,4 +1,5 @@
 """Recent average credit: what the tools keep is in replies and on pages."""
+from pathlib import Path
 import hashlib
 import hmac
 import json
@@ -9,12 +10,13 @@ import pytest
 from messages import request, value
 
 from bsched_bridge.recent_credit import RecentCredit
+from bridges import Bridge
 
 DAY = 86400
 SALT = "5a17"
 
 
-def file_of(path, averages, now):
+def file_of(path: Path, averages: dict[tuple[str, str], float], now: float | int) -> None:
     """Writes a file of averages as the tools do. They are given by key and host_cpid."""
     hosts = {
         hmac.new(SALT.encode(), f"{key}\0{cpid}".encode(), hashlib.sha256).hexdigest()[:32]: {
@@ -31,7 +33,7 @@ def file_of(path, averages, now):
     path.write_text(json.dumps({"format": 1, "salt": SALT, "users": {}, "hosts": hosts}))
 
 
-def test_an_average_halves_in_a_week(tmp_path):
+def test_an_average_halves_in_a_week(tmp_path: Path) -> None:
     file_of(tmp_path / "a.json", {("ann-key", "c1"): 8.0, ("ann-key", "c2"): 2.0}, 1000)
     recent = RecentCredit(tmp_path / "a.json")
     assert recent.of_host("ann-key", "c1", 1000) == 8
@@ -41,7 +43,7 @@ def test_an_average_halves_in_a_week(tmp_path):
     assert recent.of_hosts([("ann-key", "c1"), ("ann-key", "c2"), ("eve-key", "c1")], 1000) == 10
 
 
-def test_the_file_is_read_again_after_a_change(tmp_path, caplog):
+def test_the_file_is_read_again_after_a_change(tmp_path: Path, caplog: pytest.LogCaptureFixture) -> None:
     path = tmp_path / "a.json"
     recent = RecentCredit(path)
     assert recent.of_host("ann-key", "c1", 1000) == 0
@@ -54,7 +56,7 @@ def test_the_file_is_read_again_after_a_change(tmp_path, caplog):
     assert "can't be read" in caplog.text
 
 
-def test_replies_and_pages_have_it(project, bridge):
+def test_replies_and_pages_have_it(project: Path, bridge: Bridge) -> None:
     path = project / "bridge.toml"
     path.write_text('averages = "averages.json"\n' + path.read_text())
     bridge.restart()
@@ -70,18 +72,18 @@ def test_replies_and_pages_have_it(project, bridge):
     assert "recent average credit" in text and ">10.00<" in text
 
 
-def test_without_a_file_nothing_is_said(bridge):
+def test_without_a_file_nothing_is_said(bridge: Bridge) -> None:
     assert value(bridge.call(request()), "user_expavg_credit") is None
     assert "recent average" not in bridge.got("/p/status")[2].decode()
 
 
-def test_a_page_that_does_not_exist(bridge):
+def test_a_page_that_does_not_exist(bridge: Bridge) -> None:
     status, fields, body = bridge.got("/p/nope")
     assert status == "404 Not Found" and fields["Content-Type"].startswith("text/html")
     assert b"There is no such page here." in body and b'href="http://127.0.0.1:8081/p/"' in body
 
 
-def test_how_to_reach_the_operator(project, bridge):
+def test_how_to_reach_the_operator(project: Path, bridge: Bridge) -> None:
     path = project / "bridge.toml"
     path.write_text('contact = "https://sums.example/us"\n' + path.read_text())
     bridge.restart()

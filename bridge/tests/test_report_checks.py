@@ -1,14 +1,20 @@
 """What bsched gets of reports whose results have output files, and which files are stored."""
+from collections.abc import Callable
+from typing import Any
 import hashlib
 import json
+import sqlite3
 
 import pytest
 from messages import FIRST, jobs, names, request, value
 from twin import IMPORTS
 from uploading import file_info, on_disk, report, sent, sha256_of, tokens_of, upload
 
+from bsched_bridge.handed_out import HandedOut
 from bsched_bridge.hosts import Key
 from bsched_bridge.output_files import OutputFile, StoredOutput, compared_text
+from twin import Twin
+from bridges import Bridge
 
 PLAIN = """\
 [[app]]
@@ -24,7 +30,7 @@ OUT, LOG = b"the answer\n", b"some lines\n"
 TEXT = f"out sha256:{sha256_of(OUT)} 11\nlog sha256:{sha256_of(LOG)} 11"
 
 
-def worked(bridge, out=OUT, log=None, **more):
+def worked(bridge: Bridge, out: bytes = OUT, log: bytes | None = None, **more: str) -> list[str]:
     """Has a client get a job and upload its files. Returns the elements of its report."""
     reply = bridge.call(request(**more))
     tokens, (result,) = tokens_of(reply), jobs(reply)
@@ -37,15 +43,15 @@ def worked(bridge, out=OUT, log=None, **more):
     return infos
 
 
-def reported(bridge, body):
+def reported(bridge: Bridge, body: str) -> tuple[int, str]:
     """Sends a report. Returns what bsched got: the exit status and the output of the result."""
     reply = bridge.call(body)
     assert names(reply, "result_ack")
-    (told,) = bridge.twin.calls()[-1]["results"]
-    return told["exit_status"], told["output"]
+    (result,) = bridge.twin.calls()[-1]["results"]
+    return result["exit_status"], result["output"]
 
 
-def test_the_files_of_a_good_report_are_stored(file_bridge):
+def test_the_files_of_a_good_report_are_stored(file_bridge: Bridge) -> None:
     infos = worked(file_bridge, log=LOG)
     assert reported(file_bridge, report("u1_0", infos)) == (0, TEXT)
     assert on_disk(file_bridge.folder) == {f"store/{sha256_of(OUT)}": OUT, f"store/{sha256_of(LOG)}": LOG}
@@ -56,7 +62,7 @@ def test_the_files_of_a_good_report_are_stored(file_bridge):
     assert file_bridge.store.tables.used() == 22
 
 
-def test_equal_files_are_stored_once_and_agree(file_bridge):
+def test_equal_files_are_stored_once_and_agree(file_bridge: Bridge) -> None:
     for client in ("ann", "bob"):
         infos = worked(file_bridge, key=f"{client}-key", cpid=client)
         hostid = FIRST + (client == "bob")
@@ -86,7 +92,9 @@ def test_equal_files_are_stored_once_and_agree(file_bridge):
         ),
     ],
 )
-def test_a_report_without_its_files_is_an_error(file_bridge, change, why):
+def test_a_report_without_its_files_is_an_error(
+    file_bridge: Bridge, change: Callable[..., Any], why: str
+) -> None:
     infos = worked(file_bridge)
     status, output = reported(file_bridge, report("u1_0", change(infos)))
     assert status == -187
@@ -94,14 +102,16 @@ def test_a_report_without_its_files_is_an_error(file_bridge, change, why):
     assert not any(name.startswith("store/") for name in on_disk(file_bridge.folder))
 
 
-@pytest.mark.parametrize("status, state, told", [(3, 3, 3), (0, 3, 1), (-9, 6, -9)])
-def test_the_error_of_a_program_is_passed_on(file_bridge, status, state, told):
+@pytest.mark.parametrize("status, state, exit_status", [(3, 3, 3), (0, 3, 1), (-9, 6, -9)])
+def test_the_error_of_a_program_is_passed_on(
+    file_bridge: Bridge, status: int, state: int, exit_status: int
+) -> None:
     infos = worked(file_bridge)
     body = report("u1_0", infos, output="no memory", status=status, state=state)
-    assert reported(file_bridge, body) == (told, "no memory")
+    assert reported(file_bridge, body) == (exit_status, "no memory")
 
 
-def test_a_report_that_comes_again_says_the_same(file_bridge):
+def test_a_report_that_comes_again_says_the_same(file_bridge: Bridge) -> None:
     body = report("u1_0", worked(file_bridge))
     first = reported(file_bridge, body)
     file_bridge.restart()
@@ -111,7 +121,7 @@ def test_a_report_that_comes_again_says_the_same(file_bridge):
     assert on_disk(file_bridge.folder) == {f"store/{sha256_of(OUT)}": OUT}
 
 
-def test_a_stranger_can_not_report_for_a_host(file_bridge):
+def test_a_stranger_can_not_report_for_a_host(file_bridge: Bridge) -> None:
     infos = worked(file_bridge)
     file_bridge.call(request(key="bob-key", cpid="bob", seconds=0))
     file_bridge.call(report("u1_0", [], hostid=FIRST + 1, key="bob-key", cpid="bob"))
@@ -120,11 +130,11 @@ def test_a_stranger_can_not_report_for_a_host(file_bridge):
     assert reported(file_bridge, report("u1_0", infos))[0] == 0
 
 
-def test_a_job_that_is_computed_anew_is_checked_anew(file_bridge):
+def test_a_job_that_is_computed_anew_is_checked_anew(file_bridge: Bridge) -> None:
     infos = worked(file_bridge)
     file_bridge.twin.faults = ["unheard"] * 3
     file_bridge.call(report("u1_0", infos))  # its files are stored, and bsched does not hear of it
-    file_bridge.numbers.refused(Key("ann-key", "c1"))  # as after a loss of the state file
+    file_bridge.numbers.record_refusal(Key("ann-key", "c1"))  # as after a loss of the state file
     # the client lost the job, gets it again, and computes other bytes
     reply = file_bridge.call(request(hostid=FIRST, seconds=0))
     assert jobs(reply) == ["u1_0"]
@@ -133,7 +143,7 @@ def test_a_job_that_is_computed_anew_is_checked_anew(file_bridge):
     assert sent(file_bridge, upload("u1_0_0", b"other", token)) == 0
 
 
-def test_a_job_keeps_the_files_that_it_went_out_with(file_bridge):
+def test_a_job_keeps_the_files_that_it_went_out_with(file_bridge: Bridge) -> None:
     infos = worked(file_bridge)
     path = file_bridge.folder / "catalogue.toml"
     path.write_text(
@@ -143,7 +153,7 @@ def test_a_job_keeps_the_files_that_it_went_out_with(file_bridge):
     assert reported(file_bridge, report("u1_0", infos)) == (0, f"out sha256:{sha256_of(OUT)} 11\nlog absent")
 
 
-def test_if_the_folder_was_restored_bsched_says_which_application_it_is(file_bridge):
+def test_if_the_folder_was_restored_bsched_says_which_application_it_is(file_bridge: Bridge) -> None:
     infos = worked(file_bridge)
     with file_bridge.store.tables.transaction() as connection:
         connection.execute("DELETE FROM job")
@@ -153,7 +163,9 @@ def test_if_the_folder_was_restored_bsched_says_which_application_it_is(file_bri
     assert reported(file_bridge, report("u1_0", infos)) == (0, f"out sha256:{sha256_of(OUT)} 11\nlog absent")
 
 
-def test_a_report_that_can_not_be_stored_is_put_off(file_bridge, monkeypatch):
+def test_a_report_that_can_not_be_stored_is_put_off(
+    file_bridge: Bridge, monkeypatch: pytest.MonkeyPatch
+) -> None:
     infos = worked(file_bridge)
     with monkeypatch.context() as patch:
         patch.setattr(
@@ -166,7 +178,7 @@ def test_a_report_that_can_not_be_stored_is_put_off(file_bridge, monkeypatch):
     assert reported(file_bridge, report("u1_0", infos))[0] == 0
 
 
-def test_applications_with_and_without_output_files(file_bridge):
+def test_applications_with_and_without_output_files(file_bridge: Bridge) -> None:
     path = file_bridge.folder / "catalogue.toml"
     path.write_text(path.read_text().replace("[[version]]", f"{PLAIN}\n[[version]]", 1))
     file_bridge.restart()
@@ -187,12 +199,12 @@ def test_applications_with_and_without_output_files(file_bridge):
         (2, "f0 sha256:" + "a" * 64 + " 7\nf1 sha256:" + "a" * 64 + " 7"),
     ],
 )
-def test_the_text_of_some_files(count, text):
+def test_the_text_of_some_files(count: int, text: str) -> None:
     files = tuple(OutputFile(f"f{number}", 10, False, True) for number in range(count))
     assert compared_text(files, {file.open_name: StoredOutput(7, "a" * 64) for file in files}) == text
 
 
-def test_the_text_of_many_files_is_its_digest():
+def test_the_text_of_many_files_is_its_digest() -> None:
     files = tuple(OutputFile(f"f{number:02}", 10, False, True) for number in range(20))
     stored = {file.open_name: StoredOutput(7, "a" * 64) for file in files}
     lines = "\n".join(f"f{number:02} sha256:{'a' * 64} 7" for number in range(20))
@@ -201,14 +213,16 @@ def test_the_text_of_many_files_is_its_digest():
     assert compared_text(files[:14], stored).startswith("14 files sha256:")  # instead of 1,091 bytes
 
 
-def test_a_file_that_is_not_compared_is_stored_and_left_out():
+def test_a_file_that_is_not_compared_is_stored_and_left_out() -> None:
     files = OutputFile("out", 10, False, True), OutputFile("log", 10, True, False)
     stored = {"out": StoredOutput(7, "a" * 64), "log": StoredOutput(9, "b" * 64)}
     assert compared_text(files, stored) == "out sha256:" + "a" * 64 + " 7"
     assert json.dumps(compared_text(files, {"out": stored["out"]}))
 
 
-def test_bsched_is_asked_once_for_results_that_did_not_go_out(file_bridge, monkeypatch):
+def test_bsched_is_asked_once_for_results_that_did_not_go_out(
+    file_bridge: Bridge, monkeypatch: pytest.MonkeyPatch
+) -> None:
     file_bridge.call(request())
     asked, statement = [], file_bridge.application.scheduler.statement
     monkeypatch.setattr(
@@ -221,7 +235,7 @@ def test_bsched_is_asked_once_for_results_that_did_not_go_out(file_bridge, monke
     assert len(asked) == 1
 
 
-def test_a_job_that_another_host_had_in_other_tables_is_checked(file_bridge):
+def test_a_job_that_another_host_had_in_other_tables_is_checked(file_bridge: Bridge) -> None:
     """The rows of the jobs are of another time than bsched's tables."""
     infos = worked(file_bridge)
     with file_bridge.store.tables.transaction() as connection:
@@ -232,7 +246,27 @@ def test_a_job_that_another_host_had_in_other_tables_is_checked(file_bridge):
     assert reported(file_bridge, report("u1_0", infos))[0] == 0
 
 
-def test_a_file_that_somebody_removed_is_an_error(file_bridge):
+def test_a_file_that_somebody_removed_is_an_error(file_bridge: Bridge) -> None:
     infos = worked(file_bridge)
     (file_bridge.folder / "uploads" / "pending" / f"u1_0_0.{sha256_of(OUT)}").unlink()
     assert reported(file_bridge, report("u1_0", infos)) == (-187, "an output file was lost")
+
+
+def test_a_job_that_cant_be_noted_goes_out_later(
+    file_bridge: Bridge, twin: Twin, monkeypatch: pytest.MonkeyPatch
+) -> None:
+    """For some requests the disk of the uploads is full. Reports are acknowledged, and no job is lost."""
+    plain = report("u1_0", [], status=1)  # an error has no files
+    assert jobs(file_bridge.call(request())) == ["u1_0"]
+
+    def full(*_words: object) -> None:
+        raise sqlite3.OperationalError("database or disk is full")
+
+    with monkeypatch.context() as patch:
+        patch.setattr(HandedOut, "add", full)
+        reply = file_bridge.call(plain.replace("<work_req_seconds>0<", "<work_req_seconds>60<"))
+        assert names(reply, "result_ack") == ["u1_0"] and jobs(reply) == []
+        assert jobs(file_bridge.call(request(hostid=FIRST, seconds=0))) == []
+        assert twin.calls()[-1]["other_results"] == ["u2_0"]  # it is in hand, so it does not count as lost
+    assert jobs(file_bridge.call(request(hostid=FIRST, seconds=0))) == ["u2_0"]
+    assert jobs(file_bridge.call(request(hostid=FIRST, seconds=0, listed=["u2_0"]))) == []

@@ -5,15 +5,16 @@ import pytest
 
 from bsched_bridge import scheduler as module
 from bsched_bridge.scheduler import NoAnswer, Scheduler, asking_call
+from twin import Twin
 
 
 @pytest.fixture(autouse=True)
-def without_pauses(monkeypatch):
+def without_pauses(monkeypatch: pytest.MonkeyPatch) -> None:
     """Sends again at once."""
     monkeypatch.setattr(module, "PAUSE_SECONDS", 0.0)
 
 
-def test_the_scheduler_of_another_project_gets_no_call(twin, caplog):
+def test_the_scheduler_of_another_project_gets_no_call(twin: Twin, caplog: pytest.LogCaptureFixture) -> None:
     caplog.set_level(logging.ERROR)
     bridge = Scheduler(twin.address, 2, "another-key")
     for _ in range(2):
@@ -23,7 +24,7 @@ def test_the_scheduler_of_another_project_gets_no_call(twin, caplog):
     assert "refuses operator_key: it is that of another project" in caplog.text
 
 
-def test_its_own_scheduler_is_asked_once(twin, monkeypatch):
+def test_its_own_scheduler_is_asked_once(twin: Twin, monkeypatch: pytest.MonkeyPatch) -> None:
     twin.statement = None
     bridge = Scheduler(twin.address, 2, "change-this-key")
     asked = []
@@ -37,7 +38,7 @@ def test_its_own_scheduler_is_asked_once(twin, monkeypatch):
     assert asked == ["change-this-key"] * 2
 
 
-def test_a_program_that_is_no_scheduler(twin, monkeypatch):
+def test_a_program_that_is_no_scheduler(twin: Twin, monkeypatch: pytest.MonkeyPatch) -> None:
     bridge = Scheduler(twin.address, 2, "change-this-key")
     monkeypatch.setattr(twin, "statement", "<html>")
     with pytest.raises(NoAnswer, match="no answer of bsched"):

@@ -1,4 +1,5 @@
 """The state file: only one bridge has it, older formats are upgraded, and other files are refused."""
+from pathlib import Path
 import os
 import re
 import sqlite3
@@ -54,7 +55,7 @@ ROWS = [
 ]
 
 
-def old_file(path, version=1):
+def old_file(path: Path, version: int = 1) -> None:
     """Makes a state file of an older version."""
     connection = sqlite3.connect(path)
     connection.executescript(VERSION_1 if version == 1 else VERSION_1 + VERSION_2)
@@ -68,7 +69,7 @@ def old_file(path, version=1):
     connection.close()
 
 
-def contents(path):
+def contents(path: Path) -> tuple[list[str], int]:
     """Returns what a file has."""
     connection = sqlite3.connect(path)
     try:
@@ -77,39 +78,39 @@ def contents(path):
         connection.close()
 
 
-def test_one_bridge_has_the_file(tmp_path):
+def test_one_bridge_has_the_file(tmp_path: Path) -> None:
     file = StateFile(tmp_path / "state.db")
     with pytest.raises(StateFault, match="no other bridge"):
         StateFile(tmp_path / "state.db")
     file.close()
 
 
-def test_a_spoiled_file_is_told_at_the_start(tmp_path):
+def test_a_spoiled_file_is_told_at_the_start(tmp_path: Path) -> None:
     path = tmp_path / "state.db"
     file = StateFile(path)
     numbers = CallNumbers(file)
     for number in range(60):
-        numbers.opened(Key("ann-key", f"c{number}"), lambda number: b"x" * 2000)
+        numbers.open(Key("ann-key", f"c{number}"), lambda number: b"x" * 2000)
     file.close()
     good = path.read_bytes()
     size = int.from_bytes(good[16:18], "big")
-    told = []
+    faults = []
     for page in range(1, len(good) // size):
         path.write_bytes(good[: page * size] + bytes(size) + good[(page + 1) * size :])
         try:
             StateFile(path).close()
         except StateFault as fault:
-            told.append(str(fault))
+            faults.append(str(fault))
     # pages that only have parts of calls may look good
-    assert len(told) > 20 and all(
-        "it is spoiled or no state file: see bridge/README.md" in one for one in told
+    assert len(faults) > 20 and all(
+        "it is spoiled or no state file: see bridge/README.md" in one for one in faults
     )
-    assert not any("no other bridge" in one for one in told)
+    assert not any("no other bridge" in one for one in faults)
     path.write_bytes(good)
     StateFile(path).close()
 
 
-def test_only_the_owner_can_read_a_new_file(tmp_path):
+def test_only_the_owner_can_read_a_new_file(tmp_path: Path) -> None:
     mask = os.umask(0)
     try:
         file = StateFile(tmp_path / "state.db")
@@ -124,7 +125,7 @@ def test_only_the_owner_can_read_a_new_file(tmp_path):
     assert (tmp_path / "state.db").stat().st_mode & 0o777 == 0o640
 
 
-def test_another_file_is_refused(tmp_path):
+def test_another_file_is_refused(tmp_path: Path) -> None:
     connection = sqlite3.connect(tmp_path / "other.db")
     connection.execute("CREATE TABLE host (id)")
     connection.close()
@@ -137,40 +138,40 @@ def test_another_file_is_refused(tmp_path):
         StateFile(tmp_path / "no folder" / "state.db")
 
 
-def test_a_newer_file_is_refused_and_not_changed(tmp_path):
+def test_a_newer_file_is_refused_and_not_changed(tmp_path: Path) -> None:
     path = tmp_path / "state.db"
     StateFile(path).close()
     connection = sqlite3.connect(path)
     connection.execute(f"PRAGMA user_version = {SCHEMA_VERSION + 1}")
     connection.close()
     before = contents(path)
-    with pytest.raises(StateFault) as told:
+    with pytest.raises(StateFault) as raised:
         StateFile(path)
-    assert str(told.value) == (
+    assert str(raised.value) == (
         f"{path}: a newer bridge wrote this file (format 5, and this bridge knows 4): run that bridge"
     )
     assert contents(path) == before
 
 
 @pytest.mark.parametrize("version", [1, 2])
-def test_a_file_of_an_older_version_keeps_its_hosts(tmp_path, version):
+def test_a_file_of_an_older_version_keeps_its_hosts(tmp_path: Path, version: int) -> None:
     path = tmp_path / "state.db"
     old_file(path, version)
     file = StateFile(path)
     numbers, hosts = CallNumbers(file), Hosts(file)
     assert [numbers.open_call(Key("ann-key", cpid)) for cpid in ("c1", "c2")] == [None, b"call 9"]
     assert numbers.open_call(Key("eve-key", "c4")) == b"call 1"
-    assert numbers.opened(Key("ann-key", "c1"), lambda number: b"%d" % number) == b"8"
+    assert numbers.open(Key("ann-key", "c1"), lambda number: b"%d" % number) == b"8"
     # which numbers the clients were told is not known: they may be from earlier tables
     assert [hosts.of_number("ann-key", number) for number in (1, 2, 3)] == [None] * 3
     assert [host.scheduler_hostid for host in hosts.heard(9)] == [1, 3, 2]
-    assert numbers.given_hostid(Key("ann-key", "c2")) == 100_001
+    assert numbers.give_hostid(Key("ann-key", "c2")) == 100_001
     assert hosts.of_number("ann-key", 100_001).key == Key("ann-key", "c2")
     assert hosts.count() == 3
     file.close()
 
 
-def test_a_file_of_version_1_gets_accounts(tmp_path):
+def test_a_file_of_version_1_gets_accounts(tmp_path: Path) -> None:
     path = tmp_path / "state.db"
     old_file(path)
     file = StateFile(path)
@@ -190,7 +191,9 @@ def test_a_file_of_version_1_gets_accounts(tmp_path):
 
 
 @pytest.mark.parametrize("version", [1, 2])
-def test_an_upgrade_that_is_stopped_changes_nothing(tmp_path, monkeypatch, version):
+def test_an_upgrade_that_is_stopped_changes_nothing(
+    tmp_path: Path, monkeypatch: pytest.MonkeyPatch, version: int
+) -> None:
     path = tmp_path / "state.db"
     old_file(path, version)
     before = contents(path)
@@ -204,7 +207,7 @@ def test_an_upgrade_that_is_stopped_changes_nothing(tmp_path, monkeypatch, versi
         assert contents(path) == before
 
 
-def test_a_new_file_and_an_upgraded_one_have_the_same_tables(tmp_path):
+def test_a_new_file_and_an_upgraded_one_have_the_same_tables(tmp_path: Path) -> None:
     old_file(tmp_path / "1.db")
     old_file(tmp_path / "2.db", 2)
     shapes = []

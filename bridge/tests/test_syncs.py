@@ -1,70 +1,73 @@
 """What must outlive a power failure is synced before somebody else learns of it."""
+from collections.abc import Callable
+from typing import Any
 import json
 
 import pytest
 from joining import create
 from messages import request
+from bridges import Bridge
 
 
 @pytest.fixture
-def events(monkeypatch):
+def events(monkeypatch: pytest.MonkeyPatch) -> Callable[..., Any]:
     """Yields a function that returns what a bridge does from now on: SQL statements and messages to bsched."""
 
-    def watched(bridge):
-        told = []
-        bridge.file._connection.set_trace_callback(told.append)
+    def watched(bridge: Bridge) -> list[Any]:
+        seen = []
+        bridge.file._connection.set_trace_callback(seen.append)
         exchange = bridge.application.scheduler._exchange
 
-        def sent(method, path, *words):
-            told.append(f"SEND {path}")
+        def sent(method: str, path: str, *words: bytes | dict[str, str]) -> tuple[int, bytes]:
+            seen.append(f"SEND {path}")
             return exchange(method, path, *words)
 
         monkeypatch.setattr(bridge.application.scheduler, "_exchange", sent)
-        return told
+        return seen
 
     return watched
 
 
-def last_commit(told):
+def last_commit(seen: list[str]) -> tuple[bool, list[str]]:
     """Returns whether the last transaction was synced, and its statements that write."""
-    end = max(place for place, one in enumerate(told) if one == "COMMIT")
-    start = max(place for place, one in enumerate(told[:end]) if one.startswith("PRAGMA synchronous"))
-    return told[start].endswith("FULL"), [
-        one for one in told[start:end] if one.startswith(("INSERT", "UPDATE"))
+    end = max(place for place, one in enumerate(seen) if one == "COMMIT")
+    start = max(place for place, one in enumerate(seen[:end]) if one.startswith("PRAGMA synchronous"))
+    return seen[start].endswith("FULL"), [
+        one for one in seen[start:end] if one.startswith(("INSERT", "UPDATE"))
     ]
 
 
-def before(told, what):
+def before(seen: list[str], what: str) -> list[str]:
     """Returns the events before the first one that begins so."""
-    return told[: next(place for place, one in enumerate(told) if one.startswith(what))]
+    return seen[: next(place for place, one in enumerate(seen) if one.startswith(what))]
 
 
-def test_a_call_is_synced_before_it_is_sent(bridge, events):
+def test_a_call_is_synced_before_it_is_sent(bridge: Bridge, events: Callable[..., Any]) -> None:
     bridge.call(request())
-    told = events(bridge)
+    seen = events(bridge)
     bridge.call(request(cpid="c2"))
-    is_synced, statements = last_commit(before(told, "SEND /scheduler"))
+    is_synced, statements = last_commit(before(seen, "SEND /scheduler"))
     assert is_synced and "INSERT INTO host" in statements[0] and "open_call" in statements[0]
 
 
-def test_a_number_is_synced_before_a_client_is_told(bridge, events):
-    told = events(bridge)
+def test_a_number_is_synced_before_a_client_is_told(bridge: Bridge, events: Callable[..., Any]) -> None:
+    seen = events(bridge)
     bridge.call(request())
-    is_synced, statements = last_commit(told)
+    is_synced, statements = last_commit(seen)
     assert is_synced and [one.partition(" SET")[0] for one in statements] == ["UPDATE numbers", "UPDATE host"]
 
 
-def test_an_account_is_synced_before_it_is_imported(open_bridge, events):
-    told = events(open_bridge)
+def test_an_account_is_synced_before_it_is_imported(open_bridge: Bridge, events: Callable[..., Any]) -> None:
+    seen = events(open_bridge)
     create(open_bridge)
-    is_synced, statements = last_commit(before(told, "SEND /import/accounts"))
+    is_synced, statements = last_commit(before(seen, "SEND /import/accounts"))
     assert is_synced and "INSERT INTO member" in statements[0]
 
 
-def test_an_answer_is_not_synced(bridge, events):
+def test_an_answer_is_not_synced(bridge: Bridge, events: Callable[..., Any]) -> None:
     """If a power failure undoes it, the call is sent again and gets the same answer."""
     bridge.call(request())
-    told = events(bridge)
+    seen = events(bridge)
     bridge.twin.faults = [json.dumps({"error": "hosts_full", "number": 12})]
     bridge.call(request(cpid="c2"))
-    assert not last_commit(told)[0]
+    assert not last_commit(seen)[0]

@@ -8,7 +8,7 @@ DEBIAN = Path(__file__).resolve().parents[2] / "debian"
 UNIT = DEBIAN / "bsched-tools@.bsched-bridge.service"
 
 
-def test_a_worker_may_load_as_long_as_the_check():
+def test_a_worker_may_load_as_long_as_the_check() -> None:
     """gunicorn kills a worker that loads longer than its time limit, by default 30 seconds. systemd gives the
     check of the same files TimeoutStartSec.
     """
@@ -17,24 +17,42 @@ def test_a_worker_may_load_as_long_as_the_check():
     assert limits == [("600", ""), ("", "600")]
 
 
+UNITS = sorted(path.name for path in DEBIAN.glob("*@*.service"))
+AS_ROOT = (
+    "bsched-tools@.bsched-copy.service"  # it stops the scheduler, and gives the copies to the user bsched
+)
+OWN = "/var/lib/bsched/%i"
+
+
+def paths_of(name: str) -> set[tuple[str, str]]:
+    """Returns the settings of a unit that name paths of projects or of copies."""
+    text = (DEBIAN / name).read_text()
+    return set(re.findall(r"^(\w+)=-?(/var/(?:lib|backups)/bsched(?:/\S*|:ro)?)$", text, re.MULTILINE))
+
+
+@pytest.mark.parametrize("name", [name for name in UNITS if name != AS_ROOT])
+def test_a_unit_sees_no_other_project(name: str) -> None:
+    """All projects belong to one user, and have their operators' keys in files that this user can read. So each
+    unit sees an empty folder of projects with its own one in it, and of the copies its own ones or none.
+    """
+    paths = paths_of(name)
+    assert ("TemporaryFileSystem", "/var/lib/bsched:ro") in paths
+    assert {("BindPaths", OWN), ("BindReadOnlyPaths", OWN)} & paths
+    hidden = ("InaccessiblePaths", "/var/backups/bsched") in paths
+    own_alone = {
+        ("TemporaryFileSystem", "/var/backups/bsched:ro"),
+        ("BindReadOnlyPaths", "/var/backups/bsched/%i"),
+    }
+    assert hidden or own_alone <= paths
+    others = [path for _, path in paths if not path.startswith((OWN, "/var/backups/bsched/%i"))]
+    assert set(others) <= {"/var/lib/bsched:ro", "/var/backups/bsched:ro", "/var/backups/bsched"}
+
+
 @pytest.mark.parametrize("name", ["bridge", "sweep"])
-def test_a_unit_sees_no_other_project(name):
-    """All projects belong to one user, and have their operators' keys in files that this user can read."""
-    unit = (DEBIAN / f"bsched-tools@.bsched-{name}.service").read_text()
-    paths = re.findall(r"^(\w+)=-?(/var/lib/bsched\S*)$", unit, re.MULTILINE)
-    own = "/var/lib/bsched/%i"
-    assert sorted(paths) == sorted(
-        [
-            ("TemporaryFileSystem", "/var/lib/bsched:ro"),
-            ("BindReadOnlyPaths", own),
-            ("BindPaths", f"{own}/bridge"),
-            ("ReadWritePaths", f"{own}/bridge"),
-            ("WorkingDirectory", f"{own}/bridge"),
-            ("AssertPathExists", f"{own}/bridge/bridge.toml"),
-            ("EnvironmentFile", f"{own}/environment"),
-            *(
-                ("InaccessiblePaths", f"{own}/{name}")
-                for name in ("project.db", "project.db-wal", "settings.toml")
-            ),
-        ]
-    )
+def test_what_strangers_reach_sees_no_tables(name: str) -> None:
+    """Of its own project it can write the folder of the bridge, and read neither tables nor settings."""
+    paths = paths_of(f"bsched-tools@.bsched-{name}.service")
+    written = {path for kind, path in paths if kind in ("BindPaths", "ReadWritePaths")}
+    assert written == {f"{OWN}/bridge"}
+    unreadable = {path for kind, path in paths if kind == "InaccessiblePaths"}
+    assert {f"{OWN}/{file}" for file in ("project.db", "project.db-wal", "settings.toml")} <= unreadable

@@ -1,4 +1,7 @@
 """A bridge that is stopped while it receives files and reports: no file of an acknowledged report is lost."""
+from collections.abc import Callable, Iterator
+from pathlib import Path
+from typing import Any
 import pytest
 from bridges import Bridge
 from messages import FIRST, jobs, names, request
@@ -15,10 +18,10 @@ class Volunteer:
     done.
     """
 
-    def __init__(self, bridge):
+    def __init__(self, bridge: Bridge) -> None:
         self.bridge, self.tokens, self.done = bridge, {}, []
 
-    def steps(self):
+    def steps(self) -> Iterator[tuple[str, Callable[..., Any]]]:
         """Yields what the client does, in order."""
         yield "job", self.job
         yield "one", lambda: self.upload("u1_0_0", ONE)
@@ -27,26 +30,26 @@ class Volunteer:
         yield "report", self.report
         yield "again", self.report
 
-    def job(self):
+    def job(self) -> bool | None:
         """Gets a job, or gets it again."""
         reply = self.bridge.call(request(hostid=self.hostid(), seconds=60))
         self.tokens = tokens_of(reply) or self.tokens
         return "u1_0" in jobs(reply)
 
-    def hostid(self):
+    def hostid(self) -> int:
         """Returns the number that the client was given."""
         return FIRST if self.done else 0
 
-    def upload(self, name, data, max_nbytes=20_000):
+    def upload(self, name: str, data: bytes, max_nbytes: int = 20_000) -> bool | None:
         """Uploads a file."""
         return sent(self.bridge, upload(name, data, self.tokens[name], max_nbytes=max_nbytes)) == 0
 
-    def report(self):
+    def report(self) -> bool | None:
         """Reports the job."""
         infos = [file_info("u1_0_0", TWO), file_info("u1_0_1", LOG)]
         return names(self.bridge.call(report("u1_0", infos)), "result_ack") == ["u1_0"]
 
-    def live(self):
+    def live(self) -> None:
         """Does what is left to do."""
         for name, act in self.steps():
             for _ in range(5):
@@ -55,7 +58,7 @@ class Volunteer:
             assert name in self.done
 
 
-def check(bridge, done):
+def check(bridge: Bridge, done: list[str]) -> None:
     """Checks what must be so at each moment: each row has its file, and each good answer has its row."""
     disk, tables = on_disk(bridge.folder), bridge.store.tables
     for name, sha256 in tables.rows("SELECT name, sha256 FROM upload"):
@@ -83,7 +86,9 @@ def check(bridge, done):
         "power fails after",
     ],
 )
-def test_a_stop_between_each_two_steps(file_project, monkeypatch, is_after, is_power):
+def test_a_stop_between_each_two_steps(
+    file_project: Path, monkeypatch: pytest.MonkeyPatch, is_after: bool, is_power: bool
+) -> None:
     monkeypatch.setattr("bsched_bridge.scheduler.PAUSE_SECONDS", 0.0)
     at, kinds = 0, set()
     while True:

@@ -11,11 +11,12 @@ sys.path.append(str(Path(__file__).resolve().parent.parent.parent / "tools"))
 from bsched_bridge import sweep_command  # noqa: E402
 from bsched_bridge.operator_files import OperatorFault  # noqa: E402
 from bsched_bridge.upload_sweep import DAY, Decisions, Swept, sweep  # noqa: E402
+from bridges import Bridge  # noqa: E402
 
 RIGHT, WRONG = b"right\n", b"wrong\n"
 
 
-def ran(bridge, user, data, is_reported=True):
+def ran(bridge: Bridge, user: str, data: bytes, is_reported: bool = True) -> str:
     """Has a user's host get a job, upload a file and report it. Returns the name of the result."""
     hostid = FIRST + ("ann", "bob").index(user)
     is_new = bridge.hosts.count() < hostid - FIRST + 1
@@ -29,19 +30,19 @@ def ran(bridge, user, data, is_reported=True):
     return result
 
 
-def later(bridge, days):
+def later(bridge: Bridge, days: int) -> int:
     """Returns a moment some days from now."""
     from time import time
 
     return int(time()) + days * DAY
 
 
-def stored(bridge):
+def stored(bridge: Bridge) -> set[bytes]:
     """Returns the contents in store/."""
     return {data for name, data in on_disk(bridge.folder).items() if name.startswith("store/")}
 
 
-def test_files_of_results_that_are_not_canonical_go(file_bridge):
+def test_files_of_results_that_are_not_canonical_go(file_bridge: Bridge) -> None:
     right, wrong = ran(file_bridge, "ann", RIGHT), ran(file_bridge, "bob", WRONG)
     decisions = Decisions()
     # as long as the workunit is open, each may become canonical
@@ -57,7 +58,7 @@ def test_files_of_results_that_are_not_canonical_go(file_bridge):
     assert sweep(file_bridge.store, later(file_bridge, 9999), decisions) == Swept()
 
 
-def test_a_content_that_the_canonical_result_has_stays(file_bridge):
+def test_a_content_that_the_canonical_result_has_stays(file_bridge: Bridge) -> None:
     first, second = ran(file_bridge, "ann", RIGHT), ran(file_bridge, "bob", RIGHT)
     decisions = Decisions()
     decisions.add("u1", second, None)  # as with a digest program, whose output names no content
@@ -66,7 +67,7 @@ def test_a_content_that_the_canonical_result_has_stays(file_bridge):
     assert file_bridge.store.stored_files(second) and not file_bridge.store.stored_files(first)
 
 
-def test_a_content_that_a_canonical_output_names_stays(file_bridge):
+def test_a_content_that_a_canonical_output_names_stays(file_bridge: Bridge) -> None:
     ran(file_bridge, "ann", RIGHT)
     decisions = Decisions()
     # the rows are of another time: a workunit of an earlier file has this content
@@ -76,7 +77,7 @@ def test_a_content_that_a_canonical_output_names_stays(file_bridge):
     assert stored(file_bridge) == {RIGHT}
 
 
-def test_files_of_workunits_that_failed_go(file_bridge):
+def test_files_of_workunits_that_failed_go(file_bridge: Bridge) -> None:
     ran(file_bridge, "ann", RIGHT)
     ran(file_bridge, "bob", WRONG)
     decisions = Decisions()
@@ -85,7 +86,7 @@ def test_files_of_workunits_that_failed_go(file_bridge):
     assert on_disk(file_bridge.folder) == {}
 
 
-def test_uploads_and_jobs_that_nobody_reports_go(file_bridge):
+def test_uploads_and_jobs_that_nobody_reports_go(file_bridge: Bridge) -> None:
     result = ran(file_bridge, "ann", RIGHT, is_reported=False)
     assert sweep(file_bridge.store, later(file_bridge, 119), None) == Swept()
     assert list(on_disk(file_bridge.folder)) == [f"pending/{result}_0.{sha256_of(RIGHT)}"]
@@ -95,7 +96,7 @@ def test_uploads_and_jobs_that_nobody_reports_go(file_bridge):
     assert file_bridge.store.tables.used() == 0
 
 
-def test_an_upload_after_the_report_goes_after_a_week(file_bridge):
+def test_an_upload_after_the_report_goes_after_a_week(file_bridge: Bridge) -> None:
     result = ran(file_bridge, "ann", RIGHT)
     name = f"{result}_0"
     token = file_bridge.application.writer.tokens.token(name, 20_000)
@@ -105,12 +106,14 @@ def test_an_upload_after_the_report_goes_after_a_week(file_bridge):
     assert stored(file_bridge) == {RIGHT}
 
 
-def test_a_file_without_a_row_goes(file_bridge):
+def test_a_file_without_a_row_goes(file_bridge: Bridge) -> None:
     (file_bridge.folder / "uploads" / "pending" / "left").write_bytes(RIGHT)
     assert sweep(file_bridge.store, later(file_bridge, 0), None) == Swept(uploads=1)
 
 
-def test_what_the_sweep_stopped_in_the_middle_of_is_done_the_next_time(file_bridge, monkeypatch):
+def test_what_the_sweep_stopped_in_the_middle_of_is_done_the_next_time(
+    file_bridge: Bridge, monkeypatch: pytest.MonkeyPatch
+) -> None:
     right, wrong = ran(file_bridge, "ann", RIGHT), ran(file_bridge, "bob", WRONG)
     decisions = Decisions()
     decisions.add("u1", right, None)
@@ -119,14 +122,16 @@ def test_what_the_sweep_stopped_in_the_middle_of_is_done_the_next_time(file_brid
     assert stored(file_bridge) == {RIGHT} and not file_bridge.store.stored_files(wrong)
 
 
-def test_the_command(file_bridge):
+def test_the_command(file_bridge: Bridge) -> None:
     ran(file_bridge, "ann", RIGHT)
-    said = sweep_command.run(file_bridge.folder / "bridge.toml", [])  # while the bridge serves
-    assert said.endswith("0 results that are not canonical with 0 files; 0 bytes are deleted, and 6 are left")
+    output = sweep_command.run(file_bridge.folder / "bridge.toml", [])  # while the bridge serves
+    assert output.endswith(
+        "0 results that are not canonical with 0 files; 0 bytes are deleted, and 6 are left"
+    )
     with pytest.raises(OperatorFault, match="there is no copy in this folder"):
         sweep_command.run(file_bridge.folder / "bridge.toml", [file_bridge.folder])
 
 
-def test_the_command_without_uploads(bridge):
+def test_the_command_without_uploads(bridge: Bridge) -> None:
     with pytest.raises(OperatorFault, match="nothing to sweep"):
         sweep_command.run(bridge.folder / "bridge.toml", [])

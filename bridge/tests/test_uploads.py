@@ -1,4 +1,5 @@
 """What the upload handler answers, and what it stores."""
+from pathlib import Path
 import io
 import os
 import subprocess
@@ -10,19 +11,30 @@ import hypothesis
 import pytest
 from hypothesis import strategies as st
 from messages import FIRST, jobs, request
-from uploading import ASKS_SIZE, on_disk, sent, sha256_of, tokens_of, upload
+from uploading import (
+    AGAIN,
+    ASKS_SIZE,
+    DATA,
+    DONE,
+    NEVER,
+    odd_messages,
+    on_disk,
+    sent,
+    sha256_of,
+    tokens_of,
+    upload,
+)
 
 from bsched_bridge import uploads
 from bsched_bridge.catalogue import read_catalogue
 from bsched_bridge.operator_files import OperatorFault
 from bsched_bridge.settings import read_settings
 from bsched_bridge.upload_store import UploadStore, check_uploads
+from twin import Twin
+from bridges import Bridge
 
-DATA = bytes(range(256)) * 40  # more than the 8,192 bytes that are read with the head
-DONE, AGAIN, NEVER = 0, 1, -1
 
-
-def given(bridge, **more):
+def given(bridge: Bridge, **more: int | str) -> dict[str, str]:
     """Gives a client a job, and returns the tokens of its files."""
     reply = bridge.call(request(**more))
     assert jobs(reply)
@@ -32,7 +44,7 @@ def given(bridge, **more):
 # ---- The reply
 
 
-def test_a_reply_names_the_output_files(file_bridge):
+def test_a_reply_names_the_output_files(file_bridge: Bridge) -> None:
     reply = ElementTree.fromstring(file_bridge.call(request()))
     assert [child.tag for child in reply][-5:] == [
         "app_version",
@@ -58,14 +70,14 @@ def test_a_reply_names_the_output_files(file_bridge):
     ]
 
 
-def test_a_job_that_is_sent_again_has_the_same_tokens(file_bridge):
+def test_a_job_that_is_sent_again_has_the_same_tokens(file_bridge: Bridge) -> None:
     tokens = given(file_bridge)
     file_bridge.restart()
     assert given(file_bridge, hostid=FIRST, seconds=0) == tokens
     assert (file_bridge.folder / "uploads" / "secret").stat().st_mode & 0o777 == 0o600
 
 
-def test_a_name_that_the_client_would_refuse(file_bridge):
+def test_a_name_that_the_client_would_refuse(file_bridge: Bridge) -> None:
     rows = file_bridge.twin.service.imported
     line = "a..b...c,sum,1,1,3,5,4,86400,60000000000,1000,1000,5000"
     rows(
@@ -74,12 +86,12 @@ def test_a_name_that_the_client_would_refuse(file_bridge):
         "name,app,min_quorum,target_nresults,max_error_results,max_total_results,"
         f"max_success_results,delay_bound,rsc_fpops_est,rsc_memory_bound,rsc_disk_bound,credit\n{line}\n",
     )
-    told = {}
+    handed = {}
     for number in range(12):
-        told |= given(file_bridge, cpid=f"c{number}", key=("ann-key", "bob-key")[number % 2], seconds=1000)
-        if any(name.startswith("a.") for name in told):
+        handed |= given(file_bridge, cpid=f"c{number}", key=("ann-key", "bob-key")[number % 2], seconds=1000)
+        if any(name.startswith("a.") for name in handed):
             break
-    assert "a.+.b.+.+.c_0_0" in told and not any(".." in name for name in told)
+    assert "a.+.b.+.+.c_0_0" in handed and not any(".." in name for name in handed)
 
 
 # ---- Good messages
@@ -97,7 +109,7 @@ def test_a_name_that_the_client_would_refuse(file_bridge):
         bytes(20_000)[:20_000],
     ],
 )
-def test_a_file_is_received(file_bridge, data):
+def test_a_file_is_received(file_bridge: Bridge, data: bytes) -> None:
     data = data[:20_000]
     tokens = given(file_bridge)
     assert sent(file_bridge, upload("u1_0_0", data, tokens["u1_0_0"])) == DONE
@@ -109,12 +121,12 @@ def test_a_file_is_received(file_bridge, data):
     assert (row.nbytes, row.sha256) == (len(data), sha256_of(data))
 
 
-def test_a_client_that_asks_for_the_size_sends_all(file_bridge):
+def test_a_client_that_asks_for_the_size_sends_all(file_bridge: Bridge) -> None:
     tokens = given(file_bridge)
     for _ in range(2):
         body = file_bridge.got("/p/file_upload_handler", "POST", ASKS_SIZE.format(name="u1_0_0").encode())[2]
-        told = ElementTree.fromstring(body)
-        assert (told.tag, told.findtext("status"), told.findtext("file_size")) == (
+        root = ElementTree.fromstring(body)
+        assert (root.tag, root.findtext("status"), root.findtext("file_size")) == (
             "data_server_reply",
             "0",
             "0",
@@ -122,7 +134,7 @@ def test_a_client_that_asks_for_the_size_sends_all(file_bridge):
         assert sent(file_bridge, upload("u1_0_0", DATA, tokens["u1_0_0"])) == DONE
 
 
-def test_other_bytes_of_a_job_that_was_lost_replace_the_older(file_bridge):
+def test_other_bytes_of_a_job_that_was_lost_replace_the_older(file_bridge: Bridge) -> None:
     tokens = given(file_bridge)
     for data in (b"one", b"two", b"two", b"one"):
         assert sent(file_bridge, upload("u1_0_0", data, tokens["u1_0_0"])) == DONE
@@ -130,11 +142,11 @@ def test_other_bytes_of_a_job_that_was_lost_replace_the_older(file_bridge):
     assert file_bridge.store.tables.used() == 3
 
 
-def test_a_body_that_comes_in_small_pieces(file_bridge):
+def test_a_body_that_comes_in_small_pieces(file_bridge: Bridge) -> None:
     class Pieces(io.BytesIO):
         """A stream that gives a few bytes at a time after the head, as a slow connection does."""
 
-        def read(self, size=-1):
+        def read(self, size: int = -1) -> bytes | None:
             return super().read(min(size, 1000) if self.tell() else size)
 
     tokens = given(file_bridge)
@@ -145,53 +157,10 @@ def test_a_body_that_comes_in_small_pieces(file_bridge):
 # ---- Odd and forged messages
 
 
-def odd_messages(tokens):
-    """Yields messages that store nothing, each with the statuses that are good answers."""
-    good, other = tokens["u1_0_0"], tokens["u1_0_1"]
-    message = upload("u1_0_0", DATA, good)
-    yield "another token", upload("u1_0_0", DATA, other), NEVER
-    yield "no token", upload("u1_0_0", DATA, ""), NEVER
-    yield "a token of zeros", upload("u1_0_0", DATA, "0" * 64), NEVER
-    yield "a token beyond ASCII", upload("u1_0_0", DATA, "\u00e9" * 32), NEVER
-    yield "a token in capitals", upload("u1_0_0", DATA, good.upper()), NEVER
-    yield "another result", upload("u2_0_0", DATA, good), NEVER
-    yield "another file", upload("u1_0_1", DATA, good), NEVER
-    yield "a file that does not exist", upload("u1_0_2", DATA, good), NEVER
-    yield "a path", upload("../u1_0_0", DATA, good), NEVER
-    yield "an absolute path", upload("/etc/passwd", DATA, good), NEVER
-    yield "an empty name", upload("", DATA, good), NEVER
-    yield "a NUL in the name", upload("u1_0_0\x00", DATA, good), NEVER
-    yield "a higher limit", upload("u1_0_0", DATA, good, max_nbytes=20_001), NEVER
-    yield "more than the limit", upload("u1_0_0", bytes(20_001), good), NEVER
-    yield "a negative limit", upload("u1_0_0", DATA, good, max_nbytes=-1), NEVER
-    yield "a limit with an exponent", upload("u1_0_0", DATA, good, max_nbytes="2e4"), NEVER
-    yield "a size that is no number", upload("u1_0_0", DATA, good, nbytes="x"), NEVER
-    yield "a negative size", upload("u1_0_0", DATA, good, nbytes=-1), NEVER
-    yield "a size in Arabic digits", upload("u1_0_0", DATA, good, nbytes="\u0661"), NEVER
-    yield "a size of many digits", upload("u1_0_0", DATA, good, nbytes="1" * 19), NEVER
-    yield "an MD5 in capitals", upload("u1_0_0", DATA, good, md5="A" * 32), NEVER
-    yield "no MD5", upload("u1_0_0", DATA, good, md5=""), NEVER
-    yield "no offset", upload("u1_0_0", DATA, good).replace(b"<offset>0</offset>\n", b""), NEVER
-    yield "two names", message.replace(b"</name>\n", b"</name>\n<name>u1_0_0</name>\n"), NEVER
-    yield "two sizes", message.replace(b"<offset>", b"<nbytes>1</nbytes><offset>"), NEVER
-    yield "no data", message.replace(b"<data>\n", b""), NEVER
-    yield "a long head", message.replace(b"<data>\n", b" " * 9000 + b"<data>\n"), NEVER
-    yield "nothing", b"", NEVER
-    yield "a call", request().encode(), NEVER
-    yield "HTML", b"<html></html>", NEVER
-    yield "zeros", bytes(10_000), NEVER
-    # what a good client sends when something breaks
-    yield "another MD5", upload("u1_0_0", DATA, good, md5="0" * 32), AGAIN
-    yield "an offset", upload("u1_0_0", DATA, good, offset=5), AGAIN
-    yield "more bytes than the size", message + b"x", AGAIN
-    yield "fewer bytes than the size", upload("u1_0_0", DATA, good, nbytes=len(DATA) + 1), AGAIN
-    yield "a smaller size", upload("u1_0_0", DATA, good, nbytes=len(DATA) - 1), AGAIN
-
-
-def test_odd_and_forged_messages_store_nothing(file_bridge):
+def test_odd_and_forged_messages_store_nothing(file_bridge: Bridge) -> None:
     tokens = given(file_bridge)
     seen = 0
-    for what, message, status in odd_messages(tokens):
+    for what, message, status in odd_messages(("u1_0_0", "u1_0_1"), tokens["u1_0_0"], tokens["u1_0_1"]):
         assert sent(file_bridge, message) == status, what
         assert on_disk(file_bridge.folder) == {}, what
         assert file_bridge.store.upload("u1_0_0") is None and file_bridge.store.tables.used() == 0
@@ -231,24 +200,24 @@ PIECES = [
     database=None,
 )
 @hypothesis.given(st.lists(st.sampled_from(PIECES), max_size=20).map(b"".join))
-def test_any_message_gets_an_answer_and_stores_nothing(file_bridge, message):
+def test_any_message_gets_an_answer_and_stores_nothing(file_bridge: Bridge, message: bytes) -> None:
     assert sent(file_bridge, message) in (AGAIN, NEVER)
     assert on_disk(file_bridge.folder) == {}
 
 
 @pytest.mark.parametrize("end", [0, 10, 600, 640, 700, 8191, 8192, 8193, 9000, -1])
-def test_a_message_that_breaks_off_is_sent_again(file_bridge, end):
+def test_a_message_that_breaks_off_is_sent_again(file_bridge: Bridge, end: int) -> None:
     tokens = given(file_bridge)
     message = upload("u1_0_0", DATA, tokens["u1_0_0"])
     assert sent(file_bridge, message[:end], CONTENT_LENGTH=str(len(message))) == AGAIN
     assert on_disk(file_bridge.folder) == {}
 
 
-def test_a_connection_that_fails_is_no_final_answer(file_bridge):
+def test_a_connection_that_fails_is_no_final_answer(file_bridge: Bridge) -> None:
     class Failing(io.BytesIO):
         """A stream that fails after the head."""
 
-        def read(self, size=-1):
+        def read(self, size: int = -1) -> bytes | None:
             if self.tell():
                 raise ConnectionResetError
             return super().read(size)
@@ -259,12 +228,12 @@ def test_a_connection_that_fails_is_no_final_answer(file_bridge):
     assert on_disk(file_bridge.folder) == {}
 
 
-def test_what_is_no_upload(file_bridge):
+def test_what_is_no_upload(file_bridge: Bridge) -> None:
     assert file_bridge.got("/p/file_upload_handler")[0] == "405 Method Not Allowed"
     assert file_bridge.got("/p/file_upload_handler", "POST", CONTENT_LENGTH="")[0] == "411 Length Required"
 
 
-def test_without_output_files_nothing_is_uploaded(bridge):
+def test_without_output_files_nothing_is_uploaded(bridge: Bridge) -> None:
     assert (
         bridge.got("/p/file_upload_handler", "POST", upload("u1_0_0", DATA, "0" * 64))[0] == "404 Not Found"
     )
@@ -273,11 +242,11 @@ def test_without_output_files_nothing_is_uploaded(bridge):
 # ---- Several at once, and too little room
 
 
-def test_thirty_uploads_under_one_name_leave_one_file(file_bridge):
+def test_thirty_uploads_under_one_name_leave_one_file(file_bridge: Bridge) -> None:
     tokens, answers = given(file_bridge), []
     file_bridge.application._handlers[uploads.PATH].__self__.places = uploads.Places(30)
 
-    def send(number):
+    def send(number: int) -> None:
         data = b"content %d" % (number % 3)
         answers.append(sent(file_bridge, upload("u1_0_0", data, tokens["u1_0_0"])))
 
@@ -292,7 +261,7 @@ def test_thirty_uploads_under_one_name_leave_one_file(file_bridge):
     assert name == f"pending/u1_0_0.{row.sha256}" and sha256_of(data) == row.sha256
 
 
-def test_an_upload_waits_for_a_place(file_bridge, monkeypatch):
+def test_an_upload_waits_for_a_place(file_bridge: Bridge, monkeypatch: pytest.MonkeyPatch) -> None:
     monkeypatch.setattr(uploads, "PLACE_SECONDS", 0.01)
     tokens = given(file_bridge)
     places = file_bridge.application._handlers[uploads.PATH].__self__.places
@@ -307,7 +276,7 @@ def test_an_upload_waits_for_a_place(file_bridge, monkeypatch):
     assert answers == [DONE]
 
 
-def test_the_folder_has_a_limit(file_bridge, caplog):
+def test_the_folder_has_a_limit(file_bridge: Bridge, caplog: pytest.LogCaptureFixture) -> None:
     path = file_bridge.folder / "bridge.toml"
     path.write_text(path.read_text().replace("most_bytes = 1_000_000", "most_bytes = 12_000"))
     file_bridge.restart()
@@ -320,7 +289,7 @@ def test_the_folder_has_a_limit(file_bridge, caplog):
     assert file_bridge.store.tables.used() == len(DATA) + 5
 
 
-def test_a_disk_with_too_little_room(file_bridge, monkeypatch):
+def test_a_disk_with_too_little_room(file_bridge: Bridge, monkeypatch: pytest.MonkeyPatch) -> None:
     tokens = given(file_bridge)
     free = os.statvfs(file_bridge.folder).f_bavail * os.statvfs(file_bridge.folder).f_frsize
     settings = replace(file_bridge.store.settings, free_bytes=free + 10**6)
@@ -332,7 +301,9 @@ def test_a_disk_with_too_little_room(file_bridge, monkeypatch):
 
 
 @pytest.mark.skipif(os.geteuid() != 0, reason="only root can mount a small disk")
-def test_a_full_disk_refuses_for_a_while_and_loses_nothing(file_project, twin, monkeypatch):
+def test_a_full_disk_refuses_for_a_while_and_loses_nothing(
+    file_project: Path, twin: Twin, monkeypatch: pytest.MonkeyPatch
+) -> None:
     from bridges import Bridge
 
     disk = file_project / "uploads"
@@ -367,7 +338,7 @@ def test_a_full_disk_refuses_for_a_while_and_loses_nothing(file_project, twin, m
 # ---- Settings
 
 
-def test_what_was_half_received_is_deleted_at_the_start(file_bridge):
+def test_what_was_half_received_is_deleted_at_the_start(file_bridge: Bridge) -> None:
     (file_bridge.folder / "uploads" / "temp" / "left").write_bytes(DATA)
     file_bridge.restart()
     assert on_disk(file_bridge.folder) == {}
@@ -384,14 +355,14 @@ def test_what_was_half_received_is_deleted_at_the_start(file_bridge):
         ("most_bytes = ", "keep_days = 6\nmost_bytes = ", "keep_days is not within"),
     ],
 )
-def test_faulty_settings(file_project, old, new, fault):
+def test_faulty_settings(file_project: Path, old: str, new: str, fault: str) -> None:
     path = file_project / "bridge.toml"
     path.write_text(path.read_text().replace(old, new, 1))
     with pytest.raises(OperatorFault, match=fault):
         read_settings(path)
 
 
-def test_a_secret_that_is_lost_is_not_replaced(file_bridge):
+def test_a_secret_that_is_lost_is_not_replaced(file_bridge: Bridge) -> None:
     settings = file_bridge.application.settings.uploads
     secret = settings.folder / "secret"
     kept = secret.read_bytes()
@@ -408,7 +379,9 @@ def test_a_secret_that_is_lost_is_not_replaced(file_bridge):
     UploadStore(settings).close()
 
 
-def test_a_process_that_keeps_its_turn_puts_uploads_off(file_bridge, monkeypatch):
+def test_a_process_that_keeps_its_turn_puts_uploads_off(
+    file_bridge: Bridge, monkeypatch: pytest.MonkeyPatch
+) -> None:
     monkeypatch.setattr("bsched_bridge.upload_tables.SECONDS", 0.05)
     tokens = given(file_bridge)
     message = upload("u1_0_0", DATA, tokens["u1_0_0"])
@@ -435,7 +408,7 @@ def test_a_process_that_keeps_its_turn_puts_uploads_off(file_bridge, monkeypatch
         ),
     ],
 )
-def test_settings_that_do_not_fit_the_catalogue(file_bridge, old, new, fault):
+def test_settings_that_do_not_fit_the_catalogue(file_bridge: Bridge, old: str, new: str, fault: str) -> None:
     for name in ("catalogue.toml", "bridge.toml"):
         path = file_bridge.folder / name
         path.write_text(path.read_text().replace(old, new))
@@ -457,7 +430,7 @@ def test_settings_that_do_not_fit_the_catalogue(file_bridge, old, new, fault):
         ('name = "two.txt"', 'name = "two_1_2"', "name ends like that of an output file"),
     ],
 )
-def test_faulty_output_files(file_project, old, new, fault):
+def test_faulty_output_files(file_project: Path, old: str, new: str, fault: str | None) -> None:
     path = file_project / "catalogue.toml"
     path.write_text(path.read_text().replace(old, new, 1))
     if fault is None:
@@ -467,7 +440,7 @@ def test_faulty_output_files(file_project, old, new, fault):
         read_catalogue(path)
 
 
-def test_too_many_output_files_and_none_that_is_compared(file_project):
+def test_too_many_output_files_and_none_that_is_compared(file_project: Path) -> None:
     path = file_project / "catalogue.toml"
     text, entry = path.read_text(), '{ open_name = "f%d", max_nbytes = 1, compare = %s }'
     head, tail = text.partition("output_files = [")[0], text.partition("optional = true },\n]\n")[2]

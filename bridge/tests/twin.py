@@ -1,4 +1,5 @@
 """A bsched for tests: the plain twin of bench/plain.py, served over HTTP. It can lose answers."""
+from typing import Any
 import json
 import threading
 import time
@@ -28,7 +29,7 @@ total,,,,,,,5.000
 """
 
 
-def statement(machine, number):
+def statement(machine: Any, number: int) -> str | None:
     """Returns the statement of a host with the states of its results, or None if there is no such host. Its
     times and verdicts are left out.
     """
@@ -49,7 +50,7 @@ def statement(machine, number):
 class Handler(BaseHTTPRequestHandler):
     """The handler of one message."""
 
-    def do_POST(self):
+    def do_POST(self) -> None:
         """Answers a call or an import."""
         twin = self.server.twin
         body = self.rfile.read(int(self.headers["content-length"]))
@@ -63,23 +64,23 @@ class Handler(BaseHTTPRequestHandler):
             if fault == "unheard":
                 return
             if fault == "unavailable":
-                status, told = 503, '{"error":"unavailable","number":20}'
+                status, answer = 503, '{"error":"unavailable","number":20}'
             elif fault == "garbage":
-                status, told = 200, "<html>"
+                status, answer = 200, "<html>"
             elif fault is not None and fault.startswith("{"):
-                status, told = 400, fault
+                status, answer = 400, fault
             else:
                 try:
-                    status, told = 200, twin.service.scheduler(body, int(time.time()))
+                    status, answer = 200, twin.service.scheduler(body, int(time.time()))
                 except Refused as refusal:
-                    status, told = refusal.status, refusal.body
-            twin.told.append(told)
+                    status, answer = refusal.status, refusal.body
+            twin.answers.append(answer)
         if fault == "slow":
             time.sleep(0.3)
         if fault != "lost":
-            self.say(status, told)
+            self.say(status, answer)
 
-    def do_import(self, body):
+    def do_import(self, body: bytes) -> None:
         """Answers an import."""
         twin = self.server.twin
         _, _, kind, batch = self.path.split("/")
@@ -89,24 +90,24 @@ class Handler(BaseHTTPRequestHandler):
             if fault == "unheard":
                 return
             if self.headers["x-operator-key"] != "change-this-key":
-                status, told = 403, '{"error":"not_operator","number":13}'
+                status, answer = 403, '{"error":"not_operator","number":13}'
             elif fault == "unavailable":
-                status, told = 503, '{"error":"unavailable","number":20}'
+                status, answer = 503, '{"error":"unavailable","number":20}'
             elif fault == "garbage":
-                status, told = 200, "<html>"
+                status, answer = 200, "<html>"
             elif fault == "another":
-                status, told = 200, '{"batch":"another","kind":"accounts","rows":1}'
+                status, answer = 200, '{"batch":"another","kind":"accounts","rows":1}'
             elif fault is not None and fault.startswith("{"):
-                status, told = 400, fault
+                status, answer = 400, fault
             else:
                 try:
-                    status, told = 200, twin.service.imported(kind, batch, body.decode())
+                    status, answer = 200, twin.service.imported(kind, batch, body.decode())
                 except Refused as refusal:
-                    status, told = refusal.status, refusal.body
+                    status, answer = refusal.status, refusal.body
         if fault != "lost":
-            self.say(status, told)
+            self.say(status, answer)
 
-    def do_GET(self):
+    def do_GET(self) -> None:
         """Answers with a statement."""
         if self.headers["x-operator-key"] != "change-this-key":
             return self.say(403, '{"error":"not_operator","number":13}')
@@ -114,24 +115,24 @@ class Handler(BaseHTTPRequestHandler):
         if twin.statement is not None:
             return self.say(200, twin.statement)
         with twin.lock:
-            told = statement(twin.service.machine, int(self.path.rpartition("/")[2]))
-        return self.say(200, told) if told else self.say(404, '{"error":"no_such_host","number":19}')
+            answer = statement(twin.service.machine, int(self.path.rpartition("/")[2]))
+        return self.say(200, answer) if answer else self.say(404, '{"error":"no_such_host","number":19}')
 
-    def say(self, status, told):
+    def say(self, status: int, answer: str) -> None:
         """Writes an answer."""
         self.send_response(status)
-        self.send_header("content-length", str(len(told.encode())))
+        self.send_header("content-length", str(len(answer.encode())))
         self.end_headers()
-        self.wfile.write(told.encode())
+        self.wfile.write(answer.encode())
 
-    def log_message(self, *_words):
+    def log_message(self, *_words: str) -> None:
         """Prints nothing."""
 
 
 class Server(ThreadingHTTPServer):
     """A server that prints nothing about broken connections."""
 
-    def handle_error(self, _request, _address):
+    def handle_error(self, _request: Any, _address: tuple[str, int]) -> None:
         """Prints nothing."""
 
 
@@ -143,7 +144,7 @@ class Twin:
     the answer to another import.
     """
 
-    def __init__(self, **settings):
+    def __init__(self, **settings: int) -> None:
         self.service = plain.Service(
             {
                 **plain.SETTINGS,
@@ -156,7 +157,7 @@ class Twin:
         )
         for kind, text in IMPORTS.items():
             self.service.imported(kind, "first", text)
-        self.lock, self.faults, self.heard, self.told = threading.Lock(), [], [], []
+        self.lock, self.faults, self.heard, self.answers = threading.Lock(), [], [], []
         self.import_faults, self.imports = [], []
         self.statement = STATEMENT  # what each host gets as its statement; None: its own
         self.server = Server(("127.0.0.1", 0), Handler)
@@ -164,11 +165,11 @@ class Twin:
         self.address = Address(*self.server.server_address)
         threading.Thread(target=self.server.serve_forever, args=(0.02,), daemon=True).start()
 
-    def calls(self):
+    def calls(self) -> Any:
         """Returns the calls that it got, as JSON."""
         return [json.loads(body) for body in self.heard]
 
-    def close(self):
+    def close(self) -> None:
         """Stops the server."""
         self.server.shutdown()
         self.server.server_close()

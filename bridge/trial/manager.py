@@ -106,8 +106,10 @@ class Manager(Program):
     def _wizard(self) -> tuple[int, int] | None:
         """Returns the corner of the wizard, or None if it does not show yet."""
         for window in self._do("search", "--onlyvisible", "--name", "BOINC Manager").split():
-            told = self._do("getwindowgeometry", window)
-            place, size = re.search(r"Position: (\d+),(\d+)", told), re.search(r"Geometry: (\d+)x(\d+)", told)
+            output = self._do("getwindowgeometry", window)
+            place, size = re.search(r"Position: (\d+),(\d+)", output), re.search(
+                r"Geometry: (\d+)x(\d+)", output
+            )
             if place and size and (int(size[1]), int(size[2])) == WIZARD_SIZE:
                 return int(place[1]), int(place[2])
         return None

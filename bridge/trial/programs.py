@@ -79,14 +79,14 @@ class Scheduler(Program):
 
     def order(self, *words: str) -> str:
         """Runs a subcommand, and returns what it prints."""
-        told = subprocess.run(
+        completed = subprocess.run(
             [self.program, *words], cwd=self.folder, capture_output=True, text=True, timeout=ORDER_SECONDS
         )
-        if told.returncode:
+        if completed.returncode:
             raise TrialFault(
-                f"bsched {' '.join(words)}: status {told.returncode}, {told.stdout}{told.stderr}"
+                f"bsched {' '.join(words)}: status {completed.returncode}, {completed.stdout}{completed.stderr}"
             )
-        return told.stdout
+        return completed.stdout
 
     def asked(self, path: str, body: str | None = None) -> str:
         """Returns the answer to an operator's message."""
@@ -137,19 +137,19 @@ class Client(Program):
         words = ["boinc", "--dir", str(self.home), "--gui_rpc_port", str(port), *CLIENT_OPTIONS]
         super().__init__(name, words, folder, port)
         self.authenticator, self.url = authenticator, url
-        self.said = ""  # what boinccmd printed about an account
+        self.output = ""  # what boinccmd printed about an account
 
     def command(self, *words: str) -> str:
         """Runs boinccmd, and returns what it prints."""
         password = (self.home / "gui_rpc_auth.cfg").read_text().strip()
-        told = subprocess.run(
+        completed = subprocess.run(
             ["boinccmd", "--host", f"127.0.0.1:{self.port}", "--passwd", password, *words],
             cwd=self.home,
             capture_output=True,
             text=True,
             timeout=30,
         )
-        return told.stdout + told.stderr
+        return completed.stdout + completed.stderr
 
     def attach(self) -> None:
         """Attaches the client to the project."""
@@ -165,14 +165,14 @@ class Client(Program):
 
     def _account_key(self, *words: str) -> str | None:
         """Returns the key that boinccmd prints."""
-        self.said = self.command(*words)
-        found = re.search(r"account key: (\S+)", self.said)
+        self.output = self.command(*words)
+        found = re.search(r"account key: (\S+)", self.output)
         return found[1] if found else None
 
     def credit(self) -> float:
         """Returns the credit of this machine at the project, as the client shows it."""
-        told = self.command("--get_project_status").partition(f"master URL: {self.url}\n")[2]
-        found = re.search(r"host_total_credit: (\S+)", told)
+        output = self.command("--get_project_status").partition(f"master URL: {self.url}\n")[2]
+        found = re.search(r"host_total_credit: (\S+)", output)
         return float(found[1]) if found else 0.0
 
     def update(self) -> None:
@@ -181,8 +181,8 @@ class Client(Program):
 
     def tasks(self) -> dict[str, str]:
         """Returns the results that the client has, with the client's own state of each."""
-        told = self.command("--get_tasks")
-        return dict(re.findall(r"^   name: (\S+)$.*?^   state: ([^\n]*)$", told, re.MULTILINE | re.DOTALL))
+        output = self.command("--get_tasks")
+        return dict(re.findall(r"^   name: (\S+)$.*?^   state: ([^\n]*)$", output, re.MULTILINE | re.DOTALL))
 
     def downloads(self) -> bool:
         """Returns whether files of a task are still being downloaded. The client retries a broken download

@@ -128,8 +128,8 @@ def too_long(_number: int, _frame: object) -> None:
 
 
 def status_inside(script: str) -> int:
-    """Runs the same script in a network of its own, and returns its status."""
-    network = ["unshare", "-n"] if os.geteuid() == 0 else ["unshare", "-rn"]
+    """Runs the same script in a network of its own, where it may mount disks, and returns its status."""
+    network = ["unshare", "-n", "-m"] if os.geteuid() == 0 else ["unshare", "-r", "-n", "-m"]
     words = [*network, sys.executable, os.path.abspath(script), INSIDE, *sys.argv[1:]]
     try:
         return subprocess.run(words, timeout=MOST_SECONDS + END_SECONDS).returncode
@@ -138,34 +138,47 @@ def status_inside(script: str) -> int:
         return 1
 
 
-def main(script: str, usage: str | None, kind: type[Run], more_needed: dict[str, str] | None = None) -> int:
-    """Runs a trial in a network of its own."""
+def run_part(script: str, program: str, part: str, kind: type[Run]) -> bool:
+    """Runs a part of a trial in a folder of its own. Returns whether all is good."""
     name = Path(script).name
-    words = [word for word in sys.argv[1:] if word not in (INSIDE, KEEP)]
-    if len(words) != 1 or not os.access(words[0], os.X_OK) or os.path.isdir(words[0]):
-        print(usage, file=sys.stderr)
-        return 64
-    if lacks := missing({**NEEDED, **(more_needed or {})}):
-        print(f"bridge/{name}: it needs from Debian: {' '.join(lacks)}", file=sys.stderr)
-        return 1
-    if INSIDE not in sys.argv:
-        return status_inside(script)
-    subprocess.run(["ip", "link", "set", "lo", "up"], check=True, timeout=10)
     folder = Path(tempfile.mkdtemp(prefix=f"bridge_{name}_"))
-    trial = kind(os.path.abspath(words[0]), folder)
-    signal.signal(signal.SIGALRM, too_long)
-    signal.alarm(MOST_SECONDS)
+    trial: Run | None = None
     try:
+        trial = kind(os.path.abspath(program), folder)
         trial.run()
     except (TrialFault, OSError, subprocess.SubprocessError) as fault:
-        print(f"bridge/{name}: {fault}\nthe files are in {folder}", file=sys.stderr)
-        return 1
+        print(f"bridge/{name}: {part}: {fault}\nthe files are in {folder}", file=sys.stderr)
+        return False
     finally:
-        signal.alarm(0)
-        trial.end()
+        if trial is not None:
+            trial.end()
     if KEEP in sys.argv:
         seen(f"the files are in {folder}")
     else:
         shutil.rmtree(folder)
+    return True
+
+
+def main(
+    script: str, usage: str | None, kinds: dict[str, type[Run]], more_needed: dict[str, str] | None = None
+) -> int:
+    """Runs the parts of a trial, or one of them, in a network of its own."""
+    words = [word for word in sys.argv[1:] if word not in (INSIDE, KEEP)]
+    program, chosen = words[:1], words[1:] or list(kinds)
+    is_program = bool(program) and os.access(program[0], os.X_OK) and not os.path.isdir(program[0])
+    if not is_program or not set(chosen) <= kinds.keys():
+        print(usage, file=sys.stderr)
+        return 64
+    if lacks := missing({**NEEDED, **(more_needed or {})}):
+        print(f"bridge/{Path(script).name}: it needs from Debian: {' '.join(lacks)}", file=sys.stderr)
+        return 1
+    if INSIDE not in sys.argv:
+        return status_inside(script)
+    subprocess.run(["ip", "link", "set", "lo", "up"], check=True, timeout=10)
+    signal.signal(signal.SIGALRM, too_long)
+    signal.alarm(MOST_SECONDS)
+    for part in chosen:
+        if not run_part(script, program[0], part, kinds[part]):
+            return 1
     print("good")
     return 0

@@ -101,12 +101,13 @@ def served(folder: Path, files: list[Path], ports: dict[int, int]) -> Iterator[N
         subprocess.run(command, check=True, capture_output=True, timeout=60)
     for number, path in enumerate(files):
         text = re.sub(r" *listen \[::\].*\n", "", path.read_text()).replace("/etc/letsencrypt", str(folder))
+        text = text.replace("/var/lib/nginx", str(folder))
         for old, new in ports.items():
             text = re.sub(rf"(listen |127\.0\.0\.1:){old}\b", rf"\g<1>{new}", text)
         project = path.parent.parent.name
         place = {"limits.conf": "conf.d/limits.conf", "site.conf": f"conf.d/{number}.conf"}.get(path.name)
         (folder / (place or f"snippets/bsched-{project}.conf")).write_text(text)
-    main = f"daemon off; pid {folder}/pid; error_log {folder}/log/error; events {{}}\n"
+    main = f"daemon off; user root; pid {folder}/pid; error_log {folder}/log/error; events {{}}\n"
     temporary = "".join(
         f"{kind}_temp_path {folder}/log/{kind};\n"
         for kind in ("client_body", "proxy", "fastcgi", "uwsgi", "scgi")

@@ -248,7 +248,7 @@ def test_names_that_volunteers_chose(project: MadeProject, tmp_path: Path) -> No
     for user in (1, 2, 3):
         with file.transaction() as connection:
             first_heard(connection, f"k{user}", f"User {user}", 1000)
-        members.changed(members.of_key(f"k{user}"), f"Chosen {user}", user == 1)
+        members.change(members.of_key(f"k{user}"), f"Chosen {user}", user == 1)
     Barring(file).delete("k3", 2000)
     project.serve()
     for user in (1, 2):

@@ -1,42 +1,25 @@
-#!/usr/bin/python3
-"""Tries output files and programs with BOINC's library: BOINC's own client over a built bsched, in some five minutes.
-
-usage: bridge/try_files PROGRAM [--keep]
-PROGRAM is bsched, as `rt run` in crates/bsched leaves it (crates/bsched/out/bsched). It needs what `bridge/try`
-needs, and from Debian gcc, libc6-dev, make and libboinc-app-dev. It runs like `bridge/try`.
-
-Two clients of two users run `primes` of examples/boinc_programs, which has two output files and an optional one that
-it does not write, and `words`, which a wrapper starts. What happens to them:
-
-uploads  both compute the same workunit; the answer to one upload of each is lost; both get credit, and the file that
-         bsched compared is stored
-killed   the bridge is killed in the middle of an upload, and between an upload and its report
-repeated the reply to a report is lost, and the client reports again
-given up the client gives up an upload; its report, which says success, is an error, and the other client does the
-         work
-stopped  a client is killed with its job, and the job continues at its checkpoint
-wrapped  a program that does not know BOINC runs
-talked   a program sends a message that is no XML; it is acknowledged once, and the host continues to report
-classes  a third client, with four processors and a declared coprocessor, runs jobs of a plain version, of one for
-         several processors and of one for the coprocessor; it asks for its coprocessor alone, and gets work
-swept    the sweep finds nothing that it may delete, and the results name the files
-
-It prints what was seen, and `good` at the end. If something is wrong, it says what, and ends with status 1.
+"""What BOINC's client does with output files, programs with BOINC's library and plan classes: the second part of
+`bridge/try`, whose head lists the steps.
 """
 import hashlib
 import json
+import re
+import sqlite3
 import subprocess
 import sys
+from contextlib import suppress
 from pathlib import Path
+from urllib.request import urlopen
 
-sys.dont_write_bytecode = True
-BRIDGE = Path(__file__).resolve().parent
-sys.path.insert(0, str(BRIDGE))
-from trial import file_project, project
-from trial.programs import Bridge, Client, Program, Scheduler
-from trial.proxy import Fault, Proxy
-from trial.runs import BRIDGE_PORT, CALLS_PORT, CLIENTS_PORT, SCHEDULER_PORT, URL, Run, main, seen, wants
+from bsched_bridge.upload_tokens import UploadTokens
+from uploading import odd_messages
 
+from . import file_project, project
+from .programs import BRIDGE, Bridge, Client, Program, Scheduler
+from .proxy import Fault, Proxy
+from .runs import BRIDGE_PORT, CALLS_PORT, CLIENTS_PORT, SCHEDULER_PORT, URL, Run, seen, wants
+
+DISK = 8_000_000  # bytes of the disk on which the uploads are
 PAUSE = 40  # milliseconds of a hundredth of a job
 UPLOAD, DONE = "/file_upload_handler", b"<status>0</status>"
 GIVE_UP = b"<data_server_reply>\n<status>-1</status>\n</data_server_reply>\n"
@@ -54,6 +37,8 @@ LIMITS = {
     "card": 900,
     "busy": 1100,
     "alone": 1200,
+    "full": 1300,
+    "after": 1400,
 }
 PRIMES = {
     "first": 168,
@@ -68,6 +53,8 @@ PRIMES = {
     "card": 154,
     "busy": 184,
     "alone": 196,
+    "full": 211,
+    "after": 222,
 }
 COPROC = "<coproc><type>fakegpu</type><count>2</count><peak_flops>1e12</peak_flops><device_nums>0 1</device_nums></coproc>"
 PREFERENCES = (
@@ -90,7 +77,7 @@ def sha256_of(text: str) -> str:
     return hashlib.sha256(text.encode()).hexdigest()
 
 
-class Trial(Run):
+class Files(Run):
     """The steps of the trial."""
 
     def __init__(self, program: str, folder: Path):
@@ -98,6 +85,8 @@ class Trial(Run):
         file_project.make(folder, URL, BRIDGE_PORT, CALLS_PORT, PAUSE)
         for name, limit in LIMITS.items():
             (folder / "files" / f"{name}.in").write_text(f"{limit}\n")
+        (folder / "uploads").mkdir()
+        subprocess.run(["mount", "-t", "tmpfs", "-o", f"size={DISK}", "disk", folder / "uploads"], check=True)
         self.scheduler = Scheduler(program, folder, SCHEDULER_PORT, project.OPERATOR_KEY)
         self.bridge = Bridge(folder, BRIDGE_PORT)
         self.programs: list[Program] = [self.bridge, self.scheduler]
@@ -226,8 +215,8 @@ class Trial(Run):
         self.until(fault.met.is_set, "the reply to a report is lost", *self.clients)
         count = len(self.reports("again"))
         self.until(lambda: len(self.reports("again")) > count, "it is reported again", *self.clients)
-        told = {json.dumps(one) for one in self.reports("again")}
-        wants(len(told) == 1, f"both reports say the same: {told}")
+        reports = {json.dumps(one) for one in self.reports("again")}
+        wants(len(reports) == 1, f"both reports say the same: {reports}")
         self.until(
             lambda: not any(client.tasks() for client in self.clients), "it is forgotten", *self.clients
         )
@@ -245,6 +234,70 @@ class Trial(Run):
         wants(self.store("78\n"), "the file of the other result is stored")
         seen(
             f"a client gave up an upload, and its success became an error ({first['output']}); another did the work"
+        )
+
+    def on_disk(self) -> list[str]:
+        """Returns the files of the folder of uploads, and how many rows its database has."""
+        folder = self.folder / "uploads"
+        names = sorted(str(path.relative_to(folder)) for path in folder.glob("*/*"))
+        with sqlite3.connect(folder / "uploads.db") as tables:
+            return [
+                *names,
+                *map(str, tables.execute("SELECT count(*), total(nbytes) FROM upload").fetchone()),
+            ]
+
+    def forged(self) -> None:
+        """Odd and forged messages store nothing."""
+        tokens = UploadTokens((self.folder / "uploads" / "secret").read_bytes())
+        names = ("forged_0_0", "forged_0_1")
+        messages = list(odd_messages(names, *(tokens.token(name, 20_000) for name in names)))
+        before = self.on_disk()
+        for what, message, status in messages:
+            with urlopen(f"http://127.0.0.1:{BRIDGE_PORT}{UPLOAD}", message, timeout=30) as response:
+                found = re.search(rb"<status>(-?\d+)</status>", response.read())
+            wants(found and int(found[1]) == status, f"the answer to {what} is {status}: {found}")
+            wants(self.on_disk() == before, f"{what} stores nothing")
+        seen(f"bridge: {len(messages)} odd and forged messages stored nothing")
+
+    def full(self) -> None:
+        """The disk of the uploads is full for a while."""
+        before = self.on_disk()
+        self.give("full", 1)
+        self.until(
+            lambda: any("full_0" in client.tasks() for client in self.clients),
+            "a client has it",
+            *self.clients,
+        )
+        filling = self.folder / "uploads" / "filling"
+        with filling.open("wb", buffering=0) as file, suppress(OSError):
+            while True:
+                file.write(bytes(4096))
+        count = len(self.before_bridge.messages)
+
+        def refused() -> bool:
+            return any(
+                uploads_of("full")(one) and one.answer and DONE not in one.answer
+                for one in self.before_bridge.messages[count:]
+            )
+
+        self.until(refused, "an upload is refused", *self.clients)
+        self.until(
+            lambda: any("can't take this file at the moment" in client.log() for client in self.clients),
+            "the client reads that it is for a while",
+            *self.clients,
+        )
+        wants(not self.reports("full"), "nothing is reported yet")
+        self.give("after", 2)
+        for client in self.clients:
+            client.update()
+        filling.unlink()
+        self.until_done("full", 1)
+        wants(self.store("211\n"), "the file is stored")
+        wants(set(before[:-2]) <= set(self.on_disk()), "what was there before is there")
+        self.until_done("after", 2)
+        wants(self.store("222\n"), "the file is stored")
+        seen(
+            "bridge: with a full disk it refused for a while; then the client sent the file again, and nothing is lost"
         )
 
     def stopped(self) -> None:
@@ -287,14 +340,15 @@ class Trial(Run):
         """A program sends a message that is no XML."""
         self.give("talk", 1, app="talks")
         self.until_done("talk", 1)
-        told = [one for one in self.before_bridge.messages if b"<msg_from_host>" in one.body]
-        wants(told and b"a<b" in told[0].body, "the message came as the program wrote it")
+        messages = [one for one in self.before_bridge.messages if b"<msg_from_host>" in one.body]
+        wants(messages and b"a<b" in messages[0].body, "the message came as the program wrote it")
         wants(
-            any(b"<message_ack>1</message_ack>" in (one.answer or b"") for one in told), "it was acknowledged"
+            any(b"<message_ack>1</message_ack>" in (one.answer or b"") for one in messages),
+            "it was acknowledged",
         )
         wants(not list(self.folder.glob("*/projects/*/trickle_up*")), "no client has it any more")
         seen(
-            f"a program sent `a<b`; it came {len(told)} times, was acknowledged, and the result was reported"
+            f"a program sent `a<b`; it came {len(messages)} times, was acknowledged, and the result was reported"
         )
 
     def classes(self) -> None:
@@ -346,7 +400,7 @@ class Trial(Run):
         self.scheduler.kill()  # then its tables can be read
         words = {**self.bridge.environment}
         words["PYTHONPATH"] += f":{BRIDGE.parent / 'tools'}"
-        told = subprocess.run(
+        completed = subprocess.run(
             [
                 sys.executable,
                 "-m",
@@ -364,10 +418,15 @@ class Trial(Run):
             timeout=60,
         )
         wants(
-            told.returncode == 0 and " 0 bytes are deleted" in told.stdout,
-            f"the sweep: {told.stdout}{told.stderr}",
+            completed.returncode == 0 and " 0 bytes are deleted" in completed.stdout,
+            f"the sweep: {completed.stdout}{completed.stderr}",
         )
-        seen(told.stdout.strip())
+        seen(completed.stdout.strip())
+
+    def end(self) -> None:
+        """Ends all programs, and gives the disk back."""
+        super().end()
+        subprocess.run(["umount", self.folder / "uploads"], check=True)
 
     def run(self) -> None:
         """Runs all steps."""
@@ -377,6 +436,8 @@ class Trial(Run):
             self.killed,
             self.repeated,
             self.given_up,
+            self.forged,
+            self.full,
             self.stopped,
             self.wrapped,
             self.talked,
@@ -384,8 +445,3 @@ class Trial(Run):
             self.swept,
         ):
             step()
-
-
-if __name__ == "__main__":
-    needed = {"gcc": "gcc", "make": "make"}
-    sys.exit(main(__file__, __doc__, Trial, needed))
