@@ -19,6 +19,7 @@ scheduler        the connection to bsched, and what its answers say
 plan_classes     versions for several processors and for coprocessors, as platforms of bsched
 client_replies   the XML of a reply
 catalogue        files, command lines and signatures, as the operator wrote them
+current_catalogue  the catalogue as it is after the last edit
 
 An account goes through these:
 

@@ -40,6 +40,7 @@ def command_parser() -> argparse.ArgumentParser:
     parser.add_argument("--config", type=Path, metavar="FILE", help="the settings (TOML); serves them")
     parser.add_argument("--version", action="version", version=f"bsched-bridge {version()}")
     parser.add_argument("--check", action="store_true", help="only checks the settings and the catalogue")
+    parser.add_argument("--catalogue", type=Path, metavar="FILE", help="--check takes it for the catalogue")
     orders = parser.add_subparsers(dest="order", metavar="ORDER")
     keygen = orders.add_parser("keygen", help="makes a pair of keys for code signing")
     keygen.add_argument("--private", type=Path, default=Path("code_sign_private"), metavar="FILE")
@@ -83,13 +84,13 @@ def check_scheduler(path: Path, settings: Settings) -> None:
         print(f"{place} gives no answer ({failure}), so operator_key was not compared")
 
 
-def serve(path: Path, only_check: bool) -> None:
+def serve(path: Path, only_check: bool, other_catalogue: Path | None = None) -> None:
     """Serves the settings of a file with waitress until it is stopped. With only_check it only reads and
-    checks them.
+    checks them, maybe with another catalogue.
     """
     settings = read_settings(path)
     if only_check:
-        catalogue = read_catalogue(settings.catalogue)
+        catalogue = read_catalogue(other_catalogue or settings.catalogue)
         check_uploads(settings, catalogue)
         for name, app in catalogue.apps.items():
             if app.digest is not None:
@@ -114,7 +115,7 @@ def serve(path: Path, only_check: bool) -> None:
         port=settings.listen.port,
         threads=settings.threads,
         connection_limit=MOST_CONNECTIONS,
-        max_request_body_size=max(client_requests.MOST_BYTES, most_body(application.catalogue)),
+        max_request_body_size=max(client_requests.MOST_BYTES, most_body(settings.uploads)),
         ident="bsched_bridge",
         clear_untrusted_proxy_headers=True,
     )
@@ -137,7 +138,7 @@ def main() -> int:
         elif args.config is None:
             parser.error("--config FILE or a command is needed: see --help")
         else:
-            serve(args.config, args.check)
+            serve(args.config, args.check, args.catalogue)
     except (OperatorFault, StateFault, OrderFault) as fault:
         print(f"bsched-bridge: {fault}", file=sys.stderr)
         return FAULT

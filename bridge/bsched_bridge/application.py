@@ -10,8 +10,9 @@ from .accounts import Accounts
 from .archives import read_archives
 from .barring import Barring
 from .call_numbers import CallNumbers
-from .catalogue import Catalogue, read_catalogue
+from .catalogue import Catalogue
 from .client_replies import ReplyWriter
+from .current_catalogue import CatalogueReader
 from .downloads import Downloads, StartResponse
 from .exchange import Exchange, Resending
 from .handed_out import HandedOut
@@ -44,20 +45,21 @@ class Application:
     def __init__(
         self,
         settings: Settings,
-        catalogue: Catalogue,
+        catalogue: Catalogue | Callable[[], Catalogue],
         file: StateFile,
         scheduler: Scheduler,
         rules: Callable[[], HostRules] | None = None,
         passwords: Passwords | None = None,
         store: UploadStore | None = None,
     ):
-        self.settings, self.catalogue, self.scheduler, self.store = settings, catalogue, scheduler, store
+        self.settings, self.scheduler, self.store = settings, scheduler, store
+        self.current = current = (lambda: catalogue) if isinstance(catalogue, Catalogue) else catalogue
         key, archives, barring = settings.operator_key, read_archives(settings.archives), Barring(file)
         hosts, self.members, recent = Hosts(file), Members(file), RecentCredit(settings.averages)
         half = max(1, settings.threads // 2)
         self.places = Places(max(1, settings.threads - KEPT_THREADS))
         self.account_places, self.upload_places = Places(half, self.places), Places(half, self.places)
-        self.downloads = Downloads(catalogue, Places(half, self.places), settings.retry_delay)
+        self.downloads = Downloads(current, Places(half, self.places), settings.retry_delay)
         self.accounts: Accounts | None = None
         if settings.accounts is not None and key is not None:
             self.accounts = Accounts(
@@ -65,7 +67,7 @@ class Application:
             )
         reports: ReportChecks | None = None
         if store is not None and key is not None:
-            reports = ReportChecks(catalogue, store, HandedOut(store.tables), hosts, scheduler, key)
+            reports = ReportChecks(current, store, HandedOut(store.tables), hosts, scheduler, key)
         self.exchange = Exchange(
             hosts,
             CallNumbers(file),
@@ -81,13 +83,18 @@ class Application:
         )
         tokens = None if store is None else UploadTokens(store.secret)
         self.writer = ReplyWriter(
-            catalogue, settings.name, settings.url, tokens, has_accounts=self.accounts is not None
+            current(), settings.name, settings.url, tokens, has_accounts=self.accounts is not None
         )
         self.requests = SchedulerMessages(
-            self.exchange, catalogue, self.writer, self.members, recent, self.places
+            self.exchange, current, self.writer, self.members, recent, self.places
         )
         self.statements = Statements(hosts, self.members, scheduler, key, settings.counts, archives, recent)
         self._handlers = self._new_handlers()
+
+    @property
+    def catalogue(self) -> Catalogue:
+        """The catalogue as it is now."""
+        return self.current()
 
     def _new_handlers(self) -> dict[str, Handler]:
         """Returns the handler for each path below the master URL."""
@@ -169,12 +176,12 @@ def new_application(path: Path) -> Application:
     settings = read_settings(path)
     if settings.is_without_addresses:
         log.warning("all volunteers count as one address, that of the proxy: set address_field in [accounts]")
-    catalogue = read_catalogue(settings.catalogue)
+    catalogues = CatalogueReader(settings)
     scheduler = Scheduler(settings.scheduler, settings.answer_seconds, settings.operator_key)
     rules = HostRuleReader(path, settings.host_rules)
     file = StateFile(settings.state)  # no other bridge has it from now on, nor the folder of uploads
-    store = open_store(settings, catalogue)
-    application = Application(settings, catalogue, file, scheduler, rules.rules, store=store)
+    store = open_store(settings, catalogues.current())
+    application = Application(settings, catalogues.current, file, scheduler, rules.rules, store=store)
     resend_accounts = application.accounts.resend_open if application.accounts else None
     Resending(application.exchange, settings.retry_delay, resend_accounts).start()
     return application

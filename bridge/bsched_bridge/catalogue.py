@@ -1,11 +1,13 @@
 """The catalogue: what a client needs for its jobs and the profile does not carry.
 
 For each application it has the command line and the input files of its workunits, and for each version its
-files. The operator writes it in TOML. The bridge checks it when it starts.
+files. The operator writes it in TOML. The bridge checks it when it starts, and reads it again after each edit
+(`current_catalogue`).
 """
 import os
 import re
 import threading
+from collections import OrderedDict
 from dataclasses import dataclass, field
 from pathlib import Path
 
@@ -14,7 +16,7 @@ from cryptography.hazmat.primitives.asymmetric import rsa
 from .client_requests import ClientRequest
 from .code_signing import KeyFault, file_md5, is_signature, read_public_key
 from .digest_programs import DigestProgram
-from .operator_files import Entry, OperatorFile
+from .operator_files import Entry, Marks, OperatorFile
 from .output_files import UPLOAD_NAME, OutputFile, read_output_files
 from .plan_classes import PlanClass, by_resource, read_plan_class, split
 from .words import NO_XML
@@ -22,6 +24,9 @@ from .words import NO_XML
 FILE_NAME = re.compile(r"[A-Za-z0-9_][A-Za-z0-9_.+-]{0,127}")
 # a placeholder for the workunit's name, in what an application says for all its workunits
 WORKUNIT = "{workunit}"
+MOST_LINE = 4096  # bytes of a command line
+MOST_KNOWN = 10_000  # files whose MD5 is kept
+FAULTY_LINE = "has more than one line, more than 4096 bytes, or a control character"
 
 
 @dataclass(frozen=True, slots=True)
@@ -68,13 +73,17 @@ class Work:
 
     command_line: str
     input_files: tuple[InputFile, ...]
+    line_folder: Path | None = None  # has for each workunit a file with the end of its command line
 
     def of(self, workunit: str) -> "Work":
         """Returns the same for one workunit, with its name in place of the placeholder."""
         files = tuple(
             InputFile(file.name.replace(WORKUNIT, workunit), file.open_name) for file in self.input_files
         )
-        return Work(self.command_line.replace(WORKUNIT, workunit), files)
+        line = self.command_line.replace(WORKUNIT, workunit)
+        if self.line_folder is not None:
+            line = f"{line} {own_line(self.line_folder / workunit)}".strip()
+        return Work(line, files)
 
 
 @dataclass(frozen=True, slots=True)
@@ -96,13 +105,32 @@ class MissingFile(Exception):
     """Raised if a file is missing or can't be read."""
 
 
+def is_faulty_line(text: str) -> bool:
+    """Returns whether a text can't be a command line."""
+    return bool(NO_XML.search(text) or "\n" in text or "\r" in text or len(text.encode()) > MOST_LINE)
+
+
+def own_line(path: Path) -> str:
+    """Returns the end of a workunit's command line, from its file."""
+    try:
+        with path.open("rb") as file:
+            text = file.read(MOST_LINE + 2).decode().removesuffix("\n")
+    except (OSError, UnicodeDecodeError):
+        raise MissingFile(f"the command line {path}") from None
+    if is_faulty_line(text):
+        raise MissingFile(f"the command line {path}, which {FAULTY_LINE}, and so")
+    return text
+
+
 class FileFolder:
     """The folder of the files that clients may download."""
 
-    def __init__(self, path: Path, has_uploads: bool = False) -> None:
+    def __init__(self, path: Path, has_uploads: bool = False, former: "FileFolder | None" = None) -> None:
         self.path, self.has_uploads = path, has_uploads
-        self._known: dict[tuple[str, int, int], StoredFile] = {}
+        self._known: OrderedDict[tuple[str, int, int], StoredFile] = OrderedDict()
         self._lock = threading.Lock()
+        if former is not None and former.path == path:
+            self._known, self._lock = former._known, former._lock
 
     def path_of(self, name: str) -> Path:
         """Returns the path of the file with this name, if there is one."""
@@ -112,8 +140,8 @@ class FileFolder:
         return path
 
     def stored(self, name: str) -> StoredFile:
-        """Returns a file with its size and MD5. The MD5 is computed once for a file, and again after the file
-        was changed.
+        """Returns a file with its size and MD5. The MD5 is computed again after the file was changed. It is
+        kept for the files that were read last.
         """
         path = self.path_of(name)
         try:
@@ -125,6 +153,8 @@ class FileFolder:
                 known = StoredFile(name, status.st_size, file_md5(path))
                 with self._lock:
                     self._known[key] = known
+                    while len(self._known) > MOST_KNOWN:
+                        self._known.popitem(last=False)
         except OSError:
             raise MissingFile(name) from None
         return known
@@ -183,16 +213,13 @@ def read_work(entry: Entry, folder: FileFolder, of_app: bool) -> Work:
     exist.
     """
     command_line = entry.text("command_line", "")
-    if (
-        NO_XML.search(command_line)
-        or "\n" in command_line
-        or "\r" in command_line
-        or len(command_line.encode()) > 4096
-    ):
-        entry.fault(
-            "command_line has more than one line, more than 4096 bytes, or a control character",
-            "command_line",
-        )
+    if is_faulty_line(command_line):
+        entry.fault(f"command_line {FAULTY_LINE}", "command_line")
+    line_folder = None
+    if of_app and "command_lines" in entry.members:
+        line_folder = entry.existing("command_lines")
+        if not line_folder.is_dir():
+            entry.fault(f"command_lines: {line_folder} is not a folder", "command_lines")
     files = []
     for item in entry.entries("input_files", []):
         name = download_name(item, folder, of_app)
@@ -202,8 +229,9 @@ def read_work(entry: Entry, folder: FileFolder, of_app: bool) -> Work:
             try:
                 folder.path_of(name)
             except MissingFile:
+                item.note(folder.path / name)
                 item.fault(f"the input file {folder.path / name} is not there")
-    return Work(command_line, tuple(files))
+    return Work(command_line, tuple(files), line_folder)
 
 
 def read_app(entry: Entry, folder: FileFolder) -> App:
@@ -243,6 +271,7 @@ def read_digest(entry: Entry) -> DigestProgram | None:
 def read_version_file(entry: Entry, folder: FileFolder, key: rsa.RSAPublicKey) -> VersionFile:
     """Reads a file of a version. Its signature must be by this key."""
     name = download_name(entry, folder)
+    entry.note(folder.path / name)
     try:
         file = folder.stored(name)
     except MissingFile:
@@ -286,12 +315,14 @@ def read_key(file: Entry) -> tuple[str, rsa.RSAPublicKey]:
         file.fault(f"code_sign_key: {path} {fault}", "code_sign_key")
 
 
-def read_catalogue(path: Path) -> Catalogue:
-    """Reads the catalogue from a file. Paths in it are relative to its folder."""
-    file = OperatorFile(path)
+def read_catalogue(path: Path, marks: Marks | None = None, former: FileFolder | None = None) -> Catalogue:
+    """Reads the catalogue from a file. Paths in it are relative to its folder. `marks` gets the marks of the
+    files that are read, also if there is a fault. What is known of the files in a former folder is kept.
+    """
+    file = OperatorFile(path, marks)
     text, key = read_key(file)
     has_uploads = any("output_files" in entry.members for entry in file.tables("app"))
-    folder = FileFolder(file.existing("files"), has_uploads)
+    folder = FileFolder(file.existing("files"), has_uploads, former)
     catalogue = Catalogue(text, folder, {}, {})
     lines: dict[object, int] = {}
 

@@ -2,6 +2,7 @@
 
 An element that means yes is written `<x>1</x>`. The client reads that as it reads `<x/>`.
 """
+import copy
 import logging
 from dataclasses import dataclass
 from xml.etree.ElementTree import Element, SubElement, indent, tostring
@@ -80,6 +81,12 @@ class ReplyWriter:
     ) -> None:
         self.catalogue, self.name, self.url, self.tokens = catalogue, name, url, tokens
         self.buttons = (ACCOUNT, STATUS) if has_accounts else (STATUS,)
+
+    def with_catalogue(self, catalogue: Catalogue) -> "ReplyWriter":
+        """Returns a writer of the same project with this catalogue."""
+        writer = copy.copy(self)
+        writer.catalogue = catalogue
+        return writer
 
     def _begun(self, delay: int) -> Element:
         """Returns what each reply begins with."""

@@ -42,7 +42,7 @@ class SentFile:
 class Downloads:
     """Sends files."""
 
-    def __init__(self, catalogue: Catalogue, places: Places, retry_delay: int) -> None:
+    def __init__(self, catalogue: Callable[[], Catalogue], places: Places, retry_delay: int) -> None:
         self.catalogue, self.places, self.retry_delay = catalogue, places, retry_delay
 
     def send(self, environ: Environ, start_response: StartResponse, name: str) -> Iterable[bytes]:
@@ -65,7 +65,7 @@ class Downloads:
     ) -> Iterable[bytes]:
         """Sends a file, and calls a function when the server has closed it, or if no file is sent."""
         try:
-            file = self.catalogue.folder.path_of(name).open("rb")
+            file = self.catalogue().folder.path_of(name).open("rb")
         except (MissingFile, OSError):
             raise HttpFault(404) from None
         status = os.stat(file.fileno())

@@ -2,6 +2,7 @@
 import difflib
 import math
 import re
+import stat
 import tomllib
 from bisect import bisect_right
 from pathlib import Path
@@ -12,6 +13,22 @@ from .words import is_word
 LEAST_LIKENESS = 0.75  # of two names, if one may be meant as the other
 MOST_TEXT = 65_536  # characters of a file whose text is shown on a page
 TABLE = re.compile(r"[ \t]*\[\[?[ \t]*([A-Za-z0-9_-]+)[ \t]*\]\]?")
+
+
+Mark = tuple[int, ...]  # it changes when a file is written or replaced
+Marks = dict[Path, Mark | None]
+
+
+def mark_of(path: Path) -> Mark | None:
+    """Returns the mark of a file, or None if it can't be looked at. That of a folder stays while files come
+    and go in it."""
+    try:
+        status = path.stat()
+    except OSError:
+        return None
+    if stat.S_ISDIR(status.st_mode):
+        return (status.st_ino,)
+    return status.st_mtime_ns, status.st_size, status.st_ino
 
 
 class OperatorFault(Exception):
@@ -27,9 +44,16 @@ class Entry:
     fault.
     """
 
-    def __init__(self, path: Path, members: dict[str, Any], lines: list[str], first: int, last: int) -> None:
+    def __init__(
+        self, path: Path, members: dict[str, Any], lines: list[str], first: int, last: int, marks: Marks
+    ) -> None:
         self.path, self.members, self.untaken = path, members, set(members)
         self._lines, self._first, self._last = lines, first, last
+        self.marks = marks  # of the file, and of files that it names
+
+    def note(self, path: Path) -> None:
+        """Notes the mark of a file that is read next."""
+        self.marks.setdefault(path, mark_of(path))
 
     def line(self, member: str | None = None) -> int:
         """Returns the line on which a member is, or the one on which the entry begins."""
@@ -106,11 +130,12 @@ class Entry:
         if not all(isinstance(item, dict) for item in value):
             self.fault(f"{member} is not an array of tables {{ .. }}", member)
         line = self.line(member)
-        return [Entry(self.path, item, self._lines, line, line) for item in value]
+        return [Entry(self.path, item, self._lines, line, line, self.marks) for item in value]
 
     def existing(self, member: str, default: Any = ...) -> Path:
         """Returns a path that must exist. It is relative to the folder of this file."""
         path = self.path.parent / self.text(member, default)
+        self.note(path)
         if not path.exists():
             self.fault(f"{member}: {path} does not exist", member if member in self.members else None)
         return path
@@ -140,7 +165,9 @@ class Entry:
 class OperatorFile(Entry):
     """The whole file. The members before the first table are its own."""
 
-    def __init__(self, path: Path) -> None:
+    def __init__(self, path: Path, marks: Marks | None = None) -> None:
+        marks = {} if marks is None else marks
+        marks[path] = mark_of(path)
         try:
             text = path.read_text(encoding="utf-8")
             members = tomllib.loads(text)
@@ -156,7 +183,7 @@ class OperatorFile(Entry):
             (match[1], number) for number, line in enumerate(lines, 1) if (match := TABLE.match(line))
         ]
         own = self._tables[0][1] - 1 if self._tables else len(lines)
-        super().__init__(path, members, lines, 1, max(own, 1))
+        super().__init__(path, members, lines, 1, max(own, 1), marks)
 
     def line(self, member: str | None = None) -> int:
         """Returns the line on which a member is, even if the member is a table."""
@@ -172,7 +199,8 @@ class OperatorFile(Entry):
             self.fault(f"{name} is not a table [{name}]", name)
         first = self.line(name)
         following = [line for _, line in self._tables if line > first]
-        return Entry(self.path, members, self._lines, first, min([*following, len(self._lines) + 1]) - 1)
+        last = min([*following, len(self._lines) + 1]) - 1
+        return Entry(self.path, members, self._lines, first, last, self.marks)
 
     def tables(self, name: str) -> list[Entry]:
         """Returns the tables under the headers `[[name]]`, each with its lines."""
@@ -185,6 +213,8 @@ class OperatorFile(Entry):
             begins = [self.line(name)] * len(found)
         headers = [line for _, line in self._tables] + [len(self._lines) + 1]
         return [
-            Entry(self.path, members, self._lines, first, headers[bisect_right(headers, first)] - 1)
+            Entry(
+                self.path, members, self._lines, first, headers[bisect_right(headers, first)] - 1, self.marks
+            )
             for members, first in zip(found, begins)
         ]

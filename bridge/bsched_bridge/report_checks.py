@@ -9,6 +9,7 @@ import csv
 import logging
 import sqlite3
 import time
+from collections.abc import Callable
 from dataclasses import dataclass, replace
 from functools import cached_property
 
@@ -55,7 +56,7 @@ class Incomplete(Exception):
 class ReportChecks:
     """Checks the reports of a project whose applications have output files."""
 
-    catalogue: Catalogue
+    catalogue: Callable[[], Catalogue]  # returns the current one
     store: UploadStore
     jobs: HandedOut
     hosts: Hosts
@@ -66,7 +67,7 @@ class ReportChecks:
         """Notes which jobs a reply has, before it goes out, and returns them. If that fails, for example on a
         full disk, it returns only those without output files.
         """
-        apps = self.catalogue.apps
+        apps = self.catalogue().apps
         handed = [
             HandedJob(job.name, key, job.app_name, apps[job.app_name].output_files, job.report_deadline)
             for job in jobs
@@ -116,7 +117,7 @@ class ReportChecks:
         job = self.jobs.job(result)
         if job is not None and job.key == statement.key:
             return job
-        app = self.catalogue.apps.get(statement.apps.get(result, ""))
+        app = self.catalogue().apps.get(statement.apps.get(result, ""))
         if app is None:
             return None
         job = HandedJob(result, statement.key, app.name, app.output_files, int(time.time()))
@@ -136,7 +137,7 @@ class ReportChecks:
             except FileNotFoundError as fault:
                 log.error("a file of %s was removed: %s", job.result, fault)
                 return Outcome(UPLOAD_STATUS, "an output file was lost")
-        app = self.catalogue.apps.get(job.app)
+        app = self.catalogue().apps.get(job.app)
         if app is None or app.digest is None:
             return Outcome(0, compared_text(job.files, self.store.stored_files(job.result)))
         return self._digested(job, app.digest, ends)

@@ -1,5 +1,5 @@
 """Answers the scheduler_requests of clients: reads a request, and writes the reply to it."""
-from collections.abc import Iterable
+from collections.abc import Callable, Iterable
 from dataclasses import replace
 
 from .catalogue import Catalogue
@@ -41,7 +41,7 @@ class SchedulerMessages:
     def __init__(
         self,
         exchange: Exchange,
-        catalogue: Catalogue,
+        catalogue: Callable[[], Catalogue],
         writer: ReplyWriter,
         members: Members,
         recent: RecentCredit,
@@ -60,7 +60,7 @@ class SchedulerMessages:
         blocks = blocks_of(environ, length)
         try:
             with self.places.taken(0.0 if self.exchange.scheduler.is_slow else PLACE_SECONDS):
-                request = self.catalogue.by_resource(self.reader.read(blocks, length))
+                request = self.catalogue().by_resource(self.reader.read(blocks, length))
                 answered = self.exchange.answer(request)
         except RequestFault as fault:
             answered = PutOff(f"Error in request message: {fault}", HOUR)
@@ -73,7 +73,8 @@ class SchedulerMessages:
         member = self.members.of_key(request.authenticator)  # the user may have chosen another name
         reply = answered.reply if member is None else replace(answered.reply, user_name=member.name)
         recent = self._recent(request.authenticator, reply.hostid)
-        return Answer(XML, self.writer.reply(request, reply, answered.hostid, answered.notice, recent))
+        writer = self.writer.with_catalogue(self.catalogue())
+        return Answer(XML, writer.reply(request, reply, answered.hostid, answered.notice, recent))
 
     def _recent(self, authenticator: str, scheduler_hostid: int) -> Recent | None:
         """Returns the recent average credit that a reply has; None if the operator has no file of it."""

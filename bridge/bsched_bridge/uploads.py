@@ -14,9 +14,9 @@ from collections.abc import Iterator
 from dataclasses import dataclass
 from typing import BinaryIO
 
-from .catalogue import Catalogue
 from .http_messages import LENGTH, TEXT, Answer, Environ, HttpFault, require_method
 from .limits import NoPlace, Places
+from .settings import UploadSettings
 from .upload_store import NotNow, SentFile, UploadStore
 from .upload_tokens import UploadTokens
 
@@ -118,10 +118,9 @@ def blocks_of(begin: bytes, stream: BinaryIO, nbytes: int) -> Iterator[bytes]:
         yield block
 
 
-def most_body(catalogue: Catalogue) -> int:
-    """Returns how many bytes the largest upload has."""
-    files = [file.max_nbytes for app in catalogue.apps.values() for file in app.output_files]
-    return MOST_HEAD + max(files, default=0)
+def most_body(settings: UploadSettings | None) -> int:
+    """Returns how many bytes the largest upload has, whatever the catalogue says later."""
+    return MOST_HEAD + (0 if settings is None else settings.most_result_bytes)
 
 
 class Uploads:

@@ -10,8 +10,8 @@ sys.path[:0] = [str(BRIDGE), str(BRIDGE.parent / "bench"), str(BRIDGE / "tests")
 from twin import Twin  # noqa: E402
 
 from bsched_bridge.application import Application  # noqa: E402
-from bsched_bridge.catalogue import read_catalogue  # noqa: E402
 from bsched_bridge.code_signing import file_md5, public_key_text, signature_text  # noqa: E402
+from bsched_bridge.current_catalogue import CatalogueReader  # noqa: E402
 from bsched_bridge.host_rules import HostRuleReader  # noqa: E402
 from bsched_bridge.passwords import Cost, Passwords  # noqa: E402
 from bsched_bridge.scheduler import Scheduler  # noqa: E402
@@ -70,11 +70,11 @@ class Bridge:
         """Starts the bridge with what its file has."""
         path = self.folder / "bridge.toml"
         settings = read_settings(path)
-        self.file, catalogue = StateFile(settings.state), read_catalogue(settings.catalogue)
-        self.store = open_store(settings, catalogue)
+        self.file, catalogues = StateFile(settings.state), CatalogueReader(settings)
+        self.store = open_store(settings, catalogues.current())
         self.application = Application(
             settings,
-            catalogue,
+            catalogues.current,
             self.file,
             Scheduler(self.twin.address, answer_seconds=2),
             HostRuleReader(path, settings.host_rules).rules,
