@@ -39,6 +39,16 @@ def test_the_man_page_has_each_command_of_the_profile() -> None:
         assert f'\n.BI "{command} ' in page
 
 
+def test_the_tools_complete_each_option() -> None:
+    for command, options in synopsis("bsched-tools.1").items():
+        if command:
+            words = f". {TOP}/packaging/completion/bsched-tools; _bsched_tools_options {command}"
+            told = subprocess.run(
+                ["bash", "-c", words], capture_output=True, text=True, timeout=60, check=True
+            )
+            assert set(told.stdout.split()) == options, command
+
+
 def test_the_man_page_of_the_settings_has_each_key_of_the_profile() -> None:
     profile = (TOP / "docs" / "PROFILE.md").read_text().partition("\n## Settings\n")[2].partition("\n## ")[0]
     keys = re.findall(r"^\| `(\w+)` \|", profile, re.MULTILINE)

@@ -1,7 +1,7 @@
 """Tools for the operator of a project: copies while it serves, results, counts, and why a file is refused.
 
 All commands but `copy`, `doctor` and `import` read a copy of the tables. Nothing here writes the tables:
-`import` asks the scheduler, or runs bsched. The modules:
+`import`, `app` and `submit` ask the scheduler, or run bsched. The modules:
 
 faults, files         faults in one line, and files that are written whole or not at all
 holders, stopping     which process has the tables, and how it is stopped for a moment
@@ -19,6 +19,12 @@ checks, settings_file, doctor   why bsched refuses a file
 projects, volunteers  a project's folder, and which users agreed to be named, and how
 handing               new results for a program of the operator
 import_files, imports files that are imported: what is wrong with them, and how they are sent
+catalogue_file, apps  the catalogue of the bridge, and how an application or a version is added
+looks                 who may use a project, whether its scheduler answers, and a copy for one look
+amounts, inputs       amounts as a person writes them, and what a batch of work is made of
+submitting            a batch of work: its record, its staged inputs, and its imports
+progress, collecting  how far the work is, and its outputs in a folder
+bars                  progress bars on a terminal
 health                what answers, and what is old or nearly full
-command_line          the arguments of the command line
+command_line          the arguments of the command line (work_options, work_commands: of those that make work)
 """

@@ -26,6 +26,7 @@ from .projects import PROGRAM, Project, project_of
 from .results import write_results
 from .tables import opened
 from .volunteers import Volunteers, asked_of_bridge, volunteers_of
+from .work_commands import WORK_COMMANDS
 
 FAULT = 1
 Arguments = argparse.Namespace
@@ -242,6 +243,11 @@ def load(args: Arguments) -> int:
     return 0
 
 
+def work(args: Arguments) -> None:
+    """Makes work, says how far it is, or collects its outputs."""
+    WORK_COMMANDS[args.command](args, print_lines)
+
+
 COMMANDS: dict[str, Callable[[Arguments], int | None]] = {
     "copy": copy,
     "results": results,
@@ -255,6 +261,7 @@ COMMANDS: dict[str, Callable[[Arguments], int | None]] = {
     "health": health,
     "check": check,
     "import": load,
+    **dict.fromkeys(WORK_COMMANDS, work),
 }
 
 

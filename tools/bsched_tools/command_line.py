@@ -5,6 +5,8 @@ from importlib import metadata
 from pathlib import Path
 from typing import NoReturn
 
+from .work_options import add_work
+
 BAD_COMMAND_LINE = 64
 NAME = "bsched-tools"
 COPIES = "copies of the tables; a folder means its newest copy"
@@ -64,6 +66,7 @@ def new_parser() -> CommandLine:
     add_reading(commands)
     add_publishing(commands)
     add_importing(commands)
+    add_work(commands, PROJECT)
     doctor = commands.add_parser("doctor", help="why bsched says `bsched: file` or `bsched: settings`")
     doctor.add_argument("--tables", type=Path, metavar="F", help="the tables")
     doctor.add_argument("--settings", type=Path, metavar="S", help="the file of settings")

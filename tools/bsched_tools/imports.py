@@ -9,6 +9,7 @@ import hashlib
 import http.client
 import io
 import json
+import os
 import re
 import subprocess
 import tempfile
@@ -111,6 +112,7 @@ class Sender:
         with tempfile.NamedTemporaryFile(prefix="bsched-import-") as file:
             file.write(batch.text)
             file.flush()
+            os.fchmod(file.fileno(), 0o644)
             args = ["import", "--tables", str(self.project.tables), "--kind", kind, "--batch", batch.name]
             try:
                 completed = subprocess.run(
@@ -119,6 +121,7 @@ class Sender:
                     text=True,
                     timeout=10 * ANSWER_SECONDS,
                     stdin=subprocess.DEVNULL,
+                    **self.project.as_owner(),
                 )
             except (OSError, subprocess.TimeoutExpired) as error:
                 raise Fault(f"{PROGRAM}: {getattr(error, 'strerror', None) or error}") from None

@@ -203,6 +203,13 @@ class Project:
         os.setuid(owner.st_uid)
         os.environ["HOME"] = str(self.folder)
 
+    def as_owner(self) -> dict[str, Any]:
+        """Returns the options with which root starts a process as the user who has the folder."""
+        owner = self.folder.stat()
+        if os.geteuid() != 0 or owner.st_uid == 0:
+            return {}
+        return {"user": owner.st_uid, "group": owner.st_gid, "extra_groups": [], "cwd": "/"}
+
     def made(self, folder: Path, mode: int) -> Path:
         """Makes a folder if it does not exist, and the ones above it. As root it gets the project's owner."""
         if not folder.is_dir():

@@ -92,9 +92,14 @@ def as_json(line: Line) -> str:
     return f"{json.dumps(fields, ensure_ascii=False)}\n"
 
 
-def lines_of(tables: Tables, after: int, given: Given | None) -> Iterator[Line]:
-    """Yields the lines of some tables: all of them, or those that were not given out before."""
+def lines_of(
+    tables: Tables, after: int, given: Given | None, names: set[str] | None = None
+) -> Iterator[Line]:
+    """Yields the lines of some tables: all of them, or those that were not given out before. With names only
+    the workunits with these names are looked at."""
     for unit in decided(tables, after):
+        if names is not None and unit.name not in names:
+            continue
         if given is None:
             yield Line(unit, False)
             continue

@@ -1,0 +1,365 @@
+"""Makes a batch of work: stages its inputs for the bridge, and imports its workunits.
+
+The steps, each of which can be done again after any stop: everything is checked, and nothing is changed yet.
+A record of the batch is written, in the folder `submitted` of the project. The inputs are staged under names
+that only this batch has, and synced. The workunits are imported. A batch of bsched with the same bytes is
+imported once, so a second run makes nothing twice. A batch whose record says something else is refused.
+"""
+import json
+import os
+import stat
+from collections.abc import Iterator
+from dataclasses import dataclass
+from pathlib import Path
+from typing import Any
+
+from .amounts import bytes_text, count_text
+from .bars import Bar
+from .catalogue_file import (
+    FILE_NAME,
+    UPLOAD_NAME,
+    WORKUNIT,
+    App,
+    CatalogueFile,
+    give_to_group,
+    made_for_group,
+)
+from .counts import MOST
+from .faults import Fault
+from .files import replace_file
+from .import_files import KINDS, ImportFile, Row
+from .imports import Batch, Sender, batches_of, refusal_text
+from .inputs import Input, digest_of
+from .looks import check_importing, tables_of
+from .projects import Project
+from .tables import Tables
+
+SPEED = 4 * 10**9  # operations a second of one processor of a usual PC, which --hours means
+CREDIT_OF_HOUR = 200 * SPEED / 10**9 / 24  # BOINC's: 200 credits for a day at 10^9 a second
+FORMAT = 1
+SHOWN_WORKUNITS = 3
+READ_BY_OTHERS, READ_BY_GROUP = stat.S_IROTH, stat.S_IRGRP
+
+
+@dataclass(frozen=True, slots=True)
+class Amounts:
+    """What each workunit takes and gives."""
+
+    hours: float
+    days: float  # until the deadline
+    memory: int
+    disk: int
+    quorum: int
+    credit: float
+
+    @property
+    def columns(self) -> list[str]:
+        """The columns of an import after the name and the application."""
+        quorum, total, successes = self.quorum, 3 * self.quorum + 4, 2 * self.quorum + 2
+        numbers = [quorum, quorum, quorum + 2, total, successes, round(self.days * 86400)]
+        numbers += [round(self.hours * 3600 * SPEED), self.memory, self.disk, round(self.credit * 1000)]
+        return [str(number) for number in numbers]
+
+
+@dataclass(frozen=True, slots=True)
+class Plan:
+    """A batch of work, with the place of each input."""
+
+    batch: str
+    app: App
+    amounts: Amounts
+    inputs: list[Input]
+    folder: Path  # of the staged inputs
+    places: list[Path]
+
+    @property
+    def batches(self) -> list[Batch]:
+        """The imports."""
+        front = [self.app.name, *self.amounts.columns]
+        rows = [Row(number, [one.workunit, *front]) for number, one in enumerate(self.inputs, 2)]
+        kind = KINDS["workunits"]
+        return list(batches_of(ImportFile(Path(self.batch), kind, kind.headers()[0], rows), self.batch))
+
+    @property
+    def record(self) -> dict[str, Any]:
+        """What is kept of the batch."""
+        inputs = [[one.workunit, one.shown, one.nbytes, one.sha256] for one in self.inputs]
+        columns = self.amounts.columns
+        return {
+            "format": FORMAT,
+            "batch": self.batch,
+            "app": self.app.name,
+            "columns": columns,
+            "inputs": inputs,
+        }
+
+
+# ---- The plan
+
+
+def app_of(catalogue: CatalogueFile, name: str) -> App:
+    """Returns the application with a name."""
+    app = catalogue.app(name)
+    if app is None:
+        names = ", ".join(sorted(catalogue.app_names())) or "none"
+        raise Fault(f"{catalogue.path}: there is no application {name}; there are: {names}")
+    if not catalogue.versions(name):
+        raise Fault(f"{catalogue.path}: the application {name} has no version: add one by `bsched-tools app`")
+    return app
+
+
+def places_of(catalogue: CatalogueFile, app: App, inputs: list[Input]) -> tuple[Path, list[Path]]:
+    """Returns the folder of the staged inputs of workunits, and the place of each."""
+    is_files = inputs[0].path is not None
+    lines = catalogue.line_folder(app)
+    if is_files and len(app.inputs) != 1:
+        what = "several input files" if app.inputs else "a command line, and no input file"
+        raise Fault(f"{catalogue.path}: a workunit of {app.name} has {what}: see `bsched-tools app --input`")
+    if not is_files and (lines is None or app.inputs):
+        what = "an input file for each workunit, and no command lines" if app.inputs else "no command lines"
+        raise Fault(f"{catalogue.path}: {app.name} takes {what}: see `bsched-tools app --command-lines`")
+    if not is_files and lines is not None:
+        return lines, [lines / one.workunit for one in inputs]
+    names = [app.inputs[0].replace(WORKUNIT, one.workunit) for one in inputs]
+    for name, one in zip(names, inputs):
+        if not FILE_NAME.fullmatch(name) or UPLOAD_NAME.fullmatch(name):
+            raise Fault(f"{one.shown}: its name {name} can't be that of a download: choose another --batch")
+    return catalogue.files, [catalogue.files / name for name in names]
+
+
+def check_sizes(catalogue: CatalogueFile, plan: Plan) -> None:
+    """Refuses inputs that don't fit into the disk that a job may use, and bounds that the client ignores."""
+    app, amounts = plan.app, plan.amounts
+    for option, value, most in (("--disk", amounts.disk, app.disk), ("--memory", amounts.memory, app.memory)):
+        if value > most:
+            what = f"more than {most}, which the catalogue allows for {app.name}"
+            raise Fault(f"{option} {value}: it is {what}: raise rsc{option.replace('--', '_')}_bound there")
+    if plan.inputs[0].path is None:
+        return
+    outputs = sum(file.get("max_nbytes", 0) for file in app.members.get("output_files", []))
+    room = amounts.disk - catalogue.version_bytes(app.name) - outputs
+    for one in plan.inputs:
+        if one.nbytes > room:
+            says = f"it has {bytes_text(one.nbytes)}, and with its program and outputs a job may use"
+            raise Fault(f"{one.shown}: {says} {bytes_text(amounts.disk)} of disk: give a larger --disk")
+
+
+# ---- What is there already
+
+
+def record_path(project: Project, batch: str) -> Path:
+    """Returns the path of the record of a batch."""
+    return project.folder / "submitted" / f"{batch}.json"
+
+
+def read_record(path: Path) -> dict[str, Any]:
+    """Returns a record."""
+    try:
+        record = json.loads(path.read_text())
+        if record["format"] == FORMAT and isinstance(record["inputs"], list):
+            return dict(record)
+    except OSError as error:
+        raise Fault(f"{path}: {error.strerror}") from None
+    except (ValueError, KeyError, TypeError):
+        pass
+    raise Fault(f"{path}: it is no record of a batch: restore it, or choose another --batch")
+
+
+def check_record(project: Project, plan: Plan) -> None:
+    """Refuses a batch whose name was used for something else."""
+    path = record_path(project, plan.batch)
+    if not path.exists():
+        return
+    former, record = read_record(path), plan.record
+    again = f"the batch {plan.batch} was made"
+    if former["app"] != record["app"]:
+        raise Fault(f"{path}: {again} for the application {former['app']}: choose another --batch")
+    if former["columns"] != record["columns"]:
+        raise Fault(
+            f"{path}: {again} with other hours, memory, disk, quorum or credit: choose another --batch"
+        )
+    for new, old in zip(record["inputs"], former["inputs"]):
+        if (new[0], *new[2:]) != (old[0], *old[2:]):
+            raise Fault(f"{new[1]}: {again} of other inputs (there {old[1]}): choose another --batch")
+    if len(record["inputs"]) != len(former["inputs"]):
+        counts = f"{len(former['inputs'])} inputs, and not of {len(record['inputs'])}"
+        raise Fault(f"{path}: {again} of {counts}: choose another --batch")
+
+
+def missing_batches(plan: Plan, tables: Tables) -> list[Batch]:
+    """Returns the batches that are not imported yet. Refuses what could not be imported."""
+    if not tables.number("SELECT count(*) FROM app WHERE name = ?1", plan.app.name):
+        advice = f"add it by `bsched-tools app {plan.app.name}`, or import it"
+        raise Fault(f"{plan.app.name}: the scheduler has no such application: {advice}")
+    missing = []
+    for batch in plan.batches:
+        row = next(
+            tables.rows("SELECT text FROM batch WHERE kind = 'workunits' AND name = ?1", batch.name), None
+        )
+        if row is None:
+            missing.append(batch)
+        elif bytes(row[0]) != batch.text:
+            says = f"other workunits were imported as the batch {batch.name}"
+            raise Fault(f"--batch {plan.batch}: {says}: choose another name")
+    for batch in missing:
+        for one in batch.rows:
+            if tables.number("SELECT count(*) FROM unit WHERE name = ?1", one.fields[0]):
+                raise Fault(f"{one.fields[0]}: there is a workunit with this name: choose another --batch")
+    return missing
+
+
+def room_of(tables: Tables) -> int:
+    """Returns how many further workunits the tables can have."""
+    return MOST["unit"] - tables.number("SELECT count(*) FROM unit")
+
+
+def check_room(missing: list[Batch], room: int) -> None:
+    """Refuses workunits for which there is no room."""
+    needed = sum(len(batch.rows) for batch in missing)
+    if needed > room:
+        advice = 'see "More than 200,000 workunits" in docs/OPERATING.md'
+        raise Fault(f"there is room for {room:,} further workunits, and not for {needed:,}: {advice}")
+
+
+def is_staged(one: Input, place: Path) -> bool:
+    """Returns whether an input is in its place. Other bytes there are a fault."""
+    try:
+        if not place.exists():
+            return False
+        if one.path is not None and place.samefile(one.path):
+            return True
+    except OSError as error:
+        raise Fault(f"{place}: {error.strerror}") from None
+    wanted = (one.nbytes, one.sha256)
+    nbytes, sha256 = digest_of(place)
+    if one.path is None and nbytes == one.nbytes + 1:
+        return place.read_bytes() == f"{one.shown}\n".encode()
+    if (nbytes, sha256) != wanted:
+        raise Fault(f"{place}: it is there with other bytes: choose another --batch")
+    return True
+
+
+def unstaged(plan: Plan) -> list[tuple[Input, Path]]:
+    """Returns the inputs that are not in their places yet."""
+    return [(one, place) for one, place in zip(plan.inputs, plan.places) if not is_staged(one, place)]
+
+
+# ---- Staging
+
+
+def stage(project: Project, one: Input, place: Path) -> None:
+    """Puts an input into its place, whole or not at all: by a hard link, if the bridge may read the file."""
+    if one.path is not None:
+        try:
+            source = one.path.resolve()
+            if is_readable(project, source):
+                os.link(source, place)
+                return
+        except OSError:
+            pass
+    new = place.with_name(f".{place.name}.part")
+    flags = os.O_WRONLY | os.O_CREAT | os.O_TRUNC | os.O_NOFOLLOW
+    try:
+        data = f"{one.shown}\n".encode() if one.path is None else one.path.read_bytes()
+        with open(os.open(new, flags, 0o640), "wb") as file:
+            give_to_group(project, file.fileno())
+            file.write(data)
+        os.rename(new, place)
+    except OSError as error:
+        raise Fault(
+            f"{error.filename or place}: {error.strerror}: run the same command again later"
+        ) from None
+
+
+def is_readable(project: Project, path: Path) -> bool:
+    """Returns whether the group of the project may read a file."""
+    status = path.stat()
+    is_of_group = status.st_gid == project.settings.stat().st_gid
+    return bool(status.st_mode & (READ_BY_OTHERS | (READ_BY_GROUP if is_of_group else 0)))
+
+
+def write_record(project: Project, plan: Plan) -> None:
+    """Writes the record of a batch, if it is not there."""
+    path = record_path(project, plan.batch)
+    if path.exists():
+        return
+    folder = made_for_group(project, path.parent)
+    replace_file(folder / path.name, [json.dumps(plan.record).encode()], mode=0o640)
+    descriptor = os.open(path, os.O_RDONLY | os.O_NOFOLLOW)
+    try:
+        give_to_group(project, descriptor)
+    finally:
+        os.close(descriptor)
+
+
+def stage_all(project: Project, plan: Plan, left: list[tuple[Input, Path]]) -> None:
+    """Stages the inputs. All of them are on the disk when it returns."""
+    bar = Bar("staging the inputs")
+    try:
+        if plan.inputs[0].path is None:
+            made_for_group(project, plan.folder)
+        for number, (one, place) in enumerate(left, 1):
+            stage(project, one, place)
+            bar.seen(number, len(left))
+    finally:
+        bar.end()
+    os.sync()
+
+
+def import_all(project: Project, plan: Plan, missing: list[Batch]) -> int:
+    """Imports the batches, and returns how many workunits they have."""
+    sender, bar = Sender(project), Bar("importing")
+    kind, total, done = KINDS["workunits"], sum(len(batch.rows) for batch in missing), 0
+    file = ImportFile(Path(plan.batch), kind, kind.headers()[0], [])
+    try:
+        for batch in missing:
+            answer = sender.answer(kind.name, batch)
+            if "error" in answer:
+                kept = f" ({done} workunits before it are imported)" if done else ""
+                raise Fault(f"--batch {plan.batch}: {refusal_text(answer, file, batch)}{kept}")
+            done += len(batch.rows)
+            bar.seen(done, total)
+    finally:
+        bar.end()
+    return done
+
+
+# ---- The command
+
+
+def sum_lines(plan: Plan, left: list[tuple[Input, Path]], missing: list[Batch], room: int) -> Iterator[str]:
+    """Yields what a batch is, with its first workunits and its sums."""
+    count, amounts = len(plan.inputs), plan.amounts
+    instances = count * amounts.quorum
+    yield f"batch {plan.batch} of the application {plan.app.name}: {count_text(count, 'workunit')}"
+    for one in plan.inputs[:SHOWN_WORKUNITS]:
+        size = f" ({bytes_text(one.nbytes)})" if one.path is not None else ""
+        yield f"  {one.workunit}: {one.shown}{size}"
+    if count > SHOWN_WORKUNITS:
+        yield f"  .. and {count - SHOWN_WORKUNITS:,} more"
+    yield f"instances  {instances:,}: {count_text(amounts.quorum, 'result')} of each workunit must agree"
+    yield f"hours      {instances * amounts.hours:,.4g} of a processor, {amounts.hours:g} for each instance"
+    yield f"credit     {instances * amounts.credit:,.6g}, {amounts.credit:g} for each result"
+    size = bytes_text(sum(one.nbytes for one in plan.inputs))
+    yield f"inputs     {size}, {len(left):,} of {count:,} to be staged"
+    needed = sum(len(batch.rows) for batch in missing)
+    yield f"room       {room - needed:,} of {MOST['unit']:,} workunits are left afterwards"
+
+
+def submitted(project: Project, plan: Plan, is_dry: bool) -> Iterator[str]:
+    """Makes a batch of work, and yields what is done. Nothing is changed before all is checked."""
+    check_record(project, plan)
+    with tables_of(project) as (look, tables):
+        check_importing(project, look)
+        missing, room = missing_batches(plan, tables), room_of(tables)
+    check_room(missing, room)
+    left = unstaged(plan)
+    yield from sum_lines(plan, left, missing, room)
+    if is_dry:
+        yield "nothing was changed: --dry-run"
+        return
+    write_record(project, plan)
+    stage_all(project, plan, left)
+    done = import_all(project, plan, missing)
+    before = len(plan.inputs) - done
+    yield f"imported   {done:,} workunits" + (f", and {before:,} were there before" if before else "")

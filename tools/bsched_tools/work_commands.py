@@ -1,0 +1,115 @@
+"""The commands that lead from a program and a folder of inputs to a folder of outputs."""
+import argparse
+import signal
+import sys
+import time
+from collections.abc import Callable, Iterable
+
+from .apps import LINE_FOLDER, NewApp, added, input_member, output_member, read_files
+from .bars import Bar
+from .catalogue_file import CatalogueFile
+from .collecting import collected
+from .faults import Fault
+from .inputs import Input, check_batch, combinations, lines_in, of_files, of_texts
+from .looks import check_member, looked_at, tables_of
+from .progress import earlier, names_in_batch, progress_lines, progress_of
+from .projects import Project, project_of
+from .submitting import CREDIT_OF_HOUR, Amounts, Plan, app_of, check_sizes, places_of, submitted
+
+Arguments = argparse.Namespace
+WATCH_SECONDS = 10.0
+CLEAR = "\033[H\033[2J"
+Printer = Callable[[Iterable[str]], None]
+
+
+def member_project(args: Arguments) -> Project:
+    """Returns the project of the command line, for its members alone."""
+    project = project_of(args.project)
+    check_member(project)
+    return project
+
+
+def app(args: Arguments, printed: Printer) -> None:
+    """Adds an application or a version."""
+    project = member_project(args)
+    members = {
+        "title": args.title,
+        "command_line": args.command_line,
+        "command_lines": LINE_FOLDER if args.command_lines else None,
+        "input_files": input_member(args.input) if args.input is not None else None,
+        "output_files": [output_member(text) for text in args.output] if args.output else None,
+        "rsc_memory_bound": args.memory,
+        "rsc_disk_bound": args.disk,
+    }
+    files = read_files(args.program, args.file)
+    printed(added(project, NewApp(args.name, args.platform, files, args.agreement, members), args.key))
+
+
+def inputs_asked(args: Arguments) -> list[Input]:
+    """Returns the inputs that the command line names."""
+    given = [name for name in ("inputs", "lines", "sweep") if getattr(args, name)]
+    if len(given) != 1:
+        raise Fault("submit: name inputs, or --lines FILE, or --sweep: just one of the three")
+    if args.lines is not None:
+        return of_texts(args.batch, lines_in(args.lines))
+    if args.sweep:
+        return of_texts(args.batch, combinations(args.sweep))
+    bar = Bar("reading the inputs")
+    try:
+        return of_files(args.batch, args.inputs, bar.seen)
+    finally:
+        bar.end()
+
+
+def submit(args: Arguments, printed: Printer) -> None:
+    """Makes work."""
+    project = member_project(args)
+    check_batch(args.batch)
+    catalogue = CatalogueFile(project)
+    application = app_of(catalogue, args.app)
+    inputs = inputs_asked(args)
+    amounts = Amounts(
+        args.hours,
+        args.days,
+        application.memory if args.memory is None else args.memory,
+        application.disk if args.disk is None else args.disk,
+        args.quorum,
+        round(args.hours * CREDIT_OF_HOUR, 3) if args.credit is None else args.credit,
+    )
+    folder, places = places_of(catalogue, application, inputs)
+    plan = Plan(args.batch, application, amounts, inputs, folder, places)
+    check_sizes(catalogue, plan)
+    printed(submitted(project, plan, args.dry_run))
+
+
+def progress(args: Arguments, printed: Printer) -> None:
+    """Prints how far the work is."""
+    project = member_project(args)
+    if args.watch:
+        signal.signal(signal.SIGINT, lambda _number, _frame: sys.exit(0))
+    while True:
+        with tables_of(project) as (look, tables):
+            names = None if args.batch is None else names_in_batch(tables, args.batch)
+            now = progress_of(tables, names)
+            lines = list(progress_lines(look, now, earlier(project.units().copies, now, names)))
+        if args.watch:
+            print(CLEAR, end="")
+        printed(lines)
+        if not args.watch:
+            return
+        time.sleep(WATCH_SECONDS)
+
+
+def collect(args: Arguments, printed: Printer) -> None:
+    """Puts the outputs into a folder."""
+    project = member_project(args)
+    with looked_at(project) as look:
+        printed(collected(project, look, args.batch, args.to))
+
+
+WORK_COMMANDS: dict[str, Callable[[Arguments, Printer], None]] = {
+    "app": app,
+    "submit": submit,
+    "progress": progress,
+    "collect": collect,
+}

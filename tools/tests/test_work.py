@@ -1,0 +1,609 @@
+"""Tests the way from a program and a folder of inputs to a folder of outputs."""
+import csv
+import io
+import json
+import os
+import shutil
+import socket
+import sys
+from collections.abc import Iterator
+from pathlib import Path
+
+import pytest
+from made_project import SETTINGS, TWIN, free_port
+from small_project import rows_of, tools
+from work_project import CATALOGUE, PLATFORM, WorkProject
+
+from bsched_bridge.code_signing import file_md5, read_private_key, signature_text, write_new_keys
+from bsched_tools import __main__, counts, looks, projects, submitting
+from bsched_tools.catalogue_file import CatalogueFile
+from bsched_tools.faults import Fault
+from bsched_tools.import_files import KINDS, ImportFile, Row
+from bsched_tools.imports import imported
+
+NAME = f"count_1_{PLATFORM}.py"
+
+
+@pytest.fixture
+def bare(tmp_path: Path) -> Iterator[WorkProject]:
+    """Yields a project without an application, which is served."""
+    made = WorkProject(tmp_path)
+    made.serve()
+    yield made
+    made.end()
+
+
+@pytest.fixture
+def work(bare: WorkProject) -> WorkProject:
+    """Adds an application with an output file."""
+    assert bare.app("--output", "out:1M")[0] == 0
+    return bare
+
+
+def units(project: WorkProject) -> list[str]:
+    """Returns the names of the workunits that a test made."""
+    rows = rows_of(project.folder / "project.db", "SELECT name FROM unit ORDER BY id")
+    return [name for name, in rows][20:]
+
+
+def run_here(capsys: pytest.CaptureFixture[str], *words: object) -> tuple[int, str, str]:
+    """Runs the tools within this process, where a test may change them."""
+    before, sys.argv = sys.argv, ["bsched-tools", *map(str, words)]
+    try:
+        status = __main__.main()
+    finally:
+        sys.argv = before
+    told = capsys.readouterr()
+    return status, told.out, told.err
+
+
+# ---- Applications
+
+
+def test_an_application_is_added(bare: WorkProject) -> None:
+    """The operator's comments and order stay, and the bridge takes the catalogue."""
+    words = (
+        "--output",
+        "out:1M",
+        "--output",
+        "log:2k:optional:ignored",
+        "--memory",
+        "200M",
+        "--title",
+        "Counts",
+    )
+    line = f"count: version 1 for {PLATFORM} is added: {NAME}\n"
+    assert bare.app(*words) == (0, line, "")
+    assert bare.catalogue.read_text().startswith(CATALOGUE)
+    catalogue = CatalogueFile(projects.Project(bare.folder))
+    app = catalogue.app("count")
+    assert app is not None and app.members == {
+        "name": "count",
+        "title": "Counts",
+        "input_files": [{"name": "{workunit}.in", "open_name": "in"}],
+        "output_files": [
+            {"open_name": "out", "max_nbytes": 10**6},
+            {"open_name": "log", "max_nbytes": 2000, "optional": True, "compare": False},
+        ],
+        "rsc_memory_bound": 2 * 10**8,
+    }
+    (version,) = catalogue.versions("count")
+    file = {"name": NAME, "signature": f"{NAME}.signature", "main_program": True}
+    assert version == {"app": "count", "platform": PLATFORM, "version_num": 1, "files": [file]}
+    bare.end()
+    rows = rows_of(
+        bare.folder / "project.db", "SELECT app.name, platform, num FROM version JOIN app ON app.id = app_id"
+    )
+    assert ("count", PLATFORM, 1) in rows
+
+
+def test_the_same_command_adds_nothing_and_a_new_program_is_a_new_version(work: WorkProject) -> None:
+    before = work.state()
+    told = work.app("--output", "out:1M")
+    assert told == (0, f"count: version 1 for {PLATFORM} was there already: {NAME}\n", "")
+    assert work.state() == before
+    work.program.write_text("#!/usr/bin/python3\nprint(2)\n")
+    assert "version 2 for" in work.app()[1]
+    assert "version 2 for windows_x86_64" in work.app("--platform", "windows_x86_64")[1]
+    assert "version 2 for" in work.app()[1] and "already" in work.app()[1]
+
+
+def test_further_files(bare: WorkProject, tmp_path: Path) -> None:
+    """A program that the main program starts, and a file with another name."""
+    helper, data = tmp_path / "helper", tmp_path / "data 1"
+    helper.write_text("#!/bin/sh\n")
+    helper.chmod(0o755)
+    data.write_text("1\n")
+    words = "--file", helper, "--file", f"{data}:data", "--command-line", "./helper"
+    assert bare.app(*words)[0] == 0
+    (version,) = CatalogueFile(projects.Project(bare.folder)).versions("count")
+    front = f"count_1_{PLATFORM}"
+    assert version["files"][1:] == [
+        {
+            "name": f"{front}_helper",
+            "signature": f"{front}_helper.signature",
+            "executable": True,
+            "open_name": "helper",
+        },
+        {"name": f"{front}_data", "signature": f"{front}_data.signature", "open_name": "data"},
+    ]
+    assert "already" in bare.app(*words)[1]
+
+
+def test_a_signature_from_another_machine(bare: WorkProject) -> None:
+    """The private key is elsewhere. A signature of another file is refused, and the right one completes it."""
+    words = "app", "count", "--program", bare.program
+    for _ in range(2):
+        status, told, fault = bare.tools(*words)
+        assert (status, fault) == (1, "bsched-tools: count: 1 of 1 files are not signed yet\n")
+        assert f"  bsched-bridge sign {NAME} --key code_sign_private > {NAME}.signature\n" in told
+    assert bare.catalogue.read_text() == CATALOGUE and (bare.files / NAME).exists()
+    key, signature = read_private_key(bare.key.read_text()), bare.bridge / f"{NAME}.signature"
+    signature.write_text(signature_text("0" * 32, key))
+    before = bare.state()
+    status, told, fault = bare.tools(*words)
+    assert status == 1 and f"is not the signature of {NAME} by the key" in fault and fault.count("\n") == 1
+    assert bare.state() == before
+    signature.write_text(signature_text(file_md5(bare.files / NAME), key))
+    assert bare.tools(*words) == (0, f"count: version 1 for {PLATFORM} is added: {NAME}\n", "")
+
+
+def test_a_version_that_waits_for_its_signature_is_not_replaced(bare: WorkProject) -> None:
+    """Another program gets another number. The one that waited is the newest when it is asked for again."""
+    words = "app", "count", "--program", bare.program
+    assert bare.tools(*words)[0] == 1
+    other = bare.program.with_name("other.py")
+    other.write_text("#!/usr/bin/python3\n")
+    assert "version 2 for" in bare.tools("app", "count", "--program", other, "--key", bare.key)[1]
+    assert f"bsched-bridge sign count_3_{PLATFORM}.py" in bare.tools(*words)[1]
+
+
+APP_FAULTS = [
+    (["--output", "out"], "write its name and the most bytes that it may have, such as out:10M"),
+    (["--output", "a b:3"], "--output a b:3: write its name"),
+    (["--agreement", "within"], "--agreement within: write exact, or within:N"),
+    (["--platform", "a b"], "--platform 'a b': it must have 1 to 64 letters"),
+    (["--file", "/none"], "/none: No such file or directory"),
+    (["--input", "a/b"], "--input 'a/b': it is not a file name"),
+    (["--output", "out:2G"], "the bridge refuses it: "),
+]
+
+
+@pytest.mark.parametrize("words, fault", APP_FAULTS)
+def test_faults_of_an_application_change_nothing(bare: WorkProject, words: list[str], fault: str) -> None:
+    before = bare.state()
+    status, told, line = bare.app(*words)
+    assert (status, told) == (1, "") and fault in line and line.count("\n") == 1
+    assert bare.state() == before
+
+
+def test_other_faults_of_an_application(work: WorkProject, tmp_path: Path) -> None:
+    """The key of another project, another agreement, other outputs, and no key at all."""
+    other = tmp_path / "other"
+    write_new_keys(other, tmp_path / "public")
+    before = work.state()
+    work.program.write_text("#!/usr/bin/python3\nprint(3)\n")
+    for words, fault in (
+        (["--key", other], "is not the signature of"),
+        (["--key", work.program], "count.py"),
+        (["--agreement", "within:3"], "it exists with the agreement exact, which can't be changed"),
+        (["--output", "out:2M"], "count is there with another output_files: edit it there"),
+    ):
+        status, told, line = work.app(*words)
+        assert (status, told) == (1, "") and fault in line and line.count("\n") == 1
+        assert work.state() == before
+    (work.bridge / "code_sign_public").unlink()
+    status, _, line = work.app()
+    assert status == 1 and "bsched-bridge keygen" in line
+
+
+# ---- Work
+
+
+def test_a_folder_of_inputs(work: WorkProject) -> None:
+    """A dry run changes nothing. The second run makes nothing twice."""
+    work.make_inputs(5)
+    (work.inputs / ".hidden").write_text("x")
+    before = work.state()
+    status, told, fault = work.submit(
+        "--quorum", "3", "--hours", "0.5", "--credit", "2", work.inputs, "--dry-run"
+    )
+    assert (status, fault) == (0, "")
+    assert told.splitlines() == [
+        "batch run of the application count: 5 workunits",
+        f"  run_part_00001.txt: {work.inputs}/part_00001.txt (20 bytes)",
+        f"  run_part_00002.txt: {work.inputs}/part_00002.txt (20 bytes)",
+        f"  run_part_00003.txt: {work.inputs}/part_00003.txt (20 bytes)",
+        "  .. and 2 more",
+        "instances  15: 3 results of each workunit must agree",
+        "hours      7.5 of a processor, 0.5 for each instance",
+        "credit     30, 2 for each result",
+        "inputs     100 bytes, 5 of 5 to be staged",
+        "room       199,975 of 200,000 workunits are left afterwards",
+        "nothing was changed: --dry-run",
+    ]
+    assert work.state() == before
+    words = "--quorum", "3", "--hours", "0.5", "--credit", "2", work.inputs
+    assert work.submit(*words)[1].splitlines()[-1] == "imported   5 workunits"
+    assert (work.files / "run_part_00002.txt.in").read_text() == "2".rjust(20)
+    assert (work.files / "run_part_00002.txt.in").stat().st_ino == (
+        work.inputs / "part_00002.txt"
+    ).stat().st_ino
+    made = work.state()
+    assert work.submit(*words)[1].splitlines()[-1] == "imported   0 workunits, and 5 were there before"
+    assert work.state() == made
+    work.end()
+    assert units(work) == [f"run_part_{number:05}.txt" for number in range(1, 6)]
+    query = "SELECT DISTINCT min_quorum, target_nresults, max_error_results, max_total_results, "
+    query += (
+        "max_success_results, delay_bound, rsc_fpops_est, rsc_memory_bound, rsc_disk_bound, credit FROM unit"
+    )
+    assert rows_of(work.folder / "project.db", query)[1:] == [
+        (3, 3, 5, 13, 8, 604800, 1800 * 4 * 10**9, 10**8, 10**9, 2000)
+    ]
+
+
+def test_inputs_that_the_bridge_may_not_read_are_copied(work: WorkProject) -> None:
+    work.make_inputs(2)
+    (work.inputs / "part_00001.txt").chmod(0o600)
+    assert work.submit(work.inputs)[0] == 0
+    staged = work.files / "run_part_00001.txt.in"
+    assert staged.stat().st_ino != (work.inputs / "part_00001.txt").stat().st_ino
+    assert staged.stat().st_mode & 0o777 == 0o640 and staged.read_text() == "1".rjust(20)
+
+
+def test_command_lines(bare: WorkProject, tmp_path: Path) -> None:
+    assert bare.app("--command-lines", "--command-line=--fast")[0] == 0
+    lines = tmp_path / "lines"
+    lines.write_text("-x 1\n\n  -y 'a b' \r\n")
+    told = bare.submit("--lines", lines)[1]
+    assert "  run_1: -x 1\n  run_2: -y 'a b'\n" in told
+    assert (bare.bridge / "lines" / "run_2").read_text() == "-y 'a b'\n"
+    sweep = "--sweep", "a=8..11", "--sweep", "size=x,-1..0"
+    told = bare.submit(*sweep, batch="all")[1]
+    assert (
+        "  all_01: -a 8 --size x\n  all_02: -a 8 --size -1\n  all_03: -a 8 --size 0\n  .. and 9 more\n"
+        in told
+    )
+    assert "and 12 were there before" in bare.submit(*sweep, batch="all")[1]
+    bare.end()
+    assert len(units(bare)) == 14
+    for line in ("a=1,2,3 4", "a", "a=", "=3", "a=5..1", "a=1..999999"):
+        status, told, fault = bare.submit("--sweep", line, batch="no")
+        assert (status, told) == (1, "") and fault.startswith("bsched-tools: --sweep") and fault.count("\n") == 1
+
+
+def test_many_workunits_are_several_batches(
+    work: WorkProject, monkeypatch: pytest.MonkeyPatch, capsys: pytest.CaptureFixture[str]
+) -> None:
+    from bsched_tools import imports
+
+    monkeypatch.setattr(imports, "MOST_BATCH", 1000)
+    work.make_inputs(30)
+    words = "submit", "--project", f"{work.folder}/", "--app", "count", "--batch", "run", work.inputs
+    assert run_here(capsys, *words)[0] == 0
+    work.end()
+    names = [
+        name
+        for name, in rows_of(work.folder / "project.db", "SELECT name FROM batch WHERE kind = 'workunits'")
+    ]
+    assert names == ["b1", "run-1", "run-2", "run-3", "run-4"] and len(units(work)) == 30
+
+
+# ---- Mistakes: each gets one clear line, and changes nothing
+
+
+def is_refused(work: WorkProject, told: tuple[int, str, str], fault: str, before: dict[str, bytes]) -> None:
+    """Checks that a command ended with one clear line, and changed nothing."""
+    status, out, line = told
+    assert (status, out) == (1, "") and line.count("\n") == 1 and line.startswith("bsched-tools: ")
+    assert fault in line
+    assert work.state() == before
+
+
+def test_mistakes_in_what_is_named(work: WorkProject, tmp_path: Path) -> None:
+    folder = work.make_inputs(3)
+    large, odd, empty, nested = (tmp_path / name for name in ("large", "odd", "empty", "nested"))
+    for path in (large, odd, empty, nested, nested / "more", tmp_path / "twice"):
+        path.mkdir()
+    (odd / "part 1.txt").write_text("1")
+    (odd / "längs.txt").write_text("1")
+    (tmp_path / "twice" / "part_00001.txt").write_text("1")
+    with (large / "in").open("wb") as file:
+        file.truncate(10**9 - 10**6 + 1)
+    text = tmp_path / "text"
+    text.write_text("-x\n")
+    before = work.state()
+    for words, options, fault in (
+        ([folder], {"app": "none"}, "there is no application none; there are: count"),
+        ([tmp_path / "none"], {}, f"{tmp_path}/none: No such file or directory"),
+        ([large], {}, f"{large}/in: it has 999.0 MB, and with its program and outputs a job may use 1.0 GB"),
+        (
+            [odd / "part 1.txt"],
+            {},
+            "part 1.txt: rename it: its name makes that of a workunit, which has only",
+        ),
+        ([odd / "längs.txt"], {}, "längs.txt: rename it"),
+        ([folder], {"batch": "a b"}, "--batch 'a b': the name of a batch has 1 to 40 letters"),
+        ([folder], {"batch": "x" * 41}, "the name of a batch has 1 to 40 letters"),
+        ([empty], {}, "there is no file in this folder"),
+        ([nested], {}, "it is a folder within a folder of inputs"),
+        ([folder, tmp_path / "twice"], {}, f"{folder}/part_00001.txt has the same name: rename one"),
+        ([], {}, "just one of the three"),
+        ([folder, "--lines", text], {}, "just one of the three"),
+        (["--lines", text], {}, "count takes an input file for each workunit, and no command lines"),
+        ([folder, "--disk", "2G"], {}, "--disk 2000000000: it is more than 1000000000, which the catalogue"),
+    ):
+        is_refused(work, work.submit(*words, **options), fault, before)
+
+
+@pytest.mark.parametrize(
+    "option, value",
+    [("--hours", "none"), ("--hours", "0"), ("--memory", "2 dozen"), ("--quorum", "0"), ("--credit", "-1")],
+)
+def test_amounts_that_are_none(work: WorkProject, option: str, value: str) -> None:
+    status, told, fault = work.submit(f"{option}={value}", work.inputs)
+    assert (status, told) == (64, "") and f"argument {option}: {value!r} is no" in fault
+
+
+def test_a_batch_name_that_was_used(work: WorkProject) -> None:
+    work.make_inputs(3)
+    assert work.submit(work.inputs)[0] == 0
+    work.app("--output", "out:1M", name="other")
+    made = work.state()
+    path = work.inputs / "part_00002.txt"
+    path.unlink()  # it is a hard link to what was staged
+    path.write_text("other")
+    fault = f"{path}: the batch run was made of other inputs (there {path})"
+    is_refused(work, work.submit(work.inputs), fault, made)
+    path.unlink()
+    is_refused(work, work.submit(work.inputs), "the batch run was made of other inputs", made)
+    shutil.copy(work.files / "run_part_00002.txt.in", path)
+    more = work.inputs / "part_00004.txt"
+    more.write_text("4")
+    is_refused(work, work.submit(work.inputs), "was made of 3 inputs, and not of 4", made)
+    more.unlink()
+    is_refused(work, work.submit("--hours", "3", work.inputs), "was made with other hours, memory", made)
+    is_refused(work, work.submit(work.inputs, app="other"), "was made for the application count", made)
+    is_refused(
+        work, work.submit(work.inputs, batch="b1"), "other workunits were imported as the batch b1", made
+    )
+    assert "3 were there before" in work.submit(work.inputs)[1]
+
+
+def test_names_that_are_taken(work: WorkProject) -> None:
+    """A workunit has the name already, or a file of downloads."""
+    work.make_inputs(2)
+    rows = [Row(2, ["run_part_00002.txt", "count", *"1 1 1 1 1 60 1 1 1 1".split()])]
+    kind = KINDS["workunits"]
+    list(
+        imported(
+            projects.Project(work.folder), ImportFile(Path("x"), kind, kind.headers()[0], rows), "by-hand"
+        )
+    )
+    before = work.state()
+    fault = "run_part_00002.txt: there is a workunit with this name: choose another --batch"
+    is_refused(work, work.submit(work.inputs), fault, before)
+    (work.files / "new_part_00001.txt.in").write_text("something else")
+    before = work.state()
+    fault = "new_part_00001.txt.in: it is there with other bytes: choose another --batch"
+    is_refused(work, work.submit(work.inputs, batch="new"), fault, before)
+
+
+def test_no_room_is_left(
+    work: WorkProject, monkeypatch: pytest.MonkeyPatch, capsys: pytest.CaptureFixture[str]
+) -> None:
+    work.make_inputs(3)
+    monkeypatch.setitem(counts.MOST, "unit", 22)
+    before = work.state()
+    words = "submit", "--project", f"{work.folder}/", "--app", "count", "--batch", "run", work.inputs
+    told = run_here(capsys, *words)
+    is_refused(work, told, "there is room for 2 further workunits, and not for 3", before)
+
+
+def test_a_scheduler_that_gives_no_answer(
+    work: WorkProject, monkeypatch: pytest.MonkeyPatch, capsys: pytest.CaptureFixture[str]
+) -> None:
+    work.make_inputs(1)
+    work.end()
+    before = work.state()
+    monkeypatch.setattr(looks, "ASK_SECONDS", 0.3)
+    words = "submit", "--project", f"{work.folder}/", "--app", "count", "--batch", "run", work.inputs
+    with socket.create_server(("127.0.0.1", work.port)):
+        is_refused(
+            work, run_here(capsys, *words), "the scheduler gives no answer: see `bsched-tools health", before
+        )
+    monkeypatch.setattr(projects, "PROGRAM", work.folder / "none")
+    is_refused(work, run_here(capsys, *words), "no scheduler answers on port", before)
+
+
+def test_a_scheduler_at_another_port(work: WorkProject) -> None:
+    work.make_inputs(1)
+    (work.folder / "environment").write_text(f"PORT={free_port()}\nBRIDGE_PORT={free_port()}\n")
+    before = work.state()
+    is_refused(work, work.submit(work.inputs), "but a program has the tables: correct PORT", before)
+
+
+def test_a_wrong_key(work: WorkProject) -> None:
+    work.make_inputs(1)
+    (work.folder / "settings.toml").write_text(SETTINGS.replace("change-this-key", "another-key"))
+    before = work.state()
+    is_refused(
+        work, work.submit(work.inputs), "refuses this operator_key: is it that of another project", before
+    )
+    is_refused(work, work.app("--platform", "x"), "refuses this operator_key", before)
+
+
+def test_a_stopped_project_imports_by_the_program(
+    work: WorkProject, monkeypatch: pytest.MonkeyPatch, capsys: pytest.CaptureFixture[str]
+) -> None:
+    from bsched_tools import imports
+
+    work.end()
+    work.make_inputs(3)
+    monkeypatch.setattr(imports, "PROGRAM", TWIN)
+    monkeypatch.setattr(projects, "PROGRAM", TWIN)
+    words = "submit", "--project", f"{work.folder}/", "--app", "count", "--batch", "run", work.inputs
+    assert "imported   3 workunits" in run_here(capsys, *words)[1]
+    assert len(units(work)) == 3
+
+
+def test_who_may_use_a_project(tmp_path: Path, monkeypatch: pytest.MonkeyPatch) -> None:
+    project = projects.Project(tmp_path)
+    project.settings.write_text(SETTINGS)
+    looks.check_member(project)
+    monkeypatch.setattr(os, "geteuid", lambda: 12345)
+    monkeypatch.setattr(os, "getegid", lambda: 12345)
+    monkeypatch.setattr(os, "getgroups", lambda: [12345])
+    with pytest.raises(Fault, match="only root and members of the group bsched may use this project"):
+        looks.check_member(project)
+    monkeypatch.setattr(os, "getgroups", lambda: [12345, project.settings.stat().st_gid])
+    looks.check_member(project)
+
+
+# ---- Stops
+
+
+def test_a_stop_at_each_step(
+    work: WorkProject, monkeypatch: pytest.MonkeyPatch, capsys: pytest.CaptureFixture[str]
+) -> None:
+    """Each step of `submit` fails once. The same command completes the batch, and makes nothing twice."""
+    from bsched_tools import imports
+
+    monkeypatch.setattr(imports, "MOST_BATCH", 300)
+    work.make_inputs(6)
+    (work.inputs / "part_00003.txt").chmod(0o600)
+
+    class Stop(Exception):
+        """Raised in the place of a kill."""
+
+    left = 0
+
+    def steps_before(function):  # type: ignore[no-untyped-def]
+        def stepped(*args, **more):  # type: ignore[no-untyped-def]
+            nonlocal left
+            if left == 0:
+                raise Stop
+            left -= 1
+            return function(*args, **more)
+
+        return stepped
+
+    for name in ("write_record", "stage", "made_for_group"):
+        monkeypatch.setattr(submitting, name, steps_before(getattr(submitting, name)))
+    for name in ("rename", "link", "sync", "replace"):
+        monkeypatch.setattr(os, name, steps_before(getattr(os, name)))
+    monkeypatch.setattr(submitting.Sender, "answer", steps_before(submitting.Sender.answer))
+    stopped = 0
+    for number in range(100):
+        words = [
+            "submit",
+            "--project",
+            f"{work.folder}/",
+            "--app",
+            "count",
+            "--batch",
+            f"s{number}",
+            work.inputs,
+        ]
+        left = number
+        try:
+            run_here(capsys, *words)
+            break
+        except Stop:
+            stopped += 1
+        left = 1000
+        assert run_here(capsys, *words)[0] == 0
+    assert stopped > 15
+    work.end()
+    assert sorted(units(work)) == sorted(
+        f"s{batch}_part_{number:05}.txt" for batch in range(stopped + 1) for number in range(1, 7)
+    )
+
+
+# ---- Progress and outputs
+
+
+def finish(work: WorkProject, user: int, count: int, output: str | None = None, status: int = 0) -> None:
+    """Has a host get its jobs, and report them."""
+    for seqno in range(1, 100, 2):
+        reply = json.loads(
+            work.call(user, seqno, f"h{user}", platform_name=PLATFORM, work_req_seconds=10**6)
+        )
+        jobs = [job["name"] for job in reply["results"]]
+        if not jobs:
+            return
+        said = [{"name": name, "exit_status": status, "output": output or f"of {name[:-2]}"} for name in jobs]
+        work.call(user, seqno + 1, f"h{user}", platform_name=PLATFORM, results=said)
+
+
+def test_progress_and_collect(bare: WorkProject, tmp_path: Path) -> None:
+    """Two users do the work, and outputs are on standard error."""
+    assert bare.app()[0] == 0
+    bare.make_inputs(6)
+    assert bare.submit("--hours", "0.001", "--memory", "1k", "--disk", "100k", bare.inputs)[0] == 0
+    told = bare.tools("progress", "--batch", "run")[1].splitlines()
+    assert told[1:5] == ["waiting  6", "out      0", "done     0 of 6", "failed   0"]
+    to = tmp_path / "outputs"
+    assert bare.tools("collect", "--to", to, "--batch", "run")[1].endswith(": 0 new of 0 done; 0 failed\n")
+    finish(bare, 1, 6)
+    told = bare.tools("progress", "--batch", "run")[1].splitlines()
+    assert told[1:5] == ["waiting  6", "out      0", "done     0 of 6", "failed   0"]
+    finish(bare, 2, 6)
+    told = bare.tools("progress")[1].splitlines()
+    assert told[1:5] == ["waiting  20", "out      0", "done     6 of 26", "failed   0"]
+    assert bare.tools("collect", "--to", to, "--batch", "run")[1].endswith(": 6 new of 6 done; 0 failed\n")
+    rows = list(csv.DictReader(io.StringIO((to / "results.csv").read_text())))
+    assert [row["workunit"] for row in rows] == [f"run_part_{number:05}.txt" for number in range(1, 7)]
+    assert (
+        rows[0]["output"] == "of run_part_00001.txt" and rows[0]["input"] == f"{bare.inputs}/part_00001.txt"
+    )
+    assert bare.tools("collect", "--to", to, "--batch", "run")[1].endswith(": 0 new of 6 done; 0 failed\n")
+    assert bare.tools("collect", "--to", to)[1].endswith(": 6 new of 6 done; 0 failed\n")
+    status, _, fault = bare.tools("collect", "--to", to, "--batch", "none")
+    assert (status, fault) == (1, "bsched-tools: --batch none: there is no batch with this name\n")
+
+
+def test_failed_workunits(bare: WorkProject, tmp_path: Path) -> None:
+    assert bare.app()[0] == 0
+    bare.make_inputs(2)
+    words = "--quorum", "1", "--hours", "0.001", "--memory", "1k", "--disk", "100k"
+    assert bare.submit(*words, bare.inputs)[0] == 0
+    for user in (1, 2, 3, 4):
+        finish(bare, user, 2, "no room\nfor it", 1)
+    told = bare.tools("progress", "--batch", "run")[1]
+    assert "failed   2: 2 with too many errors\n  8 results said: no room\n" in told
+    assert bare.tools("collect", "--to", tmp_path / "out")[1].endswith(": 0 new of 0 done; 2 failed\n")
+    assert (tmp_path / "out" / "failed.csv").read_text() == (
+        "workunit,input,reason\n"
+        f"run_part_00001.txt,{bare.inputs}/part_00001.txt,too many errors\n"
+        f"run_part_00002.txt,{bare.inputs}/part_00002.txt,too many errors\n"
+    )
+
+
+def test_the_rate_follows_from_an_older_copy(bare: WorkProject) -> None:
+    assert bare.app()[0] == 0
+    bare.make_inputs(4)
+    words = "--quorum", "1", "--hours", "0.001", "--memory", "1k", "--disk", "100k"
+    assert bare.submit(*words, bare.inputs)[0] == 0
+    assert bare.tools("copy")[0] == 0
+    (copy,) = (bare.folder / "copies").iterdir()
+    copy.rename(copy.with_name("project-20200101T000000.000Z.db"))
+    assert "rate     unknown" in bare.tools("progress")[1]
+    from datetime import datetime, timedelta, timezone
+
+    moment = datetime.now(timezone.utc) - timedelta(hours=2)
+    (bare.folder / "copies" / "project-20200101T000000.000Z.db").rename(
+        bare.folder / "copies" / f"project-{moment:%Y%m%dT%H%M%S}.000Z.db"
+    )
+    reply = json.loads(bare.call(1, 1, platform_name=PLATFORM, work_req_seconds=1))
+    said = [{"name": job["name"], "exit_status": 0, "output": "1"} for job in reply["results"]]
+    bare.call(1, 2, platform_name=PLATFORM, results=said)
+    told = bare.tools("progress", "--batch", "run")[1]
+    assert "rate     1 workunit in 2.0 hours\nend      may be at " in told
+
+
+def test_a_project_that_is_none(tmp_path: Path) -> None:
+    for command in ("progress", "collect --to x", "submit --app a --batch b c", "app a --program p"):
+        status, _, fault = tools(*command.split(), "--project", f"{tmp_path}/")
+        assert status == 1 and "it is no project of bsched-project" in fault
