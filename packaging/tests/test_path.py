@@ -1,4 +1,4 @@
-"""Tests the page of the first volunteer, and how packaging/try reads it."""
+"""Tests the pages whose commands packaging/try runs, and how it reads them."""
 import subprocess
 from pathlib import Path
 
@@ -6,7 +6,7 @@ import pytest
 from debian_trial.path import Block, steps_of
 
 TOP = Path(__file__).resolve().parent.parent.parent
-PAGE = TOP / "docs" / "FIRST_VOLUNTEER.md"
+PAGE, HUNDRED = TOP / "docs" / "FIRST_VOLUNTEER.md", TOP / "docs" / "FIRST_HUNDRED_JOBS.md"
 
 
 def test_the_page_has_twelve_steps_with_commands() -> None:
@@ -18,8 +18,17 @@ def test_the_page_has_twelve_steps_with_commands() -> None:
     assert [block.commands.split()[0] for block in blocks if block.is_repeated] == ["systemctl"]
 
 
-def test_each_block_is_a_script() -> None:
-    for step in steps_of(PAGE):
+def test_the_hundred_jobs_take_ten_steps() -> None:
+    steps = steps_of(HUNDRED)
+    assert [step.number for step in steps] == list(range(1, 11))
+    blocks = [block for step in steps for block in step.blocks]
+    assert len(blocks) == 10 and all(block.is_run for block in blocks)
+    assert [block.commands.split()[1] for block in blocks if block.is_repeated] == ["progress"]
+
+
+@pytest.mark.parametrize("page", [PAGE, HUNDRED])
+def test_each_block_is_a_script(page: Path) -> None:
+    for step in steps_of(page):
         for block in step.blocks:
             completed = subprocess.run(["bash", "-n"], input=block.commands, text=True, capture_output=True)
             assert (completed.returncode, completed.stderr) == (0, ""), step.title

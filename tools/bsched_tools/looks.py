@@ -18,6 +18,7 @@ from .tables import Tables, found_copy, moment_of, opened
 
 ASK_SECONDS = 15.0
 PLACE_OF_LOOKS = Path("/var/tmp")
+NO_MEMBER = "only root and members of the group bsched may use this project"
 
 
 @dataclass(frozen=True, slots=True)
@@ -45,7 +46,7 @@ def check_member(project: Project) -> None:
             return
     except OSError:
         pass
-    raise Fault(f"{project.folder}: only root and members of the group bsched may use this project")
+    raise Fault(f"{project.folder}: {NO_MEMBER}")
 
 
 def is_serving(project: Project) -> bool:

@@ -11,7 +11,7 @@ from .catalogue_file import CatalogueFile
 from .collecting import collected
 from .faults import Fault
 from .inputs import Input, check_batch, combinations, lines_in, of_files, of_texts
-from .looks import check_member, looked_at, tables_of
+from .looks import NO_MEMBER, check_member, looked_at, tables_of
 from .progress import earlier, names_in_batch, progress_lines, progress_of
 from .projects import Project, project_of
 from .submitting import CREDIT_OF_HOUR, Amounts, Plan, app_of, check_sizes, places_of, submitted
@@ -24,7 +24,10 @@ Printer = Callable[[Iterable[str]], None]
 
 def member_project(args: Arguments) -> Project:
     """Returns the project of the command line, for its members alone."""
-    project = project_of(args.project)
+    try:
+        project = project_of(args.project)
+    except PermissionError as error:
+        raise Fault(f"{error.filename}: {NO_MEMBER}") from None
     check_member(project)
     return project
 

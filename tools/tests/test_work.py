@@ -270,7 +270,9 @@ def test_command_lines(bare: WorkProject, tmp_path: Path) -> None:
     assert len(units(bare)) == 14
     for line in ("a=1,2,3 4", "a", "a=", "=3", "a=5..1", "a=1..999999"):
         status, told, fault = bare.submit("--sweep", line, batch="no")
-        assert (status, told) == (1, "") and fault.startswith("bsched-tools: --sweep") and fault.count("\n") == 1
+        assert (
+            (status, told) == (1, "") and fault.startswith("bsched-tools: --sweep") and fault.count("\n") == 1
+        )
 
 
 def test_many_workunits_are_several_batches(
@@ -459,6 +461,22 @@ def test_who_may_use_a_project(tmp_path: Path, monkeypatch: pytest.MonkeyPatch) 
         looks.check_member(project)
     monkeypatch.setattr(os, "getgroups", lambda: [12345, project.settings.stat().st_gid])
     looks.check_member(project)
+
+
+@pytest.mark.skipif(os.geteuid() != 0, reason="only root can become another user")
+def test_a_stranger(bare: WorkProject, capsys: pytest.CaptureFixture[str]) -> None:
+    """A user who may not look into the folder gets one clear line."""
+    bare.folder.chmod(0o750)
+    for parent in list(bare.folder.parents)[:3]:
+        parent.chmod(0o755)
+    child = os.fork()
+    if child == 0:
+        os.setgroups([])
+        os.setgid(65534)
+        os.setuid(65534)
+        status, told, fault = run_here(capsys, "progress", "--project", f"{bare.folder}/")
+        os._exit(0 if status == 1 and "only root and members of the group bsched" in fault else 1)
+    assert os.waitpid(child, 0)[1] == 0
 
 
 # ---- Stops
