@@ -64,9 +64,6 @@ class CatalogueFile:
 
     def __init__(self, project: Project) -> None:
         self.project = project
-        if not project.bridge_file.exists():
-            advice = f"make one by `bsched-project --add-bridge {project.name}`"
-            raise Fault(f"{project.folder}: the project has no bridge: {advice}")
         self.path = project.bridge_file.parent / str(toml_of(project.bridge_file).get("catalogue", ""))
         self.members = toml_of(self.path)
         if not isinstance(self.members.get("files"), str):

@@ -1,6 +1,7 @@
 """Looks at a project that do not disturb it: who may look, whether its scheduler answers, and a copy of its
 tables that is taken for one look.
 """
+import fcntl
 import http.client
 import os
 import tempfile
@@ -47,6 +48,21 @@ def check_member(project: Project) -> None:
     except OSError:
         pass
     raise Fault(f"{project.folder}: {NO_MEMBER}")
+
+
+@contextmanager
+def turn_of(project: Project) -> Iterator[None]:
+    """Lets one command at a time change the files of a project's bridge."""
+    if not project.bridge_file.exists():
+        advice = f"make one by `bsched-project --add-bridge {project.name}`"
+        raise Fault(f"{project.folder}: the project has no bridge: {advice}")
+    with project.bridge_file.open() as file:
+        try:
+            fcntl.flock(file, fcntl.LOCK_EX | fcntl.LOCK_NB)
+        except BlockingIOError:
+            says = "another `app` or `submit` is at work: wait until it has ended"
+            raise Fault(f"{project.folder}: {says}") from None
+        yield
 
 
 def is_serving(project: Project) -> bool:

@@ -50,19 +50,20 @@ class Progress:
 
 
 def names_in_batch(tables: Tables, batch: str) -> set[str]:
-    """Returns the names of the workunits of a batch: of the imports that have its name, or its name with a
-    number after it.
+    """Returns the names of the workunits of a batch: of the import that has its name, or of those that have
+    its name with a number after it.
     """
     query = "SELECT name, text FROM batch WHERE kind = 'workunits' AND substr(name, 1, ?1) = ?2"
-    names: set[str] = set()
+    texts: dict[str, str] = {}
     for name, text in tables.rows(query, len(batch), batch):
         end = name[len(batch) :]
         if not end or end[0] == "-" and end[1:].isdecimal():
-            lines = bytes(text).decode().splitlines()
-            names |= {line.partition(",")[0].strip('"') for line in lines[1:] if line}
-    if not names:
+            texts[name] = bytes(text).decode()
+    if not texts:
         raise Fault(f"--batch {batch}: there is no batch with this name")
-    return names
+    chosen = [texts[batch]] if batch in texts else texts.values()
+    rows = (line for text in chosen for line in text.splitlines()[1:] if line)
+    return {row.partition(",")[0].strip('"') for row in rows}
 
 
 def first_line(text: str) -> str:

@@ -11,7 +11,7 @@ from .catalogue_file import CatalogueFile
 from .collecting import collected
 from .faults import Fault
 from .inputs import Input, check_batch, combinations, lines_in, of_files, of_texts
-from .looks import NO_MEMBER, check_member, looked_at, tables_of
+from .looks import NO_MEMBER, check_member, looked_at, tables_of, turn_of
 from .progress import earlier, names_in_batch, progress_lines, progress_of
 from .projects import Project, project_of
 from .submitting import CREDIT_OF_HOUR, Amounts, Plan, app_of, check_sizes, places_of, submitted
@@ -45,7 +45,8 @@ def app(args: Arguments, printed: Printer) -> None:
         "rsc_disk_bound": args.disk,
     }
     files = read_files(args.program, args.file)
-    printed(added(project, NewApp(args.name, args.platform, files, args.agreement, members), args.key))
+    with turn_of(project):
+        printed(added(project, NewApp(args.name, args.platform, files, args.agreement, members), args.key))
 
 
 def inputs_asked(args: Arguments) -> list[Input]:
@@ -68,6 +69,12 @@ def submit(args: Arguments, printed: Printer) -> None:
     """Makes work."""
     project = member_project(args)
     check_batch(args.batch)
+    with turn_of(project):
+        printed(submitted(project, plan_of(args, project), args.dry_run))
+
+
+def plan_of(args: Arguments, project: Project) -> Plan:
+    """Returns the batch of work that the command line asks for."""
     catalogue = CatalogueFile(project)
     application = app_of(catalogue, args.app)
     inputs = inputs_asked(args)
@@ -82,7 +89,7 @@ def submit(args: Arguments, printed: Printer) -> None:
     folder, places = places_of(catalogue, application, inputs)
     plan = Plan(args.batch, application, amounts, inputs, folder, places)
     check_sizes(catalogue, plan)
-    printed(submitted(project, plan, args.dry_run))
+    return plan
 
 
 def progress(args: Arguments, printed: Printer) -> None:

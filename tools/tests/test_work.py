@@ -11,11 +11,12 @@ from pathlib import Path
 
 import pytest
 from made_project import SETTINGS, TWIN, free_port
-from small_project import rows_of, tools
+from small_project import TOOLS, rows_of, tools
 from work_project import CATALOGUE, PLATFORM, WorkProject
 
 from bsched_bridge.code_signing import file_md5, read_private_key, signature_text, write_new_keys
-from bsched_tools import __main__, counts, looks, projects, submitting
+from bsched_tools import __main__, apps, catalogue_file, counts, looks, projects, submitting
+from bsched_tools.bars import Bar
 from bsched_tools.catalogue_file import CatalogueFile
 from bsched_tools.faults import Fault
 from bsched_tools.import_files import KINDS, ImportFile, Row
@@ -539,6 +540,85 @@ def test_a_stop_at_each_step(
     )
 
 
+def test_a_stop_of_app_at_each_step(
+    bare: WorkProject, monkeypatch: pytest.MonkeyPatch, capsys: pytest.CaptureFixture[str]
+) -> None:
+    """Each step of `app` fails once. The same command completes it, and makes one version."""
+
+    class Stop(BaseException):
+        """Raised in the place of a kill."""
+
+    left = 0
+
+    def steps_before(function):  # type: ignore[no-untyped-def]
+        def stepped(*args, **more):  # type: ignore[no-untyped-def]
+            nonlocal left
+            if left == 0:
+                raise Stop
+            left -= 1
+            return function(*args, **more)
+
+        return stepped
+
+    monkeypatch.setenv("PYTHONPATH", str(TOOLS.parent / "bridge"))
+    checked = catalogue_file.checked_by_bridge
+    monkeypatch.setattr(catalogue_file, "checked_by_bridge", lambda *_: None)
+    monkeypatch.setattr(apps.Addition, "undo", lambda _addition: None)  # a kill undoes nothing
+    for module, name in ((os, "replace"), (catalogue_file, "checked_by_bridge"), (apps, "import_rows")):
+        monkeypatch.setattr(module, name, steps_before(getattr(module, name)))
+    monkeypatch.setattr(apps.Addition, "sign", steps_before(apps.Addition.sign))
+    data = bare.folder / "data"
+    data.write_text("1")
+    stopped = 0
+    for number in range(100):
+        words = ["app", f"a{number}", "--project", f"{bare.folder}/", "--program", bare.program]
+        words += ["--file", data, "--key", bare.key]
+        left = number
+        try:
+            run_here(capsys, *words)
+            break
+        except Stop:
+            stopped += 1
+        left = 1000
+        assert f"a{number}: version 1 for {PLATFORM} is added" in run_here(capsys, *words)[1]
+    assert stopped > 7
+    checked(projects.Project(bare.folder), bare.catalogue)
+    versions = CatalogueFile(projects.Project(bare.folder)).members["version"]
+    names = [f"a{number}" for number in range(stopped + 1)]
+    assert [(one["app"], one["version_num"]) for one in versions] == [(name, 1) for name in names]
+    bare.end()
+    query = "SELECT app.name, num FROM version JOIN app ON app.id = app_id ORDER BY version.id"
+    assert rows_of(bare.folder / "project.db", query)[2:] == [(name, 1) for name in names]
+
+
+def test_one_command_at_a_time(bare: WorkProject) -> None:
+    with looks.turn_of(projects.Project(bare.folder)):
+        fault = (
+            f"bsched-tools: {bare.folder}: another `app` or `submit` is at work: wait until it has ended\n"
+        )
+        assert bare.app() == (1, "", fault)
+
+
+def test_a_project_without_a_bridge(bare: WorkProject) -> None:
+    (bare.bridge / "bridge.toml").unlink()
+    for told in (bare.app(), bare.submit(bare.inputs)):
+        assert told[:2] == (1, "") and "the project has no bridge: make one by" in told[2]
+
+
+def test_a_bar_is_drawn_on_a_terminal_alone(
+    monkeypatch: pytest.MonkeyPatch, capsys: pytest.CaptureFixture[str]
+) -> None:
+    Bar("importing").seen(5, 10)
+    assert capsys.readouterr().err == ""
+    monkeypatch.setattr(sys.stderr, "isatty", lambda: True, raising=False)
+    bar = Bar("importing")
+    bar.seen(5, 10)
+    bar.seen(6, 10)  # too soon
+    bar.seen(10, 10)
+    half, full = f"[{'#' * 15}{' ' * 15}] 5 of 10", f"[{'#' * 30}] 10 of 10"
+    assert capsys.readouterr().err == f"\rimporting {half}\rimporting {full}\n"
+
+
 # ---- Progress and outputs
 
 
@@ -580,6 +660,17 @@ def test_progress_and_collect(bare: WorkProject, tmp_path: Path) -> None:
     assert bare.tools("collect", "--to", to)[1].endswith(": 6 new of 6 done; 0 failed\n")
     status, _, fault = bare.tools("collect", "--to", to, "--batch", "none")
     assert (status, fault) == (1, "bsched-tools: --batch none: there is no batch with this name\n")
+
+
+def test_batches_with_like_names(bare: WorkProject) -> None:
+    """A batch has its own workunits, and not those of another one whose name begins like it."""
+    assert bare.app()[0] == 0
+    bare.make_inputs(2)
+    bare.submit(bare.inputs)
+    bare.submit(bare.inputs / "part_00001.txt", batch="run-2")
+    bare.submit(bare.inputs / "part_00001.txt", batch="run2")
+    for batch, count in (("run", 2), ("run-2", 1), ("run2", 1)):
+        assert f"done     0 of {count}\n" in bare.tools("progress", "--batch", batch)[1]
 
 
 def test_failed_workunits(bare: WorkProject, tmp_path: Path) -> None:
