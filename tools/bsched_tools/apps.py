@@ -315,7 +315,7 @@ def missing_rows(app: NewApp, version: NewVersion, tables: Tables) -> list[tuple
     for kind, _ in missing:
         table = kind.removesuffix("s")
         if tables.number(f"SELECT count(*) FROM {table}") >= MOST[table]:
-            raise Fault(f'there is no room for more {kind}: see "Limits" in docs/OPERATING.md')
+            raise Fault(f'there is no room for more {kind}: see "Limits" in docs/WHEN_WRONG.md')
     return missing
 
 

@@ -217,7 +217,7 @@ def check_room(missing: list[Batch], room: int) -> None:
     """Refuses workunits for which there is no room."""
     needed = sum(len(batch.rows) for batch in missing)
     if needed > room:
-        advice = 'see "More than 200,000 workunits" in docs/OPERATING.md'
+        advice = 'see "More than 200,000 workunits" in docs/NEXT_FILE.md'
         raise Fault(f"there is room for {room:,} further workunits, and not for {needed:,}: {advice}")
 
 
