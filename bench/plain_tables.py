@@ -756,8 +756,8 @@ class Tables:
         self.noted.clear()
 
     def read_page(self, size: int, *place: int) -> tuple[list[Row], Row | None]:
-        """Returns so many waiting places from a place on, and the place before which they end: None if there
-        are no more."""
+        """Returns up to `size` waiting places from a place on, and the place before which they end: None if
+        there are no more."""
         places = self.shown(f"what waits, {size} places", *place)
         if len(places) < size:
             return places, None

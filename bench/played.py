@@ -41,7 +41,7 @@ class Options:
 
 
 def limit_time(case: str, seconds: int) -> None:
-    """Ends the script if a case takes longer than so many seconds. The servers end with it."""
+    """Ends the script if a case takes longer than a number of seconds. The servers end with it."""
 
     def end(_number: int, _frame: FrameType | None) -> NoReturn:
         raise SystemExit(f"{case}: not done after {seconds} seconds")

@@ -225,7 +225,7 @@ class Project:
 
 
 def lines(calls: int) -> tuple[bytes, dict[str, int]]:
-    """Returns the lines of a project with so many calls, and their mix."""
+    """Returns the lines of a project with a number of calls, and their mix."""
     project = Project(calls)
     project.live()
     return b"".join(project.lines), project.mix()

@@ -53,14 +53,14 @@ class Pair:
         return self
 
     def go(self, count: int) -> "Pair":
-        """Makes so many more calls to each program, in turns."""
+        """Makes `count` more calls to each program, in turns."""
         while count > 0:
             self.take_turn(min(TURN, count))
             count -= TURN
         return self
 
     def take_turn(self, count: int) -> None:
-        """Makes so many more calls to one program after the other. They take turns at being first."""
+        """Makes `count` more calls to one program after the other. They take turns at being first."""
         bodies, order = self.bodies[self.at : self.at + count], list(range(len(self.runs)))
         if self.rounds % 2:
             order.reverse()

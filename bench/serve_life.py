@@ -56,7 +56,7 @@ MADE = tempfile.TemporaryDirectory()  # the large tables, which several cases us
 
 
 def hosts_of(units):
-    """Returns how many hosts there are for so many workunits: half as many, less 1 in 100 still to come."""
+    """Returns how many hosts there are for a number of workunits: half as many, less 1 in 100 still to come."""
     return units // 2 - units // 200
 
 
@@ -85,7 +85,7 @@ def import_rows(service, kind, rows):
 
 
 def import_users(service, hosts):
-    """Imports the users of so many hosts."""
+    """Imports the users of a number of hosts."""
     import_rows(service, "accounts", [f"user{user},User {user}" for user in range(1, user_of(hosts) + 1)])
 
 
@@ -136,7 +136,7 @@ def create(program, path):
 
 
 def made(program, units):
-    """Makes tables with so many workunits, none of which was given out, and with hosts that called once.
+    """Makes tables with a number of workunits, none of which was given out, and with hosts that called once.
     Returns their path."""
     path = os.path.join(MADE.name, f"{zlib.crc32(os.path.realpath(program).encode())}.{units}.db")
     if os.path.exists(path):
@@ -193,7 +193,7 @@ def made_past(program):
 
 
 def made_former(hosts, folder):
-    """Makes tables of the first schema with so many hosts that called once, and returns their path."""
+    """Makes tables of the first schema with a number of hosts that called once, and returns their path."""
     newest, path = (os.path.join(folder, f"{name}{hosts}.db") for name in ("newest", "former"))
     plain_tables.create(newest, SETTINGS)
     tables = plain_tables.Tables(newest, synchronous="OFF")
@@ -262,7 +262,7 @@ class Life:
         }
 
     def call(self, client, asked, kept=0.0, lost=0.0, silent=0.0):
-        """Makes a fresh call that asks for so many seconds. The chances are to keep a job, to lose the reply,
+        """Makes a fresh call that asks for a number of seconds. The chances are to keep a job, to lose the reply,
         to list no results."""
         client.seqno += 1
         done = [name for name in client.jobs if self.pick.random() >= kept]
@@ -292,7 +292,7 @@ class Life:
             client.jobs = had + [job["name"] for job in reply["results"] if job["name"] not in had]
 
     def mixed(self, units, count):
-        """Makes so many calls of a project's life. All hosts of some users call, about 36 times per user."""
+        """Makes a number of calls of a project's life. All hosts of some users call, about 36 times per user."""
         users, active = user_of(hosts_of(units)), max(5, count // 36)
         clients = [
             standing(10 * (number * users // active) + one)
@@ -370,7 +370,7 @@ class Run:
 
 
 def run_ours(program, tables, count=1_000_000, before=()):
-    """Starts the program over tables, for so many connections, under the command `before` if it is given."""
+    """Starts the program over tables, for a number of connections, under the command `before` if it is given."""
     begin, port = time.perf_counter(), free_port()
     return Run(started(program, tables, port, count, before, seconds=3600), port, begin)
 
@@ -478,7 +478,7 @@ class Race:
         return self
 
     def go(self, count):
-        """Makes so many more calls, to one server after the other."""
+        """Makes `count` more calls, to one server after the other."""
         bodies, ran, (ours, *others) = self.bodies[self.at :][:count], self.ran[self.at :][:count], self.runs
         ours.send(messages_of(bodies, [0] * count))
         messages = messages_of(bodies, moments_in(bodies, ours.answers[self.at :], self.seen))

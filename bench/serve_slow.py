@@ -52,7 +52,7 @@ def changed(program: str, name: str, change: Callable[[sqlite3.Connection], None
 
 
 def gather(connection: sqlite3.Connection, first: int, count: int) -> None:
-    """Makes so many hosts, from a first one on, the only hosts of the first one's user."""
+    """Makes a number of hosts, from a first one on, the only hosts of the first one's user."""
     hosts = first, first + count - 1
     connection.execute("UPDATE host SET account_id = ? WHERE id BETWEEN ? AND ?", (user_of(first), *hosts))
     others = "UPDATE host SET account_id = account_id + 1 WHERE account_id = ? AND id NOT BETWEEN ? AND ?"

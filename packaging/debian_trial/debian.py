@@ -31,7 +31,7 @@ def run(command: list[str], seconds: int = 60, environment: dict[str, str] | Non
 
 
 def finished(command: list[str], seconds: int = 60, environment: dict[str, str] | None = None) -> Done:
-    """Runs a command for at most so many seconds and returns how it ended."""
+    """Runs a command for at most a number of seconds and returns how it ended."""
     try:
         return subprocess.run(
             command,
