@@ -1,21 +1,19 @@
 """What the bridge reads from XML, and what it refuses."""
-from typing import Any
 import re
 import subprocess
 import sys
 import time
 from pathlib import Path
+from typing import Any
 
 import pytest
-from hypothesis import example, given
-from hypothesis import strategies as st
 from hostile import SHAPES
+from hypothesis import example, given, strategies as st
 from messages import request
 
 from bsched_bridge import client_requests, request_parts
-from bsched_bridge.client_requests import Report
+from bsched_bridge.client_requests import ClientRequest, Report
 from bsched_bridge.request_parts import MOST_XML, RequestFault, between
-from bsched_bridge.client_requests import ClientRequest
 
 RECORDED = Path(__file__).parent / "requests"
 
@@ -24,7 +22,7 @@ def recorded(name: str) -> bytes:
     return (RECORDED / f"{name}.xml").read_bytes()
 
 
-def read_request(body: bytes, size: int = 65_536) -> ClientRequest | None:
+def read_request(body: bytes, size: int = 65_536) -> ClientRequest:
     """Returns the request in a body that comes in blocks of a size."""
     return client_requests.read_request(body[start : start + size] for start in range(0, len(body), size))
 

@@ -1,21 +1,21 @@
 """A bsched that hangs: it takes connections and gives no answer."""
-from collections.abc import Callable, Iterator
-from typing import Any
 import http.client
 import socket
 import threading
 import time
+from collections.abc import Callable, Iterator
+from typing import Any
 
 import pytest
 import waitress  # type: ignore[import]
+from bridges import Bridge
 from joining import wait_until
 from messages import request
+from twin import Twin
 
 from bsched_bridge import scheduler
 from bsched_bridge.scheduler import Hung, NoAnswer, Scheduler
 from bsched_bridge.settings import Address
-from twin import Twin
-from bridges import Bridge
 
 
 @pytest.fixture

@@ -2,10 +2,10 @@
 import logging
 
 import pytest
+from twin import Twin
 
 from bsched_bridge import scheduler as module
 from bsched_bridge.scheduler import NoAnswer, Scheduler, asking_call
-from twin import Twin
 
 
 @pytest.fixture(autouse=True)
