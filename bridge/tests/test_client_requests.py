@@ -13,7 +13,7 @@ from messages import request
 
 from bsched_bridge import client_requests, request_parts
 from bsched_bridge.client_requests import ClientRequest, Report
-from bsched_bridge.request_parts import MOST_XML, RequestFault, between
+from bsched_bridge.request_parts import MOST_XML, Parts, RequestFault, between
 
 RECORDED = Path(__file__).parent / "requests"
 
@@ -311,3 +311,24 @@ def test_a_result_whose_upload_was_given_up_is_no_success(
     )
     (result,) = read_request(body.encode()).results
     assert (result.exit_status, result.output) == report
+
+
+def test_ends_within_a_standard_error() -> None:
+    def output(text: str) -> str:
+        (result,) = read_request(request(reports=[("u1_0", text)]).encode()).results
+        return result.output
+
+    assert output("a</stderr_txt>b") == "a</stderr_txt>b"  # up to the last end
+    assert output("<answer>1</answer> or <answer>2</answer>") == "1"  # the first answer
+
+
+def test_a_request_that_ends_in_a_standard_error_or_a_message() -> None:
+    begin = request(reports=[("u1_0", "42")]).encode().partition(b"42")[0]
+    with pytest.raises(RequestFault, match="the request is incomplete"):
+        read_request(begin)
+    assert b"".join(Parts([b"<a><msg_from_host>", b"x"]).xml()) == b"<a>"
+
+
+def test_many_results_are_read() -> None:
+    body = request(reports=[(f"u{number}_0", "42") for number in range(1500)])
+    assert len(read_request(body.encode()).results) == 1500
