@@ -8,7 +8,7 @@ import logging
 from collections.abc import Callable
 from xml.etree.ElementTree import Element, SubElement
 
-from .accounts import AccountFault, Accounts, Fault, at_work
+from .accounts import AccountFault, AccountPlaces, Accounts, Fault
 from .catalogue import Catalogue
 from .client_replies import add, written
 from .http_messages import (
@@ -22,7 +22,7 @@ from .http_messages import (
     log_fault,
     query_of,
 )
-from .limits import Places, is_loopback, network_of
+from .limits import is_loopback, network_of
 from .plan_classes import split
 from .scheduler import NoAnswer, Scheduler
 from .settings import Settings
@@ -92,7 +92,7 @@ class AccountMessages:
     """
 
     def __init__(
-        self, settings: Settings, accounts: Accounts | None, scheduler: Scheduler, places: Places
+        self, settings: Settings, accounts: Accounts | None, scheduler: Scheduler, places: AccountPlaces
     ) -> None:
         self.accounts, self.scheduler, self.places = accounts, scheduler, places
         self._address_field = settings.accounts.address_field if settings.accounts else None
@@ -118,7 +118,8 @@ class AccountMessages:
         disk, the client is asked to try again.
         """
         try:
-            with at_work(self.places):
+            client = None if self.accounts is None else self.client(environ)
+            with self.places.taken(client):
                 return Answer(XML, account_out(find(environ, query_of(environ))), NO_STORE)
         except AccountFault as failure:
             fault = failure.fault

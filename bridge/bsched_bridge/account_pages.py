@@ -7,9 +7,8 @@ site is refused.
 from dataclasses import dataclass, field, replace
 
 from .account_messages import LEAST_PASSWORD, client_of
-from .accounts import AccountFault, Accounts, Fault, at_work, clean_name, is_email
+from .accounts import AccountFault, AccountPlaces, Accounts, Fault, clean_name, is_email
 from .http_messages import Answer, Environ, form_of, require_method, refuse_other_sites, query_of
-from .limits import Places
 from .markup import Markup, Number, element, joined, page, paragraphs, table
 from .members import Member
 from .passwords import client_hash
@@ -108,7 +107,7 @@ class AccountPages:
     """Answers people who ask about accounts."""
 
     def __init__(
-        self, settings: Settings, accounts: Accounts, statements: Statements, places: Places
+        self, settings: Settings, accounts: Accounts, statements: Statements, places: AccountPlaces
     ) -> None:
         self.settings, self.accounts, self.statements, self.places = settings, accounts, statements, places
         self._field = settings.accounts.address_field if settings.accounts else None
@@ -126,7 +125,7 @@ class AccountPages:
             return self._changed(environ)
         key, client = query_of(environ).get("auth", ""), client_of(environ, self._field)
         try:
-            with at_work(self.places):
+            with self.places.taken(client):
                 return self._account(self.accounts.of_owner(key, client))
         except AccountFault as fault:
             status = 404 if fault.fault is Fault.WRONG_KEY else 200
@@ -140,7 +139,7 @@ class AccountPages:
         refuse_other_sites(environ, self.settings.url)
         sent, client = Form(form_of(environ)), client_of(environ, self._field)
         try:
-            with at_work(self.places):
+            with self.places.taken(client):
                 return self._account(self._member(sent, client))
         except AccountFault as fault:
             sent.faults["key" if "key" in sent.fields else "password"] = fault.fault.text
@@ -175,7 +174,7 @@ class AccountPages:
         sent, client = Form(form_of(environ)), client_of(environ, self._field)
         name, is_exported = clean_name(sent.text("name")), sent.text("is_exported") == "1"
         try:
-            with at_work(self.places):
+            with self.places.taken(client):
                 member = self.accounts.of_owner(sent.text("key"), client)
                 if not name:
                     sent.faults["name"] = "Give a name."
@@ -240,7 +239,7 @@ class AccountPages:
             sent.faults["is_sure"] = "Tick this, to delete the account."
             return self._deletion_form(sent)
         try:
-            with at_work(self.places):
+            with self.places.taken(client):
                 self.accounts.delete(email, client_hash(sent.fields.get("password", ""), email), client)
         except AccountFault as fault:
             sent.faults["password"] = fault.fault.text
@@ -307,7 +306,7 @@ class AccountPages:
         if sent.faults:
             return self._password_form(sent)
         try:
-            with at_work(self.places):
+            with self.places.taken(client):
                 self.accounts.set_password(sent.text("key"), email, client_hash(password, email), client)
         except AccountFault as fault:
             sent.faults["email" if fault.fault is Fault.TAKEN else "key"] = fault.fault.text

@@ -11,7 +11,7 @@ import secrets
 import time
 import unicodedata
 from collections.abc import Iterator
-from contextlib import contextmanager
+from contextlib import ExitStack, contextmanager
 from dataclasses import dataclass
 from enum import Enum
 
@@ -111,16 +111,25 @@ def account_import(member: Member) -> bytes:
     return f'authenticator,name\n{member.authenticator},"{name}"\n'.encode()
 
 
-@contextmanager
-def at_work(places: Places) -> Iterator[None]:
-    """Takes a place for a message about accounts. They have only a few places, so that clients' calls still
-    find a free thread.
+class AccountPlaces:
+    """The few places for messages about accounts, so that clients' calls still find a free thread. A client
+    has one at a time. So nobody can take all of them, for example by messages that wait for one another.
     """
-    try:
-        with places.taken():
+
+    def __init__(self, places: Places) -> None:
+        self.places, self._clients = places, KeyLocks(0)
+
+    @contextmanager
+    def taken(self, client: str | None) -> Iterator[None]:
+        """Takes a place for a message of a client. If the client is not known, it may have several."""
+        with ExitStack() as stack:
+            try:
+                if client is not None:
+                    stack.enter_context(self._clients.held(client))
+                stack.enter_context(self.places.taken())
+            except (Busy, NoPlace):
+                raise AccountFault(Fault.TOO_BUSY) from None
             yield
-    except NoPlace:
-        raise AccountFault(Fault.TOO_BUSY) from None
 
 
 @dataclass(slots=True)
@@ -131,7 +140,7 @@ class Attempt:
 
 
 class Accounts:
-    """Makes accounts and finds them. Each message about them has a place, which it takes by at_work."""
+    """Makes accounts and finds them. Each message about them has one of the AccountPlaces."""
 
     def __init__(
         self,

@@ -6,7 +6,7 @@ from pathlib import Path
 from . import pages, uploads
 from .account_messages import AccountMessages, project_config
 from .account_pages import AccountPages
-from .accounts import Accounts
+from .accounts import AccountPlaces, Accounts
 from .archives import read_archives
 from .barring import Barring
 from .call_numbers import CallNumbers
@@ -58,7 +58,8 @@ class Application:
         hosts, self.members, recent = Hosts(file), Members(file), RecentCredit(settings.averages)
         half = max(1, settings.threads // 2)
         self.places = Places(max(1, settings.threads - KEPT_THREADS))
-        self.account_places, self.upload_places = Places(half, self.places), Places(half, self.places)
+        self.account_places = AccountPlaces(Places(half, self.places))
+        self.upload_places = Places(half, self.places)
         self.downloads = Downloads(current, Places(half, self.places), settings.retry_delay)
         self.accounts: Accounts | None = None
         if settings.accounts is not None and key is not None:

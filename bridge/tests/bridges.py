@@ -71,7 +71,7 @@ class Bridge:
         path = self.folder / "bridge.toml"
         settings = read_settings(path)
         self.file, catalogues = StateFile(settings.state), CatalogueReader(settings)
-        self.store = open_store(settings, catalogues.current())
+        self.store: Any = open_store(settings, catalogues.current())  # None without [uploads]
         self.application = Application(
             settings,
             catalogues.current,
@@ -82,7 +82,7 @@ class Bridge:
             self.store,
         )
         self.hosts, self.numbers = self.application.exchange.hosts, self.application.exchange.numbers
-        self.members = self.application.members
+        self.members: Any = self.application.members
 
     def restart(self) -> None:
         """Starts the bridge again from what is on the disk."""

@@ -1,19 +1,17 @@
 """What tests of accounts share: messages as BOINC's client sends them, and checks of the accounts at the end.
 """
-from collections.abc import Callable
-from typing import Any
 import hashlib
 import re
 import time
 import xml.etree.ElementTree as ElementTree
+from collections.abc import Callable
 from dataclasses import dataclass, field
+from typing import Any
 from urllib.parse import quote
 
-from messages import request, value
-from twin import IMPORTS
-from twin import Twin
-from stopping import Connection
 from bridges import Bridge
+from messages import request, value
+from twin import IMPORTS, Twin
 
 CLIENT = "198.51.100.7"
 OPERATORS = {line.partition(",")[0] for line in IMPORTS["accounts"].splitlines()[1:]}
@@ -44,7 +42,7 @@ def account_query(page: str, email: str, password: str, **more: str) -> str:
     return f"/p/{page}?" + "&".join(f"{name}={escaped(text)}" for name, text in values.items())
 
 
-def key_or_number(answer: tuple[str, dict[str, str], bytes]) -> int | str:
+def key_or_number(answer: tuple[str, dict[str, str], bytes]) -> Any:
     """Returns the key in an answer, or the number of its error."""
     status, fields, body = answer
     assert (status, fields["Content-Type"], fields["Cache-Control"]) == (
@@ -54,9 +52,9 @@ def key_or_number(answer: tuple[str, dict[str, str], bytes]) -> int | str:
     )
     root = ElementTree.fromstring(body)
     if root.tag == "account_out":
-        assert re.fullmatch("[0-9a-f]{32}", root.findtext("authenticator"))
+        assert re.fullmatch("[0-9a-f]{32}", root.findtext("authenticator") or "")
         return root.findtext("authenticator")
-    number = int(root.findtext("error_num"))
+    number = int(root.findtext("error_num") or 0)
     assert root.tag == "error" and number < 0 and root.findtext("error_msg")
     return number
 
@@ -68,7 +66,7 @@ def create(
     name: str = "ann",
     client: str = CLIENT,
     **more: str,
-) -> int | str | None:
+) -> Any:
     """Returns the key or the error number from create_account.php."""
     query = account_query("create_account.php", email, password, user_name=name, **more)
     number = key_or_number(bridge.got(query, REMOTE_ADDR=client))
@@ -78,7 +76,7 @@ def create(
 
 def look_up(
     bridge: Bridge, email: str = "ann@sums.example", password: str = "secret1", client: str = CLIENT
-) -> int | str:
+) -> Any:
     """Returns the key or the error number from lookup_account.php."""
     number = key_or_number(
         bridge.got(account_query("lookup_account.php", email, password), REMOTE_ADDR=client)
@@ -93,7 +91,7 @@ def works(bridge: Bridge, key: str, cpid: str = "cpid") -> bool:
     return value(bridge.call(request(key=key, cpid=cpid, seconds=0)), "hostid") is not None
 
 
-def rows(bridge: Bridge) -> list[tuple[str, str, int]]:
+def rows(bridge: Bridge) -> list[Any]:
     """Returns the accounts in the state file: the address, the key, and whether bsched has it."""
     return bridge.file.rows(
         "SELECT email, authenticator, is_imported FROM member WHERE batch IS NOT NULL ORDER BY id"
@@ -131,9 +129,9 @@ class Stops:
     is_after: bool
     passed: int = 0
     is_stopped: bool = False
-    points: list = field(default_factory=list)
+    points: list[str] = field(default_factory=list)
 
-    def around(self, name: str, act: Callable[..., Any]) -> tuple[int, bytes] | None:
+    def around(self, name: str, act: Callable[..., Any]) -> Any:
         """Does one send, or stops."""
         if self.is_stopped:
             raise Stopped
@@ -146,7 +144,7 @@ class Stops:
             act()
         raise Stopped
 
-    def set(self, monkeypatch: Any, bridge: Bridge) -> Stops:
+    def set(self, monkeypatch: Any, bridge: Bridge) -> "Stops":
         """Watches the writes and sends of a bridge."""
         transaction, message = bridge.file.transaction, bridge.application.scheduler.message
         stops = self
@@ -157,7 +155,7 @@ class Stops:
             def __init__(self, is_synced: bool = True) -> None:
                 self.inner = transaction(is_synced)
 
-            def __enter__(self) -> Connection | None:
+            def __enter__(self) -> Any:
                 if stops.is_stopped:
                     raise Stopped
                 stops.passed += 1
@@ -168,7 +166,7 @@ class Stops:
                 self.is_here = stops.passed == stops.at
                 return self.inner.__enter__()
 
-            def __exit__(self, *fault: None) -> bool | None:
+            def __exit__(self, *fault: Any) -> Any:
                 ends = self.inner.__exit__(*fault)
                 if self.is_here:
                     stops.is_stopped = True

@@ -1,6 +1,6 @@
 """Requests that tests write, and what tests read in replies."""
-from typing import Any
 import re
+from typing import Any
 
 FIRST = 100_001  # the number that the first host gets, if the clock does not give a greater one
 
@@ -14,7 +14,7 @@ def request(
     reports: list[tuple[str, str]] | tuple[Any, ...] = (),
     seqno: int = 0,
     statuses: dict[str, Any] | None = None,
-    **more: str,
+    **more: Any,
 ) -> str:
     """Returns a scheduler_request. If listed is None, it has no list of what the client has. Reports have the
     exit status 0, if statuses has no other one for their names.
@@ -60,7 +60,7 @@ def jobs(reply: bytes) -> list[str]:
     return names(reply, "result")
 
 
-def value(reply: bytes, element: str) -> str | None:
+def value(reply: bytes, element: str) -> Any:
     """Returns the text of the first element of a kind, or None."""
     found = re.search(rf"<{element}[^>]*>([^<]*)</{element}>", reply.decode())
     return found[1] if found else None

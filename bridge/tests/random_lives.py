@@ -4,19 +4,19 @@ replaced by a further file, state files that get lost, and bridges that are kill
 At each reply a life checks two promises. A report that is acknowledged is recorded in the scheduler as that of
 the host that got the job. No two computers get one job, unless the scheduler itself gives it out again.
 """
-from collections.abc import Callable
-from typing import Any
 import copy
 import http.client
 import json
+from collections.abc import Callable
 from dataclasses import dataclass, field, replace
 from types import SimpleNamespace
+from typing import Any
 
 import plain
+from bridges import Bridge
 from joining import Stopped, Stops
 from messages import jobs, names, request, value
 from twin import IMPORTS, Twin
-from bridges import Bridge
 
 ABORTED = -221  # the exit status that BOINC's client reports for a job that it was told to abort
 FAULTS = ["lost", "unheard", "unavailable", "garbage"]

@@ -3,12 +3,14 @@
 A stop is that of the process, or a power failure. After a power failure a name is gone that was given after the
 last sync of its folder, and a file is empty that was never synced.
 """
-from collections.abc import Callable
-from typing import Any
 import os
+import sqlite3
+from collections.abc import Callable
 from pathlib import Path
-from bridges import Bridge
+from typing import Any
+
 import pytest
+from bridges import Bridge
 
 
 class Stopped(BaseException):
@@ -18,14 +20,14 @@ class Stopped(BaseException):
 class Connection:
     """A connection to SQLite whose statements are steps."""
 
-    def __init__(self, connection: Connection, steps: Steps) -> None:
+    def __init__(self, connection: sqlite3.Connection, steps: "Steps") -> None:
         self.connection, self.steps = connection, steps
 
     def execute(self, statement: str, *values: tuple[Any, ...]) -> Any:
         """Runs a statement, unless the bridge is stopped."""
         return self.steps.around(lambda: self.connection.execute(statement, *values), statement.split()[0])
 
-    def __getattr__(self, name: str) -> bool:
+    def __getattr__(self, name: str) -> Any:
         return getattr(self.connection, name)
 
 
@@ -34,7 +36,9 @@ class Steps:
 
     def __init__(self, at: int, is_after: bool) -> None:
         self.at, self.is_after, self.passed, self.is_stopped = at, is_after, 0, False
-        self.kinds, self.unsynced_names, self.synced = set(), [], set()
+        self.kinds: set[str] = set()
+        self.unsynced_names: list[Any] = []
+        self.synced: set[int] = set()
 
     def around(self, act: Callable[..., Any], kind: str) -> Any:
         """Does one step, or stops."""

@@ -1,9 +1,6 @@
 """A bridge that is stopped while it makes an account: no account is lost or made twice, and each key that a
 client got works.
 """
-from collections.abc import Callable
-from pathlib import Path
-from typing import Any
 import http.client
 import os
 import random
@@ -13,10 +10,13 @@ import subprocess
 import sys
 import threading
 import time
+from collections.abc import Callable
+from pathlib import Path
+from typing import Any
 
 import pytest
 from bridges import ACCOUNTS, BRIDGE, Bridge
-from joining import Stopped, Stops, account_query, create, look_up, made_accounts, rows, key_or_number, works
+from joining import Stopped, Stops, account_query, create, key_or_number, look_up, made_accounts, rows, works
 from twin import Twin
 
 from bsched_bridge.scheduler import NoAnswer
@@ -161,7 +161,7 @@ def test_a_life_of_accounts(
         twin.import_faults = [chance.choice(FAULTS) for _ in range(chance.randint(0, 2))]
         act = chance.choice([create, create, look_up])
 
-        def asks(bridge: Bridge) -> int | str | None:
+        def asks(bridge: Bridge) -> int | str:
             return act(bridge, email, "secret1" if right else "wrong-1", client=f"198.51.100.{step}")
 
         answers = []

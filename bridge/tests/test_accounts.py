@@ -1,39 +1,47 @@
 """Accounts that volunteers make: what clients get, limits, refusals of bsched, and that nothing secret is
 logged.
 """
-from pathlib import Path
 import json
 import re
 import threading
 import time
 import xml.etree.ElementTree as ElementTree
+from collections.abc import Callable
+from dataclasses import replace
+from pathlib import Path
 from urllib.parse import urlencode
 
 import pytest
-from hypothesis import given
-from hypothesis import strategies as st
+from bridges import Bridge
+from hypothesis import given, strategies as st
 from joining import (
     CLIENT,
     account_query,
     client_hash,
     create,
+    key_or_number,
     look_up,
     made_accounts,
     rows,
-    key_or_number,
     wait_until,
     works,
 )
 from messages import FIRST, request, value
+from twin import Twin
 
 from bsched_bridge import passwords
-from bsched_bridge.accounts import account_import, clean_name, is_email
+from bsched_bridge.accounts import AccountFault, Fault, account_import, clean_name, is_email
 from bsched_bridge.limits import RecentCounts, is_loopback, network_of
-from bsched_bridge.members import DayIsFull, Member
-from bsched_bridge.passwords import COST, Cost, Passwords, TooBusy, scrypt
-from bsched_bridge.passwords import client_hash as own_client_hash
-from twin import Twin
-from bridges import Bridge
+from bsched_bridge.members import DayIsFull, EmailTaken, Member
+from bsched_bridge.passwords import (
+    COST,
+    Cost,
+    Passwords,
+    Secret,
+    TooBusy,
+    client_hash as own_client_hash,
+    scrypt,
+)
 
 EMAIL = "ann@sums.example"
 
@@ -522,6 +530,22 @@ def test_one_client_has_one_hash_at_once(open_bridge: Bridge, monkeypatch: pytes
     assert look_up(open_bridge) == key
 
 
+def test_messages_of_one_client_that_wait_keep_nobody_from_a_place(open_bridge: Bridge) -> None:
+    """Eight log-ins of one account wait for one another, as they do while its password is hashed."""
+    create(open_bridge)
+    bob = create(open_bridge, "bob@sums.example", client="192.0.2.1")
+    answers: list[object] = []
+    with open_bridge.application.accounts._locks.held("ann@sums.example"):
+        threads = [threading.Thread(target=lambda: answers.append(look_up(open_bridge))) for _ in range(8)]
+        for thread in threads:
+            thread.start()
+        wait_until(lambda: len(answers) == 7)  # they are refused at once, and one waits
+        assert look_up(open_bridge, "bob@sums.example", client="192.0.2.1") == bob
+    for thread in threads:
+        thread.join()
+    assert answers[:7] == [-183] * 7 and answers[7] != -183
+
+
 def test_one_client_has_so_many_hashes_in_a_minute(open_bridge: Bridge) -> None:
     key = create(open_bridge)
     answers = [look_up(open_bridge) for _ in range(50)]
@@ -578,10 +602,16 @@ def test_account_messages_leave_threads_for_calls(open_bridge: Bridge) -> None:
     answers = []
     locks = open_bridge.application.accounts._locks
     with locks.held(EMAIL):
-        threads = [threading.Thread(target=lambda: answers.append(create(open_bridge))) for _ in range(4)]
+        threads = [
+            threading.Thread(
+                target=lambda client: answers.append(create(open_bridge, client=client)),
+                args=(f"192.0.2.{n}",),
+            )
+            for n in range(4)
+        ]
         for thread in threads:
             thread.start()
-        wait_until(lambda: not open_bridge.application.account_places._places._value)
+        wait_until(lambda: not open_bridge.application.account_places.places._places._value)
         assert create(open_bridge, "bob@sums.example") == look_up(open_bridge) == -183
         assert (
             key_or_number(open_bridge.got("/p/lookup_account.php?email_addr=ann-key&passwd_hash=00")) == -183
@@ -703,7 +733,12 @@ def test_creations_at_once_are_one(open_bridge: Bridge, twin: Twin, monkeypatch:
 
     monkeypatch.setattr("bsched_bridge.passwords.scrypt", slow)
     answers = []
-    threads = [threading.Thread(target=lambda: answers.append(create(open_bridge))) for _ in range(4)]
+    threads = [
+        threading.Thread(
+            target=lambda client: answers.append(create(open_bridge, client=client)), args=(f"192.0.2.{n}",)
+        )
+        for n in range(4)
+    ]
     for thread in threads:
         thread.start()
     for thread in threads:
@@ -780,3 +815,148 @@ def test_nothing_secret_is_logged(
 
 def test_addresses_as_the_manager_has_them() -> None:
     assert is_email("ann@sums.example") and is_email("ann+b@a-b.co.uk") and is_email("é@sums.example")
+
+
+# ---- What only two messages at once bring about
+
+
+def fault_of(act: Callable[[], object]) -> Fault:
+    """Returns the fault of an action."""
+    with pytest.raises(AccountFault) as raised:
+        act()
+    return raised.value.fault
+
+
+def test_a_new_account_is_as_its_row_says(open_bridge: Bridge) -> None:
+    accounts = open_bridge.application.accounts
+    made = accounts.create(EMAIL, own_client_hash("secret1", EMAIL), "ann", False, CLIENT)
+    assert made == replace(open_bridge.members.of_key(made.authenticator), is_imported=False)
+
+
+def test_all_accounts_are_read_part_by_part(open_bridge: Bridge, monkeypatch: pytest.MonkeyPatch) -> None:
+    keys = [
+        create(open_bridge, f"user{number}@sums.example", client=f"192.0.2.{number}") for number in range(5)
+    ]
+    monkeypatch.setattr("bsched_bridge.members.ROWS_AT_ONCE", 2)
+    assert [member.authenticator for member in open_bridge.members.all()] == keys
+
+
+def test_an_address_that_another_account_takes_at_the_same_moment(open_bridge: Bridge) -> None:
+    create(open_bridge)
+    other = open_bridge.members.of_key(create(open_bridge, "bob@sums.example"))
+    with pytest.raises(EmailTaken):
+        open_bridge.members.set_password(other, EMAIL, other.secret)
+
+
+def test_what_is_no_address_or_no_hash_counts_as_no_wrong_password(open_bridge: Bridge) -> None:
+    key, accounts = create(open_bridge), open_bridge.application.accounts
+    for _ in range(11):
+        wrong = own_client_hash("secret1", "nobody")
+        assert fault_of(lambda: accounts.look_up("nobody", wrong, CLIENT)) is Fault.WRONG
+        assert fault_of(lambda: accounts.look_up(EMAIL, "no hash", CLIENT)) is Fault.WRONG
+    assert look_up(open_bridge) == key
+
+
+def test_a_deletion_of_an_account_that_has_another_address_meanwhile(
+    open_bridge: Bridge, monkeypatch: pytest.MonkeyPatch
+) -> None:
+    accounts, key = open_bridge.application.accounts, create(open_bridge)
+    look_up_before = accounts.look_up
+
+    def meanwhile(*words: str) -> Member:
+        member = look_up_before(*words)
+        open_bridge.members.set_password(member, "new@sums.example", member.secret)
+        if is_taken:
+            create(open_bridge)
+        return member
+
+    for is_taken in (False, True):
+        monkeypatch.setattr(accounts, "look_up", meanwhile)
+        assert (
+            fault_of(lambda: accounts.delete(EMAIL, own_client_hash("secret1", EMAIL), CLIENT)) is Fault.WRONG
+        )
+        monkeypatch.undo()
+        assert not accounts.is_deleted(key)
+        member = open_bridge.members.of_key(key)
+        if not is_taken:
+            open_bridge.members.set_password(member, EMAIL, member.secret)
+
+
+def test_a_password_of_an_account_that_is_deleted_meanwhile(
+    open_bridge: Bridge, monkeypatch: pytest.MonkeyPatch
+) -> None:
+    accounts, key = open_bridge.application.accounts, create(open_bridge)
+    new_secret = accounts.passwords.new_secret
+
+    def meanwhile(*words: str) -> Secret:
+        accounts.barring.delete(key, 7)
+        return new_secret(*words)
+
+    monkeypatch.setattr(accounts.passwords, "new_secret", meanwhile)
+    password = own_client_hash("secret2", EMAIL)
+    assert fault_of(lambda: accounts.set_password(key, EMAIL, password, CLIENT)) is Fault.WRONG_KEY
+
+
+def test_an_account_that_vanishes_before_its_import_is_sent_again(
+    open_bridge: Bridge, twin: Twin, monkeypatch: pytest.MonkeyPatch
+) -> None:
+    twin.import_faults = ["unheard"]
+    assert create(open_bridge) == -183
+    monkeypatch.setattr(open_bridge.application.accounts.members, "of_key", lambda _key: None)
+    open_bridge.application.accounts.resend_open()
+    assert len(twin.imports) == 1
+
+
+def test_a_call_of_an_unknown_account_is_sent_once(open_bridge: Bridge, twin: Twin) -> None:
+    assert "Invalid or missing account key" in value(open_bridge.call(request(key="nobody")), "message")
+    assert len(twin.heard) == 1
+    key = create(open_bridge)
+    twin.faults = ['{"error":"bad_account","number":9}']
+    twin.import_faults = ['{"error":"table_full","number":18}']
+    before = len(twin.heard)
+    assert "Invalid or missing account key" in value(open_bridge.call(request(key=key)), "message")
+    assert len(twin.heard) == before + 1
+
+
+def test_a_busy_bridge_says_so(open_bridge: Bridge, monkeypatch: pytest.MonkeyPatch) -> None:
+    create(open_bridge)
+    accounts = open_bridge.application.accounts
+
+    def busy(*_words: object) -> bool:
+        raise TooBusy
+
+    monkeypatch.setattr(accounts.passwords, "is_right", busy)
+    password = own_client_hash("secret1", EMAIL)
+    assert fault_of(lambda: accounts.look_up(EMAIL, password, CLIENT)) is Fault.TOO_BUSY
+
+
+def test_a_hash_that_finds_no_place(monkeypatch: pytest.MonkeyPatch) -> None:
+    made = Passwords(Cost(2**4, 8, 1))
+    with made._clients.held(CLIENT), pytest.raises(TooBusy):
+        made.new_secret("0" * 32, CLIENT)
+    for _ in range(passwords.AT_ONCE + passwords.WAITING):
+        made._places.acquire()
+    faults: list[str] = []
+
+    def ask() -> None:
+        try:
+            made.new_secret("0" * 32, CLIENT)
+        except Exception as fault:
+            faults.append(type(fault).__name__)
+
+    thread = threading.Thread(target=ask, daemon=True)
+    thread.start()
+    thread.join(5)
+    assert faults == ["TooBusy"]
+    made._places.release()
+    made.new_secret("0" * 32, CLIENT)
+
+
+def test_a_key_that_was_active_lately_is_not_before_one_that_was_not(monkeypatch: pytest.MonkeyPatch) -> None:
+    monkeypatch.setattr("bsched_bridge.limits.MOST_KEYS", 2)
+    now = 0.0
+    counts = RecentCounts(5, 5, lambda: now)
+    for now, key in ((0.0, "a"), (1.0, "b"), (4.0, "a")):
+        assert counts.take(key)
+    now = 7.0
+    assert counts.take("c")  # in place of b, which did nothing for six seconds

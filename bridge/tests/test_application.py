@@ -1,15 +1,15 @@
 """The pages, the downloads, and messages that the bridge refuses."""
-from typing import Any
 import os
 import re
 import xml.etree.ElementTree as ElementTree
+from typing import Any
 
 import pytest
+from bridges import Bridge
 from messages import FIRST, jobs, names, request, value
 
 from bsched_bridge import client_requests
 from bsched_bridge.code_signing import file_md5, signature_text
-from bridges import Bridge
 
 
 def test_the_master_page_has_both_forms(bridge: Bridge) -> None:
@@ -53,8 +53,8 @@ def test_an_account_is_looked_up_by_its_key(bridge: Bridge) -> None:
     for _ in range(20):  # without [accounts] the peer may be a proxy, so wrong keys don't count
         account_answer(bridge, "lookup_account.php?authenticator=nobody")
     assert account_answer(bridge, "lookup_account.php?authenticator=ann-key").tag == "account_out"
-    with bridge.application.account_places.taken(), bridge.application.account_places.taken():
-        with bridge.application.account_places.taken(), bridge.application.account_places.taken():
+    with bridge.application.account_places.places.taken(), bridge.application.account_places.places.taken():
+        with bridge.application.account_places.places.taken(), bridge.application.account_places.places.taken():
             answer = account_answer(bridge, "lookup_account.php?authenticator=ann-key")
     assert answer.findtext("error_num") == "-183"
     bridge.twin.close()

@@ -1,12 +1,13 @@
 """Credit from earlier files of the project is added to replies and to pages, and host numbers of such files
 name no host of the present one.
 """
-from pathlib import Path
 import re
 import sqlite3
+from pathlib import Path
 
 import plain_tables
 import pytest
+from bridges import Bridge
 from messages import FIRST, request, value
 from twin import Twin
 
@@ -14,7 +15,6 @@ from bsched_bridge.archives import Archives, read_archives
 from bsched_bridge.hosts import Key
 from bsched_bridge.operator_files import OperatorFault
 from bsched_bridge.settings import read_settings
-from bridges import Bridge
 
 
 def archive(path: Path, credits: dict[tuple[str, str], int]) -> Path:

@@ -1,6 +1,4 @@
 """What the operator's commands and volunteers do to accounts: lists, barring, deletion, and copies."""
-from pathlib import Path
-from typing import Any
 import io
 import json
 import os
@@ -9,17 +7,19 @@ import sqlite3
 import subprocess
 import sys
 from contextlib import redirect_stderr, redirect_stdout
+from pathlib import Path
+from typing import Any
 from urllib.parse import urlencode
 
 import pytest
+from bridges import Bridge
 from joining import CLIENT, client_hash, create, look_up
 from messages import request, value
 
 from bsched_bridge.__main__ import main
 from bsched_bridge.barring import Barred, forget
-from bsched_bridge.state_file import StateFault, StateFile
-from bridges import Bridge
 from bsched_bridge.scheduler import Reply
+from bsched_bridge.state_file import StateFault, StateFile
 
 ANN, PASSWORD = "ann@sums.example", "secret1"
 FORM = "application/x-www-form-urlencoded"

@@ -1,8 +1,8 @@
 """What the bridge keeps in its state file about keys and numbers."""
+import threading
 from collections.abc import Iterator
 from pathlib import Path
 from typing import Any
-import threading
 
 import pytest
 

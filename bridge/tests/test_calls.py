@@ -1,15 +1,14 @@
 """The JSON of calls, at the limits of the profile."""
-from typing import Any
 import json
 from dataclasses import replace
+from typing import Any
 
 import pytest
 from messages import request
 from plain_formats import record_of
 
 from bsched_bridge import calls
-from bsched_bridge.client_requests import Report, read_request
-from bsched_bridge.client_requests import ClientRequest
+from bsched_bridge.client_requests import ClientRequest, Report, read_request
 
 REQUEST = read_request([request(hostid=7).encode()])
 

@@ -1,21 +1,19 @@
 """What the bridge reads from XML, and what it refuses."""
-from typing import Any
 import re
 import subprocess
 import sys
 import time
 from pathlib import Path
+from typing import Any
 
 import pytest
-from hypothesis import example, given
-from hypothesis import strategies as st
 from hostile import SHAPES
+from hypothesis import example, given, strategies as st
 from messages import request
 
 from bsched_bridge import client_requests, request_parts
-from bsched_bridge.client_requests import Report
-from bsched_bridge.request_parts import MOST_XML, RequestFault, between
-from bsched_bridge.client_requests import ClientRequest
+from bsched_bridge.client_requests import ClientRequest, Report
+from bsched_bridge.request_parts import MOST_XML, Parts, RequestFault, between
 
 RECORDED = Path(__file__).parent / "requests"
 
@@ -24,7 +22,7 @@ def recorded(name: str) -> bytes:
     return (RECORDED / f"{name}.xml").read_bytes()
 
 
-def read_request(body: bytes, size: int = 65_536) -> ClientRequest | None:
+def read_request(body: bytes, size: int = 65_536) -> ClientRequest:
     """Returns the request in a body that comes in blocks of a size."""
     return client_requests.read_request(body[start : start + size] for start in range(0, len(body), size))
 
@@ -313,3 +311,24 @@ def test_a_result_whose_upload_was_given_up_is_no_success(
     )
     (result,) = read_request(body.encode()).results
     assert (result.exit_status, result.output) == report
+
+
+def test_ends_within_a_standard_error() -> None:
+    def output(text: str) -> str:
+        (result,) = read_request(request(reports=[("u1_0", text)]).encode()).results
+        return result.output
+
+    assert output("a</stderr_txt>b") == "a</stderr_txt>b"  # up to the last end
+    assert output("<answer>1</answer> or <answer>2</answer>") == "1"  # the first answer
+
+
+def test_a_request_that_ends_in_a_standard_error_or_a_message() -> None:
+    begin = request(reports=[("u1_0", "42")]).encode().partition(b"42")[0]
+    with pytest.raises(RequestFault, match="the request is incomplete"):
+        read_request(begin)
+    assert b"".join(Parts([b"<a><msg_from_host>", b"x"]).xml()) == b"<a>"
+
+
+def test_many_results_are_read() -> None:
+    body = request(reports=[(f"u{number}_0", "42") for number in range(1500)])
+    assert len(read_request(body.encode()).results) == 1500

@@ -1,6 +1,7 @@
 """Keys and signatures in BOINC's form."""
 from pathlib import Path
 from typing import Any
+
 import pytest
 from test_operator_files import ordered
 

@@ -1,13 +1,14 @@
 """Digest programs: what they can reach, how they end, and what bsched gets."""
-from collections.abc import Callable
-from typing import Any
 import shutil
 import socket
 import subprocess
 import time
+from collections.abc import Callable
 from pathlib import Path
+from typing import Any
 
 import pytest
+from bridges import Bridge
 from messages import FIRST, names
 from test_report_checks import reported, worked
 from uploading import on_disk, report, sha256_of
@@ -17,7 +18,6 @@ from bsched_bridge.catalogue import read_catalogue
 from bsched_bridge.digest_programs import BadFiles, DigestFault, DigestProgram, check_digest, digest_of
 from bsched_bridge.operator_files import OperatorFault
 from bsched_bridge.output_files import OutputFile
-from bridges import Bridge
 
 EXAMPLES = Path(__file__).resolve().parent.parent.parent / "examples" / "digest_programs"
 OUT = OutputFile("out", 1000, False, True), OutputFile("log", 1000, True, False)
@@ -153,7 +153,7 @@ def test_a_fault_of_the_sandbox_is_no_fault_of_the_files(
 # ---- The examples
 
 
-def example(name: str, tmp_path: Path, *texts: str) -> str | None:
+def example(name: str, tmp_path: Path, *texts: str) -> str:
     """Returns what an example prints for files with these texts."""
     files = []
     for place, text in enumerate(texts):

@@ -1,19 +1,20 @@
 """The promises of the bridge: counts, lost answers, restarts, and what a client sees of a refusal."""
-from pathlib import Path
-from typing import Any
 import json
 import threading
+import time
+from pathlib import Path
+from typing import Any
 
 import pytest
+from bridges import Bridge
 from joining import wait_until
 from messages import FIRST, jobs, names, request, value
 from twin import Twin
 
-from bsched_bridge.hosts import FIRST_KEY, Key
-from bsched_bridge.scheduler import Job, NoAnswer, Reply
 from bsched_bridge.call_numbers import MOST_OF_STRANGERS
 from bsched_bridge.exchange import Resending, jobs_with
-from bridges import Bridge
+from bsched_bridge.hosts import FIRST_KEY, Key
+from bsched_bridge.scheduler import Job, NoAnswer, Reply
 
 
 def test_a_first_call(bridge: Bridge, twin: Twin) -> None:
@@ -361,6 +362,7 @@ def test_refusals(bridge: Bridge, twin: Twin, error: str) -> None:
     assert message in value(reply, "message")
     assert f'priority="{priority}"' in reply.decode()
     assert value(reply, "request_delay") == delay
+    assert value(reply, "project_is_down") == ("1" if error == "unavailable" else None)
     assert names(reply, "result_ack") == []
     assert names(bridge.call(request(hostid=FIRST, reports=[("u1_0", "42")])), "result_ack") == ["u1_0"]
 
@@ -432,3 +434,34 @@ def test_a_resent_call_that_is_refused_is_let_go(bridge: Bridge, twin: Twin) -> 
     twin.faults = ["unheard"] * 3 + ['{"error":"hosts_full","number":12}']
     bridge.call(request())
     assert jobs(bridge.call(request())) == ["u1_0"]
+
+
+def test_a_call_that_was_sent_again_and_is_refused_is_closed(bridge: Bridge, twin: Twin) -> None:
+    bridge.call(request())
+    twin.faults = ["unheard"] * 3
+    bridge.call(request(hostid=FIRST, listed=["u1_0"]))
+    twin.faults = ['{"error":"hosts_full","number":12}']
+    bridge.application.exchange.resend(Key("ann-key", "c1"))
+    assert bridge.numbers.open_call(Key("ann-key", "c1")) is None
+    assert bridge.numbers.next_open(FIRST_KEY) is None
+
+
+def test_the_thread_that_sends_again_pauses_and_ends(bridge: Bridge) -> None:
+    began: list[float] = []
+
+    def imports() -> None:
+        began.append(time.monotonic())
+        time.sleep(0.2)
+
+    resending = Resending(bridge.application.exchange, 60, imports)
+    assert resending.daemon  # the process can end without it
+    resending.start()
+    wait_until(lambda: began)
+    resending.end()
+    assert not resending.is_alive() and time.monotonic() - began[0] >= 0.2
+    began.clear()
+    resending = Resending(bridge.application.exchange, 0.05, imports)
+    resending.start()
+    wait_until(lambda: len(began) == 3)  # once in each round
+    resending.end()
+    assert began[2] - began[1] >= 0.25

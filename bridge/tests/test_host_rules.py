@@ -1,12 +1,12 @@
 """How many hosts an account may have, and barred accounts. The settings are read again without a restart."""
-from pathlib import Path
 import os
 import threading
+from pathlib import Path
 
 import pytest
+from bridges import Bridge
 from messages import FIRST, request, value
 from twin import Twin
-from bridges import Bridge
 
 FULL = "Your account has 3 computers at this project, and may have no more."
 

@@ -1,13 +1,14 @@
 """Whose host a client is: numbers that clients were told, changed host_cpids, copies, and lost state files."""
 from pathlib import Path
+
 import pytest
+from bridges import Bridge
 from messages import FIRST, jobs, names, request, value
 from random_lives import further_file
+from twin import Twin
 
 from bsched_bridge.host_search import MOST_SEARCHES
 from bsched_bridge.hosts import FIRST_SECOND, LAST_BY_CLOCK, Hosts, Key
-from twin import Twin
-from bridges import Bridge
 
 A, B = FIRST, FIRST + 1  # two computers of Ann
 
@@ -317,3 +318,45 @@ def test_a_host_without_a_reply_is_forgotten_after_a_refusal_and_one_with_a_numb
     hosts = Hosts(two.file)
     assert hosts.of_number("ann-key", A).key == Key("ann-key", "a")
     assert two.file.row("SELECT count(*) FROM host") == (2,)
+
+
+# ---- Calls for a host that are not of its client
+
+
+def test_a_call_for_another_host_asks_for_no_work_and_takes_no_job(two: Bridge, twin: Twin) -> None:
+    """A has u3_0 in hand, since the reply may be lost, when an unknown client reports u1_0 of A."""
+    assert jobs(two.call(request(hostid=A, cpid="a", seqno=1, listed=["u1_0"]))) == ["u3_0"]
+    before = len(twin.heard)
+    reply = two.call(request(hostid=77, cpid="x", reports=[("u1_0", "42")]))
+    assert names(reply, "result_ack") == ["u1_0"] and recorded(twin, "u1_0") == "a"
+    aside = [call for call in twin.calls()[before:] if call["rpc_seqno"] and call["results"]]
+    assert [(call["host_info"]["host_cpid"], call["work_req_seconds"]) for call in aside] == [("a", 0)]
+    assert two.numbers.jobs_in_hand(Key("ann-key", "a")) != []
+    assert jobs(two.call(request(hostid=A, cpid="a", seqno=2, seconds=0))) == ["u3_0"]
+    assert twin.calls()[-1]["other_results"] == ["u3_0"]
+
+
+def test_an_open_call_of_another_host_is_sent_before(two: Bridge, twin: Twin) -> None:
+    twin.faults = ["lost"] * 3
+    two.call(request(hostid=A, cpid="a", seqno=1, listed=["u1_0"]))
+    before = len(twin.heard)
+    two.call(request(hostid=77, cpid="x", reports=[("u1_0", "42")], seconds=0))
+    calls = [body for body, call in zip(twin.heard, twin.calls()) if call["rpc_seqno"]]
+    number = next(place for place, body in enumerate(twin.heard) if place >= before and body in calls)
+    assert twin.heard[number] == twin.heard[before - 1]
+    assert jobs(two.call(request(hostid=A, cpid="a", seqno=2, seconds=0))) == ["u3_0"]
+
+
+def test_a_copy_without_results_makes_no_call_for_its_original(two: Bridge, twin: Twin) -> None:
+    two.call(request(hostid=A, cpid="a", seqno=5, listed=["u1_0"], seconds=0))
+    twin.service = further_file(twin.service, 1)  # which does not have the original
+    before = len(twin.heard)
+    two.call(request(hostid=A, cpid="a", seqno=1, listed=["u1_0"], seconds=0))
+    keys = [call["host_info"]["host_cpid"] for call in twin.calls()[before:] if call["rpc_seqno"]]
+    assert len(keys) == 1 and keys != ["a"]
+
+
+def test_without_names_no_statement_is_asked_for(two: Bridge, twin: Twin) -> None:
+    before = len(twin.heard)
+    assert two.application.exchange.search.held(Key("ann-key", "a"), set()) == set()
+    assert len(twin.heard) == before

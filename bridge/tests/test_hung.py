@@ -1,21 +1,21 @@
 """A bsched that hangs: it takes connections and gives no answer."""
-from collections.abc import Callable, Iterator
-from typing import Any
 import http.client
 import socket
 import threading
 import time
+from collections.abc import Callable, Iterator
+from typing import Any
 
 import pytest
 import waitress  # type: ignore[import]
+from bridges import Bridge
 from joining import wait_until
 from messages import request
+from twin import Twin
 
 from bsched_bridge import scheduler
-from bsched_bridge.scheduler import Hung, NoAnswer, Scheduler
+from bsched_bridge.scheduler import Hung, NoAnswer, Refusal, Scheduler, read_refusal
 from bsched_bridge.settings import Address
-from twin import Twin
-from bridges import Bridge
 
 
 @pytest.fixture
@@ -101,3 +101,19 @@ def test_pages_and_files_are_answered_while_bsched_hangs(
     # without free threads it would take until the first time-out, and longer with more clients
     assert took < bridge.application.scheduler.answer_seconds
     assert scheduler.SLOW_SECONDS < 2
+
+
+def test_a_message_that_has_just_begun_is_not_slow(twin: Twin, monkeypatch: pytest.MonkeyPatch) -> None:
+    asked = Scheduler(twin.address, 1)
+    with asked._waiting():
+        assert not asked.is_slow
+        monkeypatch.setattr("bsched_bridge.scheduler.SLOW_SECONDS", -1.0)
+        assert asked.is_slow
+    assert not asked.is_slow
+
+
+def test_what_is_no_refusal_of_bsched_is_no_answer() -> None:
+    for body in ({"error": 5}, {"number": 5}, ["error"], "error", None):
+        with pytest.raises(NoAnswer):
+            read_refusal(400, body)
+    assert read_refusal(400, {"error": "stale", "last": 5}) == Refusal("stale", {"last": 5})

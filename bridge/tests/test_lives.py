@@ -1,17 +1,16 @@
 """Random lives of clients. Answers, replies and bridges get lost, and nothing else does."""
-from pathlib import Path
-from typing import Any
 import http.client
 import json
 import random
 import socket
 import threading
 import time
+from pathlib import Path
+from typing import Any
 
 import pytest
 from messages import jobs, names, request, value
 from random_lives import LIFE_SETTINGS, Life, SimulatedClock, life_twin
-
 from trial.programs import Bridge
 from twin import Twin
 
@@ -34,7 +33,7 @@ class Client:
         )
 
     def call(
-        self, bridge: KilledBridge | Bridge, chance: Any, loses: bool, seconds: int = 61
+        self, bridge: "KilledBridge | Bridge", chance: Any, loses: bool, seconds: int = 61
     ) -> bytes | None:
         """Calls. The reply may get lost on the way, and the bridge may be killed."""
         self.finished |= {name for name in self.working if chance.random() < 0.5}
@@ -155,7 +154,7 @@ def test_each_acknowledged_report_is_recorded_and_no_job_is_given_twice(
 class KilledBridge(Bridge):
     """A bridge in a process of its own."""
 
-    def call(self, body: str) -> bytes | None:
+    def call(self, body: str) -> bytes:
         """Returns the reply to a scheduler_request. Raises OSError or HTTPException if the bridge is killed
         before the reply comes.
         """

@@ -1,19 +1,19 @@
 """Faults of the settings and of the catalogue are reported with their line."""
-from pathlib import Path
-from typing import Any
 import re
 import socket
 import subprocess
 import sys
+from pathlib import Path
+from typing import Any
 
 import pytest
 from bridges import BRIDGE
+from twin import Twin
 
 from bsched_bridge.catalogue import read_catalogue
 from bsched_bridge.code_signing import new_key, signature_text
 from bsched_bridge.operator_files import OperatorFault
 from bsched_bridge.settings import AccountSettings, Address, HostRules, read_settings
-from twin import Twin
 
 
 def test_settings(project: Path) -> None:

@@ -1,19 +1,19 @@
 """The pages for people: what they show, their forms, and what a browser may do with them."""
-from pathlib import Path
-from typing import Any
 import json
 import re
 import threading
 from html.parser import HTMLParser
+from pathlib import Path
+from typing import Any
 from urllib.parse import urlencode
 
 import pytest
+from bridges import Bridge
 from joining import CLIENT, create, look_up
 from messages import request
+from twin import Twin
 
 from bsched_bridge.markup import STYLE, Markup, element, joined, linked, paragraphs, table
-from twin import Twin
-from bridges import Bridge
 
 EMPTY = {"meta", "link", "input", "br"}
 FORM = "application/x-www-form-urlencoded"

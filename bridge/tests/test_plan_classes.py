@@ -1,16 +1,15 @@
 """Plan classes: which platforms bsched gets, and what the reply says of a version."""
+import xml.etree.ElementTree as ElementTree
 from pathlib import Path
 from typing import Any
-import xml.etree.ElementTree as ElementTree
 
 import pytest
+from bridges import Bridge
 from messages import FIRST, jobs, request
 
-from bsched_bridge.client_requests import Coproc, read_request
+from bsched_bridge.client_requests import ClientRequest, Coproc, read_request
 from bsched_bridge.operator_files import OperatorFault
 from bsched_bridge.plan_classes import PlanClass, by_resource
-from bridges import Bridge
-from bsched_bridge.client_requests import ClientRequest
 
 X86, I686 = "x86_64-pc-linux-gnu", "i686-pc-linux-gnu"
 MT = PlanClass("mt", 2, 16, None, 1.0, None, None, "--nthreads {ncpus}")

@@ -1,16 +1,16 @@
 """Recent average credit: what the tools keep is in replies and on pages."""
-from pathlib import Path
 import hashlib
 import hmac
 import json
 import os
 import time
+from pathlib import Path
 
 import pytest
+from bridges import Bridge
 from messages import request, value
 
 from bsched_bridge.recent_credit import RecentCredit
-from bridges import Bridge
 
 DAY = 86400
 SALT = "5a17"

@@ -1,20 +1,19 @@
 """What bsched gets of reports whose results have output files, and which files are stored."""
-from collections.abc import Callable
-from typing import Any
 import hashlib
 import json
 import sqlite3
+from collections.abc import Callable
+from typing import Any
 
 import pytest
+from bridges import Bridge
 from messages import FIRST, jobs, names, request, value
-from twin import IMPORTS
+from twin import IMPORTS, Twin
 from uploading import file_info, on_disk, report, sent, sha256_of, tokens_of, upload
 
 from bsched_bridge.handed_out import HandedOut
 from bsched_bridge.hosts import Key
 from bsched_bridge.output_files import OutputFile, StoredOutput, compared_text
-from twin import Twin
-from bridges import Bridge
 
 PLAIN = """\
 [[app]]

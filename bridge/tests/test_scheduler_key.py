@@ -2,10 +2,10 @@
 import logging
 
 import pytest
+from twin import Twin
 
 from bsched_bridge import scheduler as module
 from bsched_bridge.scheduler import NoAnswer, Scheduler, asking_call
-from twin import Twin
 
 
 @pytest.fixture(autouse=True)
@@ -44,3 +44,10 @@ def test_a_program_that_is_no_scheduler(twin: Twin, monkeypatch: pytest.MonkeyPa
     with pytest.raises(NoAnswer, match="no answer of bsched"):
         bridge.call(asking_call("ann-key", "c1", 1))
     assert twin.heard == []
+
+
+def test_a_statement_shows_that_the_key_is_known(twin: Twin) -> None:
+    assert Scheduler(twin.address, 2).knows_key("change-this-key")  # this twin has a statement for each number
+    twin.statement = None
+    assert Scheduler(twin.address, 2).knows_key("change-this-key")
+    assert not Scheduler(twin.address, 2).knows_key("another")

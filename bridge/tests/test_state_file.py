@@ -1,8 +1,8 @@
 """The state file: only one bridge has it, older formats are upgraded, and other files are refused."""
-from pathlib import Path
 import os
 import re
 import sqlite3
+from pathlib import Path
 
 import pytest
 

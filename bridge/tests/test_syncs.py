@@ -1,12 +1,12 @@
 """What must outlive a power failure is synced before somebody else learns of it."""
+import json
 from collections.abc import Callable
 from typing import Any
-import json
 
 import pytest
+from bridges import Bridge
 from joining import create
 from messages import request
-from bridges import Bridge
 
 
 @pytest.fixture

@@ -1,14 +1,14 @@
 """Messages of programs, which the client sends as they are."""
-from typing import Any
 import time
+from typing import Any
 
 import pytest
+from bridges import Bridge
 from messages import FIRST, jobs, request, value
 
 from bsched_bridge import client_requests
-from bsched_bridge.request_parts import RequestFault
-from bridges import Bridge
 from bsched_bridge.client_requests import ClientRequest
+from bsched_bridge.request_parts import RequestFault
 
 # as client 7.20.5 sends it, after the last result and before <app_versions>
 MESSAGE = (
@@ -17,12 +17,12 @@ MESSAGE = (
 )
 
 
-def read_request(body: bytes) -> ClientRequest | None:
+def read_request(body: bytes) -> ClientRequest:
     """Returns the request in a body."""
     return client_requests.read_request([body])
 
 
-def with_messages(*texts: str, **more: int | list[Any]) -> str:
+def with_messages(*texts: str, **more: Any) -> str:
     """Returns a request with the messages of a program."""
     messages = "".join(MESSAGE.replace("TEXT", text) for text in texts)
     return request(**more).replace(

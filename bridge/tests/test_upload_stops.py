@@ -2,6 +2,7 @@
 from collections.abc import Callable, Iterator
 from pathlib import Path
 from typing import Any
+
 import pytest
 from bridges import Bridge
 from messages import FIRST, jobs, names, request
@@ -30,7 +31,7 @@ class Volunteer:
         yield "report", self.report
         yield "again", self.report
 
-    def job(self) -> bool | None:
+    def job(self) -> bool:
         """Gets a job, or gets it again."""
         reply = self.bridge.call(request(hostid=self.hostid(), seconds=60))
         self.tokens = tokens_of(reply) or self.tokens
@@ -40,11 +41,11 @@ class Volunteer:
         """Returns the number that the client was given."""
         return FIRST if self.done else 0
 
-    def upload(self, name: str, data: bytes, max_nbytes: int = 20_000) -> bool | None:
+    def upload(self, name: str, data: bytes, max_nbytes: int = 20_000) -> bool:
         """Uploads a file."""
         return sent(self.bridge, upload(name, data, self.tokens[name], max_nbytes=max_nbytes)) == 0
 
-    def report(self) -> bool | None:
+    def report(self) -> bool:
         """Reports the job."""
         infos = [file_info("u1_0_0", TWO), file_info("u1_0_1", LOG)]
         return names(self.bridge.call(report("u1_0", infos)), "result_ack") == ["u1_0"]

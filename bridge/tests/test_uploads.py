@@ -1,16 +1,19 @@
 """What the upload handler answers, and what it stores."""
-from pathlib import Path
 import io
 import os
 import subprocess
 import threading
 import xml.etree.ElementTree as ElementTree
 from dataclasses import replace
+from pathlib import Path
+from typing import Any
 
 import hypothesis
 import pytest
+from bridges import Bridge
 from hypothesis import strategies as st
 from messages import FIRST, jobs, request
+from twin import Twin
 from uploading import (
     AGAIN,
     ASKS_SIZE,
@@ -30,11 +33,9 @@ from bsched_bridge.catalogue import read_catalogue
 from bsched_bridge.operator_files import OperatorFault
 from bsched_bridge.settings import read_settings
 from bsched_bridge.upload_store import UploadStore, check_uploads
-from twin import Twin
-from bridges import Bridge
 
 
-def given(bridge: Bridge, **more: int | str) -> dict[str, str]:
+def given(bridge: Bridge, **more: Any) -> dict[str, str]:
     """Gives a client a job, and returns the tokens of its files."""
     reply = bridge.call(request(**more))
     assert jobs(reply)
@@ -146,7 +147,7 @@ def test_a_body_that_comes_in_small_pieces(file_bridge: Bridge) -> None:
     class Pieces(io.BytesIO):
         """A stream that gives a few bytes at a time after the head, as a slow connection does."""
 
-        def read(self, size: int = -1) -> bytes | None:
+        def read(self, size: int = -1) -> bytes:
             return super().read(min(size, 1000) if self.tell() else size)
 
     tokens = given(file_bridge)
@@ -217,7 +218,7 @@ def test_a_connection_that_fails_is_no_final_answer(file_bridge: Bridge) -> None
     class Failing(io.BytesIO):
         """A stream that fails after the head."""
 
-        def read(self, size: int = -1) -> bytes | None:
+        def read(self, size: int = -1) -> bytes:
             if self.tell():
                 raise ConnectionResetError
             return super().read(size)

@@ -1,9 +1,9 @@
 """A bsched for tests: the plain twin of bench/plain.py, served over HTTP. It can lose answers."""
-from typing import Any
 import json
 import threading
 import time
 from http.server import BaseHTTPRequestHandler, ThreadingHTTPServer
+from typing import Any
 
 import plain
 from plain_formats import Refused
@@ -49,6 +49,8 @@ def statement(machine: Any, number: int) -> str | None:
 
 class Handler(BaseHTTPRequestHandler):
     """The handler of one message."""
+
+    server: "Server"
 
     def do_POST(self) -> None:
         """Answers a call or an import."""
@@ -132,6 +134,8 @@ class Handler(BaseHTTPRequestHandler):
 class Server(ThreadingHTTPServer):
     """A server that prints nothing about broken connections."""
 
+    twin: "Twin"
+
     def handle_error(self, _request: Any, _address: tuple[str, int]) -> None:
         """Prints nothing."""
 
@@ -157,12 +161,16 @@ class Twin:
         )
         for kind, text in IMPORTS.items():
             self.service.imported(kind, "first", text)
-        self.lock, self.faults, self.heard, self.answers = threading.Lock(), [], [], []
-        self.import_faults, self.imports = [], []
-        self.statement = STATEMENT  # what each host gets as its statement; None: its own
+        self.lock = threading.Lock()
+        self.faults: list[str | None] = []
+        self.heard: list[bytes] = []
+        self.answers: list[str] = []
+        self.import_faults: list[str] = []
+        self.imports: list[tuple[str, str]] = []
+        self.statement: str | None = STATEMENT  # what each host gets as its statement; None: its own
         self.server = Server(("127.0.0.1", 0), Handler)
         self.server.twin = self
-        self.address = Address(*self.server.server_address)
+        self.address = Address("127.0.0.1", self.server.server_port)
         threading.Thread(target=self.server.serve_forever, args=(0.02,), daemon=True).start()
 
     def calls(self) -> Any:

@@ -1,12 +1,12 @@
 """What tests of uploads share: messages as BOINC's client 7.20.5 sends them, and what is on the disk."""
-from pathlib import Path
-from typing import Any
 import hashlib
 import re
 from collections.abc import Iterator
+from pathlib import Path
+from typing import Any
 
-from messages import FIRST, request
 from bridges import Bridge
+from messages import FIRST, request
 
 HEAD = """\
 <data_server_request>
@@ -62,7 +62,7 @@ def tokens_of(reply: bytes) -> dict[str, str]:
     }
 
 
-def upload(name: str, data: bytes, token: str, max_nbytes: int | str = 20_000, **more: int | str) -> bytes:
+def upload(name: str, data: bytes, token: str, max_nbytes: int | str = 20_000, **more: Any) -> bytes:
     """Returns the message that uploads a file."""
     values = {"nbytes": len(data), "md5": md5_of(data), "offset": 0, **more}
     return HEAD.format(name=name, token=token, max_nbytes=max_nbytes, **values).encode() + data
@@ -93,7 +93,7 @@ def report(
     output: str = "",
     status: int = 0,
     state: int = 5,
-    **more: str,
+    **more: Any,
 ) -> str:
     """Returns a request that reports a result with the elements of its files."""
     body = request(hostid=hostid, reports=[(result, output)], seconds=0, **more)
