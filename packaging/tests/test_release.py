@@ -113,8 +113,8 @@ def installed_pages() -> dict[str, str]:
             folder = target.removeprefix("usr/share/doc/bsched/")
             places |= {str(one.relative_to(TOP)): f"{folder}/{one.name}" for one in TOP.glob(source)}
     for line in (TOP / "debian" / "bsched-tools.links").read_text().splitlines():
-        _, target = line.split()
-        places["bridge/README.md"] = target.removeprefix("usr/share/doc/bsched/")
+        source, target = line.split()
+        places[f"bridge/{Path(source).name}"] = target.removeprefix("usr/share/doc/bsched/")
     return places
 
 
