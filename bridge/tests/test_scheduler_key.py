@@ -47,7 +47,9 @@ def test_a_program_that_is_no_scheduler(twin: Twin, monkeypatch: pytest.MonkeyPa
 
 
 def test_a_statement_shows_that_the_key_is_known(twin: Twin) -> None:
-    assert Scheduler(twin.address, 2).knows_key("change-this-key")  # this twin has a statement for each number
+    assert Scheduler(twin.address, 2).knows_key(
+        "change-this-key"
+    )  # this twin has a statement for each number
     twin.statement = None
     assert Scheduler(twin.address, 2).knows_key("change-this-key")
     assert not Scheduler(twin.address, 2).knows_key("another")

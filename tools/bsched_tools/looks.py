@@ -107,7 +107,9 @@ def fresh_copy(project: Project, stack: ExitStack) -> Look:
     left is removed by the next one.
     """
     folder = stack.enter_context(work_folder(project.made(project.units().copies, 0o700)))
-    copied = copy_tables(project.tables, folder / "now.db")
+    own = folder / "look"  # this process holds the folder above it
+    own.mkdir()
+    copied = copy_tables(project.tables, own / "now.db")
     return Look(copied.path, True, copied.still_seconds is not None)
 
 
