@@ -43,10 +43,10 @@ def test_the_tools_complete_each_option() -> None:
     for command, options in synopsis("bsched-tools.1").items():
         if command:
             words = f". {TOP}/packaging/completion/bsched-tools; _bsched_tools_options {command}"
-            told = subprocess.run(
+            completed = subprocess.run(
                 ["bash", "-c", words], capture_output=True, text=True, timeout=60, check=True
             )
-            assert set(told.stdout.split()) == options, command
+            assert set(completed.stdout.split()) == options, command
 
 
 def test_the_man_page_of_the_settings_has_each_key_of_the_profile() -> None:

@@ -16,16 +16,16 @@ from .doctor import examined
 from .exports import export
 from .faults import Fault
 from .files import replace_file
-from .handing import handed_on
+from .handing import hand_on
 from .health import findings_of, mail_changes, worst_of
 from .import_files import KINDS, ImportFile, checked
-from .imports import imported
+from .imports import import_file
 from .jobs import host_lines, workunit_lines
 from .members import agreed_in
 from .projects import PROGRAM, Project, project_of
 from .results import write_results
 from .tables import opened
-from .volunteers import Volunteers, asked_of_bridge, volunteers_of
+from .volunteers import Volunteers, ask_bridge, volunteers_of
 from .work_commands import WORK_COMMANDS
 
 FAULT = 1
@@ -95,7 +95,7 @@ def copy_state(project: Project, folder: Path, keep: int | None) -> None:
     state = project.bridge_state
     if state is not None and state.exists():
         args = ["copy", "--config", str(project.bridge_file), "--to", str(folder)]
-        print(asked_of_bridge([*args, *([] if keep is None else ["--keep", str(keep)])]), end="")
+        print(ask_bridge([*args, *([] if keep is None else ["--keep", str(keep)])]), end="")
 
 
 def results(args: Arguments) -> None:
@@ -122,7 +122,7 @@ def results(args: Arguments) -> None:
 def process(args: Arguments) -> None:
     """Hands new results to the operator's program."""
     project = project_named(args) or project_of(args.project)
-    print(handed_on(project, project.units(), chosen(project).names))
+    print(hand_on(project, project.units(), chosen(project).names))
 
 
 def counts(args: Arguments) -> None:
@@ -239,7 +239,7 @@ def load(args: Arguments) -> int:
     project = project_named(args) or project_of(args.project)
     kinds = list(KINDS)
     for file in sorted(good, key=lambda file: kinds.index(file.kind.name)):
-        print_lines(imported(project, file, args.batch))
+        print_lines(import_file(project, file, args.batch))
     return 0
 
 

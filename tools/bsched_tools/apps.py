@@ -19,7 +19,7 @@ from .catalogue_file import FILE_NAME, UPLOAD_NAME, WORKUNIT, CatalogueFile, mad
 from .counts import MOST
 from .faults import Fault
 from .import_files import AGREEMENT, MOST_DISTANCE, read_import
-from .imports import imported
+from .imports import import_file
 from .inputs import digest_of
 from .looks import check_importing, tables_of
 from .projects import Project
@@ -299,7 +299,7 @@ def import_rows(project: Project, kind: str, text: bytes) -> None:
     file = read_import(Path(f"{kind}.csv"), text)
     if isinstance(file, str):
         raise AssertionError(file)
-    for _ in imported(project, file):
+    for _ in import_file(project, file):
         pass
 
 
@@ -328,7 +328,7 @@ def advice_to_sign(addition: Addition, names: list[str]) -> Iterator[str]:
     yield f"Put the signatures into {addition.catalogue.path.parent}, and run the same command again."
 
 
-def added(project: Project, app: NewApp, key: Path | None) -> Iterator[str]:
+def add_app(project: Project, app: NewApp, key: Path | None) -> Iterator[str]:
     """Adds an application or a version, and yields what was done."""
     check_words(app)
     catalogue = CatalogueFile(project)

@@ -125,7 +125,7 @@ class CatalogueFile:
         new = self.path.with_name(f".{self.path.name}.new")
         try:
             write_file(self.project, new, text.encode())
-            checked_by_bridge(self.project, new)
+            check_by_bridge(self.project, new)
             os.replace(new, self.path)
             sync(self.path.parent)
         except OSError as error:
@@ -186,7 +186,7 @@ def made_for_group(project: Project, folder: Path) -> Path:
     return folder
 
 
-def checked_by_bridge(project: Project, catalogue: Path) -> None:
+def check_by_bridge(project: Project, catalogue: Path) -> None:
     """Has the bridge check its settings with a catalogue, as the user who runs it."""
     words = [
         *command_of_bridge(),

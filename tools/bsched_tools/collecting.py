@@ -120,7 +120,7 @@ class Collector:
         sync(self.folder)
 
 
-def collected(project: Project, look: Look, batch: str | None, folder: Path) -> Iterator[str]:
+def collect_files(project: Project, look: Look, batch: str | None, folder: Path) -> Iterator[str]:
     """Collects the outputs of a batch, or all, into a folder, and yields what was done."""
     try:
         folder.mkdir(exist_ok=True)

@@ -14,7 +14,7 @@ from .results import write_results
 TURN_SECONDS = 0.0  # another run is at work, and will do it
 
 
-def handed_on(project: Project, settings: UnitSettings, names: dict[str, str]) -> str:
+def hand_on(project: Project, settings: UnitSettings, names: dict[str, str]) -> str:
     """Hands new results to the program of the settings, and says what was done."""
     if not settings.results_command:
         where = project.folder / "units.toml"

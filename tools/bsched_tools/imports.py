@@ -159,7 +159,7 @@ def refusal_text(answer: dict[str, Any], file: ImportFile, batch: Batch) -> str:
     return f"{where}{ADVICE.get(error, f'bsched refuses it as {error}')}"
 
 
-def imported(project: Project, file: ImportFile, name: str | None = None) -> Iterator[str]:
+def import_file(project: Project, file: ImportFile, name: str | None = None) -> Iterator[str]:
     """Imports a file, and yields a line for each batch. A refusal is a fault; the batches before it stay."""
     if not file.rows:
         yield f"{file.path}: it has no rows, so nothing is imported"

@@ -346,7 +346,7 @@ def sum_lines(plan: Plan, left: list[tuple[Input, Path]], missing: list[Batch], 
     yield f"room       {room - needed:,} of {MOST['unit']:,} workunits are left afterwards"
 
 
-def submitted(project: Project, plan: Plan, is_dry: bool) -> Iterator[str]:
+def submit_work(project: Project, plan: Plan, is_dry: bool) -> Iterator[str]:
     """Makes a batch of work, and yields what is done. Nothing is changed before all is checked."""
     check_record(project, plan)
     with tables_of(project) as (look, tables):

@@ -26,7 +26,7 @@ def command_of_bridge() -> list[str]:
     return [installed] if installed else [sys.executable, "-m", "bsched_bridge"]
 
 
-def asked_of_bridge(args: list[str]) -> str:
+def ask_bridge(args: list[str]) -> str:
     """Returns what a command of the bridge prints."""
     command = [*command_of_bridge(), *args]
     try:
@@ -45,7 +45,7 @@ def volunteers_of(project: Project) -> Volunteers:
     state = project.bridge_state
     if state is None or not state.exists():
         return Volunteers()
-    output = asked_of_bridge(["consented", "--config", str(project.bridge_file), "--json"])
+    output = ask_bridge(["consented", "--config", str(project.bridge_file), "--json"])
     rows = [json.loads(line) for line in output.splitlines()]
     return Volunteers(
         frozenset(row["authenticator"] for row in rows if not row["is_deleted"]),

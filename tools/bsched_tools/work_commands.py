@@ -5,16 +5,16 @@ import sys
 import time
 from collections.abc import Callable, Iterable
 
-from .apps import LINE_FOLDER, NewApp, added, input_member, output_member, read_files
+from .apps import LINE_FOLDER, NewApp, add_app, input_member, output_member, read_files
 from .bars import Bar
 from .catalogue_file import CatalogueFile
-from .collecting import collected
+from .collecting import collect_files
 from .faults import Fault
 from .inputs import Input, check_batch, combinations, lines_in, of_files, of_texts
 from .looks import NO_MEMBER, check_member, looked_at, tables_of, turn_of
 from .progress import earlier, names_in_batch, progress_lines, progress_of
 from .projects import Project, project_of
-from .submitting import CREDIT_OF_HOUR, Amounts, Plan, app_of, check_sizes, places_of, submitted
+from .submitting import CREDIT_OF_HOUR, Amounts, Plan, app_of, check_sizes, places_of, submit_work
 
 Arguments = argparse.Namespace
 WATCH_SECONDS = 10.0
@@ -46,7 +46,7 @@ def app(args: Arguments, printed: Printer) -> None:
     }
     files = read_files(args.program, args.file)
     with turn_of(project):
-        printed(added(project, NewApp(args.name, args.platform, files, args.agreement, members), args.key))
+        printed(add_app(project, NewApp(args.name, args.platform, files, args.agreement, members), args.key))
 
 
 def inputs_asked(args: Arguments) -> list[Input]:
@@ -70,7 +70,7 @@ def submit(args: Arguments, printed: Printer) -> None:
     project = member_project(args)
     check_batch(args.batch)
     with turn_of(project):
-        printed(submitted(project, plan_of(args, project), args.dry_run))
+        printed(submit_work(project, plan_of(args, project), args.dry_run))
 
 
 def plan_of(args: Arguments, project: Project) -> Plan:
@@ -114,7 +114,7 @@ def collect(args: Arguments, printed: Printer) -> None:
     """Puts the outputs into a folder."""
     project = member_project(args)
     with looked_at(project) as look:
-        printed(collected(project, look, args.batch, args.to))
+        printed(collect_files(project, look, args.batch, args.to))
 
 
 WORK_COMMANDS: dict[str, Callable[[Arguments, Printer], None]] = {

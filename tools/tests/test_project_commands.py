@@ -62,7 +62,7 @@ def test_an_import_by_the_program(
     path = workunits(tmp_path / "more.csv", ["x1"])
     file = read_import(path, path.read_bytes())
     assert not isinstance(file, str)
-    lines = list(imports.imported(projects.Project(project.folder), file))
+    lines = list(imports.import_file(projects.Project(project.folder), file))
     assert len(lines) == 1 and count_of(project, "unit") == 21
 
 

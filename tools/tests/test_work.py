@@ -20,7 +20,7 @@ from bsched_tools.bars import Bar
 from bsched_tools.catalogue_file import CatalogueFile
 from bsched_tools.faults import Fault
 from bsched_tools.import_files import KINDS, ImportFile, Row
-from bsched_tools.imports import imported
+from bsched_tools.imports import import_file
 
 NAME = f"count_1_{PLATFORM}.py"
 
@@ -54,8 +54,8 @@ def run_here(capsys: pytest.CaptureFixture[str], *words: object) -> tuple[int, s
         status = __main__.main()
     finally:
         sys.argv = before
-    told = capsys.readouterr()
-    return status, told.out, told.err
+    captured = capsys.readouterr()
+    return status, captured.out, captured.err
 
 
 # ---- Applications
@@ -100,8 +100,8 @@ def test_an_application_is_added(bare: WorkProject) -> None:
 
 def test_the_same_command_adds_nothing_and_a_new_program_is_a_new_version(work: WorkProject) -> None:
     before = work.state()
-    told = work.app("--output", "out:1M")
-    assert told == (0, f"count: version 1 for {PLATFORM} was there already: {NAME}\n", "")
+    outcome = work.app("--output", "out:1M")
+    assert outcome == (0, f"count: version 1 for {PLATFORM} was there already: {NAME}\n", "")
     assert work.state() == before
     work.program.write_text("#!/usr/bin/python3\nprint(2)\n")
     assert "version 2 for" in work.app()[1]
@@ -135,14 +135,14 @@ def test_a_signature_from_another_machine(bare: WorkProject) -> None:
     """The private key is elsewhere. A signature of another file is refused, and the right one completes it."""
     words = "app", "count", "--program", bare.program
     for _ in range(2):
-        status, told, fault = bare.tools(*words)
+        status, output, fault = bare.tools(*words)
         assert (status, fault) == (1, "bsched-tools: count: 1 of 1 files are not signed yet\n")
-        assert f"  bsched-bridge sign {NAME} --key code_sign_private > {NAME}.signature\n" in told
+        assert f"  bsched-bridge sign {NAME} --key code_sign_private > {NAME}.signature\n" in output
     assert bare.catalogue.read_text() == CATALOGUE and (bare.files / NAME).exists()
     key, signature = read_private_key(bare.key.read_text()), bare.bridge / f"{NAME}.signature"
     signature.write_text(signature_text("0" * 32, key))
     before = bare.state()
-    status, told, fault = bare.tools(*words)
+    status, output, fault = bare.tools(*words)
     assert status == 1 and f"is not the signature of {NAME} by the key" in fault and fault.count("\n") == 1
     assert bare.state() == before
     signature.write_text(signature_text(file_md5(bare.files / NAME), key))
@@ -173,8 +173,8 @@ APP_FAULTS = [
 @pytest.mark.parametrize("words, fault", APP_FAULTS)
 def test_faults_of_an_application_change_nothing(bare: WorkProject, words: list[str], fault: str) -> None:
     before = bare.state()
-    status, told, line = bare.app(*words)
-    assert (status, told) == (1, "") and fault in line and line.count("\n") == 1
+    status, output, line = bare.app(*words)
+    assert (status, output) == (1, "") and fault in line and line.count("\n") == 1
     assert bare.state() == before
 
 
@@ -190,8 +190,8 @@ def test_other_faults_of_an_application(work: WorkProject, tmp_path: Path) -> No
         (["--agreement", "within:3"], "it exists with the agreement exact, which can't be changed"),
         (["--output", "out:2M"], "count is there with another output_files: edit it there"),
     ):
-        status, told, line = work.app(*words)
-        assert (status, told) == (1, "") and fault in line and line.count("\n") == 1
+        status, output, line = work.app(*words)
+        assert (status, output) == (1, "") and fault in line and line.count("\n") == 1
         assert work.state() == before
     (work.bridge / "code_sign_public").unlink()
     status, _, line = work.app()
@@ -206,11 +206,11 @@ def test_a_folder_of_inputs(work: WorkProject) -> None:
     work.make_inputs(5)
     (work.inputs / ".hidden").write_text("x")
     before = work.state()
-    status, told, fault = work.submit(
+    status, output, fault = work.submit(
         "--quorum", "3", "--hours", "0.5", "--credit", "2", work.inputs, "--dry-run"
     )
     assert (status, fault) == (0, "")
-    assert told.splitlines() == [
+    assert output.splitlines() == [
         "batch run of the application count: 5 workunits",
         f"  run_part_00001.txt: {work.inputs}/part_00001.txt (20 bytes)",
         f"  run_part_00002.txt: {work.inputs}/part_00002.txt (20 bytes)",
@@ -257,22 +257,24 @@ def test_command_lines(bare: WorkProject, tmp_path: Path) -> None:
     assert bare.app("--command-lines", "--command-line=--fast")[0] == 0
     lines = tmp_path / "lines"
     lines.write_text("-x 1\n\n  -y 'a b' \r\n")
-    told = bare.submit("--lines", lines)[1]
-    assert "  run_1: -x 1\n  run_2: -y 'a b'\n" in told
+    output = bare.submit("--lines", lines)[1]
+    assert "  run_1: -x 1\n  run_2: -y 'a b'\n" in output
     assert (bare.bridge / "lines" / "run_2").read_text() == "-y 'a b'\n"
     sweep = "--sweep", "a=8..11", "--sweep", "size=x,-1..0"
-    told = bare.submit(*sweep, batch="all")[1]
+    output = bare.submit(*sweep, batch="all")[1]
     assert (
         "  all_01: -a 8 --size x\n  all_02: -a 8 --size -1\n  all_03: -a 8 --size 0\n  .. and 9 more\n"
-        in told
+        in output
     )
     assert "and 12 were there before" in bare.submit(*sweep, batch="all")[1]
     bare.end()
     assert len(units(bare)) == 14
     for line in ("a=1,2,3 4", "a", "a=", "=3", "a=5..1", "a=1..999999"):
-        status, told, fault = bare.submit("--sweep", line, batch="no")
+        status, output, fault = bare.submit("--sweep", line, batch="no")
         assert (
-            (status, told) == (1, "") and fault.startswith("bsched-tools: --sweep") and fault.count("\n") == 1
+            (status, output) == (1, "")
+            and fault.startswith("bsched-tools: --sweep")
+            and fault.count("\n") == 1
         )
 
 
@@ -296,9 +298,11 @@ def test_many_workunits_are_several_batches(
 # ---- Mistakes: each gets one clear line, and changes nothing
 
 
-def is_refused(work: WorkProject, told: tuple[int, str, str], fault: str, before: dict[str, bytes]) -> None:
+def is_refused(
+    work: WorkProject, outcome: tuple[int, str, str], fault: str, before: dict[str, bytes]
+) -> None:
     """Checks that a command ended with one clear line, and changed nothing."""
-    status, out, line = told
+    status, out, line = outcome
     assert (status, out) == (1, "") and line.count("\n") == 1 and line.startswith("bsched-tools: ")
     assert fault in line
     assert work.state() == before
@@ -345,8 +349,8 @@ def test_mistakes_in_what_is_named(work: WorkProject, tmp_path: Path) -> None:
     [("--hours", "none"), ("--hours", "0"), ("--memory", "2 dozen"), ("--quorum", "0"), ("--credit", "-1")],
 )
 def test_amounts_that_are_none(work: WorkProject, option: str, value: str) -> None:
-    status, told, fault = work.submit(f"{option}={value}", work.inputs)
-    assert (status, told) == (64, "") and f"argument {option}: {value!r} is no" in fault
+    status, output, fault = work.submit(f"{option}={value}", work.inputs)
+    assert (status, output) == (64, "") and f"argument {option}: {value!r} is no" in fault
 
 
 def test_a_batch_name_that_was_used(work: WorkProject) -> None:
@@ -380,7 +384,7 @@ def test_names_that_are_taken(work: WorkProject) -> None:
     rows = [Row(2, ["run_part_00002.txt", "count", *"1 1 1 1 1 60 1 1 1 1".split()])]
     kind = KINDS["workunits"]
     list(
-        imported(
+        import_file(
             projects.Project(work.folder), ImportFile(Path("x"), kind, kind.headers()[0], rows), "by-hand"
         )
     )
@@ -400,8 +404,8 @@ def test_no_room_is_left(
     monkeypatch.setitem(counts.MOST, "unit", 22)
     before = work.state()
     words = "submit", "--project", f"{work.folder}/", "--app", "count", "--batch", "run", work.inputs
-    told = run_here(capsys, *words)
-    is_refused(work, told, "there is room for 2 further workunits, and not for 3", before)
+    outcome = run_here(capsys, *words)
+    is_refused(work, outcome, "there is room for 2 further workunits, and not for 3", before)
 
 
 def test_a_scheduler_that_gives_no_answer(
@@ -475,7 +479,7 @@ def test_a_stranger(bare: WorkProject, capsys: pytest.CaptureFixture[str]) -> No
         os.setgroups([])
         os.setgid(65534)
         os.setuid(65534)
-        status, told, fault = run_here(capsys, "progress", "--project", f"{bare.folder}/")
+        status, output, fault = run_here(capsys, "progress", "--project", f"{bare.folder}/")
         os._exit(0 if status == 1 and "only root and members of the group bsched" in fault else 1)
     assert os.waitpid(child, 0)[1] == 0
 
@@ -561,10 +565,10 @@ def test_a_stop_of_app_at_each_step(
         return stepped
 
     monkeypatch.setenv("PYTHONPATH", str(TOOLS.parent / "bridge"))
-    checked = catalogue_file.checked_by_bridge
-    monkeypatch.setattr(catalogue_file, "checked_by_bridge", lambda *_: None)
+    checked = catalogue_file.check_by_bridge
+    monkeypatch.setattr(catalogue_file, "check_by_bridge", lambda *_: None)
     monkeypatch.setattr(apps.Addition, "undo", lambda _addition: None)  # a kill undoes nothing
-    for module, name in ((os, "replace"), (catalogue_file, "checked_by_bridge"), (apps, "import_rows")):
+    for module, name in ((os, "replace"), (catalogue_file, "check_by_bridge"), (apps, "import_rows")):
         monkeypatch.setattr(module, name, steps_before(getattr(module, name)))
     monkeypatch.setattr(apps.Addition, "sign", steps_before(apps.Addition.sign))
     data = bare.folder / "data"
@@ -601,8 +605,8 @@ def test_one_command_at_a_time(bare: WorkProject) -> None:
 
 def test_a_project_without_a_bridge(bare: WorkProject) -> None:
     (bare.bridge / "bridge.toml").unlink()
-    for told in (bare.app(), bare.submit(bare.inputs)):
-        assert told[:2] == (1, "") and "the project has no bridge: make one by" in told[2]
+    for outcome in (bare.app(), bare.submit(bare.inputs)):
+        assert outcome[:2] == (1, "") and "the project has no bridge: make one by" in outcome[2]
 
 
 def test_a_bar_is_drawn_on_a_terminal_alone(
@@ -631,8 +635,10 @@ def finish(work: WorkProject, user: int, count: int, output: str | None = None, 
         jobs = [job["name"] for job in reply["results"]]
         if not jobs:
             return
-        said = [{"name": name, "exit_status": status, "output": output or f"of {name[:-2]}"} for name in jobs]
-        work.call(user, seqno + 1, f"h{user}", platform_name=PLATFORM, results=said)
+        reports = [
+            {"name": name, "exit_status": status, "output": output or f"of {name[:-2]}"} for name in jobs
+        ]
+        work.call(user, seqno + 1, f"h{user}", platform_name=PLATFORM, results=reports)
 
 
 def test_progress_and_collect(bare: WorkProject, tmp_path: Path) -> None:
@@ -640,16 +646,16 @@ def test_progress_and_collect(bare: WorkProject, tmp_path: Path) -> None:
     assert bare.app()[0] == 0
     bare.make_inputs(6)
     assert bare.submit("--hours", "0.001", "--memory", "1k", "--disk", "100k", bare.inputs)[0] == 0
-    told = bare.tools("progress", "--batch", "run")[1].splitlines()
-    assert told[1:5] == ["waiting  6", "out      0", "done     0 of 6", "failed   0"]
+    lines = bare.tools("progress", "--batch", "run")[1].splitlines()
+    assert lines[1:5] == ["waiting  6", "out      0", "done     0 of 6", "failed   0"]
     to = tmp_path / "outputs"
     assert bare.tools("collect", "--to", to, "--batch", "run")[1].endswith(": 0 new of 0 done; 0 failed\n")
     finish(bare, 1, 6)
-    told = bare.tools("progress", "--batch", "run")[1].splitlines()
-    assert told[1:5] == ["waiting  6", "out      0", "done     0 of 6", "failed   0"]
+    lines = bare.tools("progress", "--batch", "run")[1].splitlines()
+    assert lines[1:5] == ["waiting  6", "out      0", "done     0 of 6", "failed   0"]
     finish(bare, 2, 6)
-    told = bare.tools("progress")[1].splitlines()
-    assert told[1:5] == ["waiting  20", "out      0", "done     6 of 26", "failed   0"]
+    lines = bare.tools("progress")[1].splitlines()
+    assert lines[1:5] == ["waiting  20", "out      0", "done     6 of 26", "failed   0"]
     assert bare.tools("collect", "--to", to, "--batch", "run")[1].endswith(": 6 new of 6 done; 0 failed\n")
     rows = list(csv.DictReader(io.StringIO((to / "results.csv").read_text())))
     assert [row["workunit"] for row in rows] == [f"run_part_{number:05}.txt" for number in range(1, 7)]
@@ -680,8 +686,8 @@ def test_failed_workunits(bare: WorkProject, tmp_path: Path) -> None:
     assert bare.submit(*words, bare.inputs)[0] == 0
     for user in (1, 2, 3, 4):
         finish(bare, user, 2, "no room\nfor it", 1)
-    told = bare.tools("progress", "--batch", "run")[1]
-    assert "failed   2: 2 with too many errors\n  8 results said: no room\n" in told
+    output = bare.tools("progress", "--batch", "run")[1]
+    assert "failed   2: 2 with too many errors\n  8 results said: no room\n" in output
     assert bare.tools("collect", "--to", tmp_path / "out")[1].endswith(": 0 new of 0 done; 2 failed\n")
     assert (tmp_path / "out" / "failed.csv").read_text() == (
         "workunit,input,reason\n"
@@ -706,10 +712,10 @@ def test_the_rate_follows_from_an_older_copy(bare: WorkProject) -> None:
         bare.folder / "copies" / f"project-{moment:%Y%m%dT%H%M%S}.000Z.db"
     )
     reply = json.loads(bare.call(1, 1, platform_name=PLATFORM, work_req_seconds=1))
-    said = [{"name": job["name"], "exit_status": 0, "output": "1"} for job in reply["results"]]
-    bare.call(1, 2, platform_name=PLATFORM, results=said)
-    told = bare.tools("progress", "--batch", "run")[1]
-    assert "rate     1 workunit in 2.0 hours\nend      may be at " in told
+    reports = [{"name": job["name"], "exit_status": 0, "output": "1"} for job in reply["results"]]
+    bare.call(1, 2, platform_name=PLATFORM, results=reports)
+    output = bare.tools("progress", "--batch", "run")[1]
+    assert "rate     1 workunit in 2.0 hours\nend      may be at " in output
 
 
 def test_a_project_that_is_none(tmp_path: Path) -> None:
