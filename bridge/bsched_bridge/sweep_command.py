@@ -12,9 +12,9 @@ from .upload_sweep import Decisions, sweep
 def decisions_in(paths: Iterable[Path]) -> Decisions:
     """Returns the decisions in copies of the tables. Raises OperatorFault if one can't be read."""
     try:
-        from bsched_tools.faults import Fault  # type: ignore[import]
-        from bsched_tools.tables import opened  # type: ignore[import]
-        from bsched_tools.workunits import decided  # type: ignore[import]
+        from bsched_tools.faults import Fault
+        from bsched_tools.tables import opened
+        from bsched_tools.workunits import decided
     except ModuleNotFoundError:
         what = "--tables needs the package bsched_tools: add the folder tools to PYTHONPATH"
         raise OperatorFault(Path("sweep"), None, what) from None

@@ -1,4 +1,5 @@
 """A bridge sends nothing to a scheduler that does not know its key: it may be another project's."""
+import json
 import logging
 
 import pytest
@@ -53,3 +54,27 @@ def test_a_statement_shows_that_the_key_is_known(twin: Twin) -> None:
     twin.statement = None
     assert Scheduler(twin.address, 2).knows_key("change-this-key")
     assert not Scheduler(twin.address, 2).knows_key("another")
+
+
+def test_a_question_about_a_host_changes_nothing() -> None:
+    assert json.loads(asking_call("ann-key", "c1", 7)) == {
+        "authenticator": "ann-key",
+        "hostid": 7,
+        "rpc_seqno": 0,  # no host ever had a call of this number
+        "platform_name": "none",
+        "host_info": {"host_cpid": "c1", "p_fpops": 1, "m_nbytes": 0, "d_free": 0},
+    }
+
+
+def test_answers_that_are_none(twin: Twin, monkeypatch: pytest.MonkeyPatch) -> None:
+    bridge = Scheduler(twin.address, 2)
+    twin.import_faults = ["garbage"]
+    with pytest.raises(NoAnswer, match="no answer of bsched"):
+        bridge.import_accounts("first", b"authenticator,name\n", "change-this-key")
+    monkeypatch.setattr(bridge, "_exchange", lambda *_words: (400, b'{"error":"stale","last":5}'))
+    with pytest.raises(NoAnswer, match="no answer of bsched"):
+        bridge.knows_key("change-this-key")  # no answer to this question
+    monkeypatch.undo()
+    monkeypatch.setattr(module, "MOST_ANSWER", 5)
+    with pytest.raises(NoAnswer, match="longer than 5 bytes"):
+        bridge.message("GET", "/hosts/1", None, {"x-operator-key": "change-this-key"})
