@@ -73,6 +73,7 @@ def test_pages_and_files_are_answered_while_bsched_hangs(
     bridge: Bridge, silent: Address, monkeypatch: pytest.MonkeyPatch
 ) -> None:
     monkeypatch.setattr(bridge.application.scheduler, "address", silent)
+    monkeypatch.setattr(bridge.application.scheduler, "answer_seconds", 6)
     threads = bridge.application.settings.threads
     server = waitress.create_server(bridge.application, host="127.0.0.1", port=0, threads=threads)
     threading.Thread(target=server.run, daemon=True).start()
@@ -99,7 +100,7 @@ def test_pages_and_files_are_answered_while_bsched_hangs(
         caller.join()
     server.close()
     # without free threads it would take until the first time-out, and longer with more clients
-    assert took < bridge.application.scheduler.answer_seconds
+    assert took < bridge.application.scheduler.answer_seconds / 2
     assert scheduler.SLOW_SECONDS < 2
 
 

@@ -4,13 +4,13 @@ tables that is taken for one look.
 import fcntl
 import http.client
 import os
-import tempfile
 from collections.abc import Iterator
-from contextlib import contextmanager
+from contextlib import ExitStack, contextmanager
 from dataclasses import dataclass
 from pathlib import Path
 
 from . import projects
+from .copies import work_folder
 from .copying import copy_tables
 from .faults import Fault
 from .jobs import moment_text
@@ -18,7 +18,6 @@ from .projects import Project
 from .tables import Tables, found_copy, moment_of, opened
 
 ASK_SECONDS = 15.0
-PLACE_OF_LOOKS = Path("/var/tmp")
 NO_MEMBER = "only root and members of the group bsched may use this project"
 
 
@@ -103,28 +102,39 @@ def check_importing(project: Project, look: Look) -> None:
         )
 
 
-@contextmanager
-def looked_at(project: Project, is_fresh_needed: bool = False) -> Iterator[Look]:
-    """Yields a copy of the tables that is taken now and removed afterwards. If none can be taken, it yields
-    the newest copy, unless a fresh one is needed.
+def fresh_copy(project: Project, stack: ExitStack) -> Look:
+    """Returns a copy of the tables that is taken now. It is removed when the stack ends; what a killed look
+    left is removed by the next one.
     """
-    with tempfile.TemporaryDirectory(prefix="bsched-look-", dir=PLACE_OF_LOOKS) as folder:
-        try:
-            copied = copy_tables(project.tables, Path(folder) / "now.db")
-        except Fault as fault:
-            if is_fresh_needed:
-                raise
-            try:
-                newest = found_copy(project.units().copies)
-            except OSError as error:
-                raise Fault(f"{project.units().copies}: {error.strerror}: run this as root") from None
-            yield Look(newest, False, False, str(fault))
-        else:
-            yield Look(copied.path, True, copied.still_seconds is not None)
+    folder = stack.enter_context(work_folder(project.made(project.units().copies, 0o700)))
+    own = folder / "look"  # this process holds the folder above it
+    own.mkdir()
+    copied = copy_tables(project.tables, own / "now.db")
+    return Look(copied.path, True, copied.still_seconds is not None)
 
 
 @contextmanager
-def tables_of(project: Project, is_fresh_needed: bool = False) -> Iterator[tuple[Look, Tables]]:
+def looked_at(project: Project) -> Iterator[Look]:
+    """Yields a copy of the tables that is taken now, or the newest one if none can be taken."""
+    with ExitStack() as stack:
+        try:
+            look = fresh_copy(project, stack)
+        except (Fault, OSError) as fault:
+            look = Look(newest_copy(project), False, False, str(fault))
+        yield look
+
+
+def newest_copy(project: Project) -> Path:
+    """Returns the newest copy of a project."""
+    folder = project.units().copies
+    try:
+        return found_copy(folder)
+    except OSError as error:
+        raise Fault(f"{folder}: {error.strerror}: run this as root") from None
+
+
+@contextmanager
+def tables_of(project: Project) -> Iterator[tuple[Look, Tables]]:
     """Yields the tables of such a copy."""
-    with looked_at(project, is_fresh_needed) as look, opened(look.path) as tables:
+    with looked_at(project) as look, opened(look.path) as tables:
         yield look, tables
