@@ -107,7 +107,7 @@ UPGRADES = {1: MEMBERS + HEARD_MEMBERS, 2: HOSTS_OF_VERSION_2 + NUMBERS, 3: BARR
 BUSY_SECONDS = 10.0  # for a transaction of another process
 
 
-SPOILED = 'it is spoiled or no state file: see bridge/README.md, "The state file"'
+SPOILED = 'it is spoiled or no state file: see docs/VOLUNTEERS.md, "The state file"'
 
 
 class StateFault(Exception):

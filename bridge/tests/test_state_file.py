@@ -103,7 +103,7 @@ def test_a_spoiled_file_is_told_at_the_start(tmp_path: Path) -> None:
             faults.append(str(fault))
     # pages that only have parts of calls may look good
     assert len(faults) > 20 and all(
-        "it is spoiled or no state file: see bridge/README.md" in one for one in faults
+        "it is spoiled or no state file: see docs/VOLUNTEERS.md" in one for one in faults
     )
     assert not any("no other bridge" in one for one in faults)
     path.write_bytes(good)
