@@ -1,10 +1,9 @@
 """Requests that somebody sends to use up the bridge's memory or its processor.
 
-usage: hostile.py SMALL LARGE [SHAPE..]
-For each shape, or for those that are named, it reads requests in eight threads, as gunicorn has them, with all
-limits of the application. It reads SMALL requests of a shape that several threads may read at once, and LARGE of
-another. It prints the peak of the process's memory in MB so far, the processor seconds for a request, and what
-came of the requests.
+usage: hostile.py SMALL LARGE [SHAPE..] For each shape, or for those that are named, it reads requests in
+eight threads, as gunicorn has them, with all limits of the application. It reads SMALL requests of a shape
+that several threads may read at once, and LARGE of another. It prints the peak of the process's memory in MB
+so far, the processor seconds for a request, and what came of the requests.
 """
 import resource
 import sys

@@ -25,7 +25,8 @@ def request(
         names = "".join(f"<other_result><name>{name}</name></other_result>\n" for name in listed)
         other = f"<other_results>\n{names}</other_results>\n"
     results = "".join(
-        f"<result><name>{name}</name><exit_status>{statuses.get(name, 0)}</exit_status><state>5</state><stderr_out>"
+        f"<result><name>{name}</name><exit_status>{statuses.get(name, 0)}</exit_status>"
+        "<state>5</state><stderr_out>"
         "<core_client_version>7.20.5"
         f"</core_client_version>\n<![CDATA[\n<stderr_txt>\n{output}\n</stderr_txt>\n]]>\n"
         "</stderr_out></result>\n"

@@ -1,8 +1,8 @@
-"""Random lives of a project: computers that are copied, renamed and attached anew, tables that are restored or
-replaced by a further file, state files that get lost, and bridges that are killed.
+"""Random lives of a project: computers that are copied, renamed and attached anew, tables that are restored
+or replaced by a further file, state files that get lost, and bridges that are killed.
 
-At each reply a life checks two promises. A report that is acknowledged is recorded in the scheduler as that of
-the host that got the job. No two computers get one job, unless the scheduler itself gives it out again.
+At each reply a life checks two promises. A report that is acknowledged is recorded in the scheduler as that
+of the host that got the job. No two computers get one job, unless the scheduler itself gives it out again.
 """
 import copy
 import http.client
@@ -141,8 +141,8 @@ class Life:
             self.changes_state_file()
 
     def is_killed(self, client: Client) -> None:
-        """A client calls, and the bridge is killed before or after one of its writes and sends, or else before
-        the client has the reply. Then it starts again.
+        """A client calls, and the bridge is killed before or after one of its writes and sends, or else
+        before the client has the reply. Then it starts again.
         """
         stops = Stops(self.chance.randint(1, MOST_STOPS), self.chance.random() < 0.5)
         stops.set(SimpleNamespace(setattr=setattr), self.bridge)
@@ -304,7 +304,8 @@ class Life:
 
 
 def further_file(service: Any, number: int) -> Any:
-    """Returns a further file of a project: the same accounts, applications and versions, and new workunits."""
+    """Returns a further file of a project: the same accounts, applications and versions, and new
+    workunits."""
     made = plain.Service(service.machine.settings)
     for kind in ("accounts", "apps", "versions"):
         made.imported(kind, "first", IMPORTS[kind])

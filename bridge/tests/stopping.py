@@ -1,7 +1,7 @@
 """Stops of a bridge between any two of its steps: syncs, renames, links, deletions, SQL statements and sends.
 
-A stop is that of the process, or a power failure. After a power failure a name is gone that was given after the
-last sync of its folder, and a file is empty that was never synced.
+A stop is that of the process, or a power failure. After a power failure a name is gone that was given after
+the last sync of its folder, and a file is empty that was never synced.
 """
 import os
 import sqlite3
@@ -32,7 +32,8 @@ class Connection:
 
 
 class Steps:
-    """Stops a bridge at the n-th of its steps, before or after it. From then on the bridge does nothing more."""
+    """Stops a bridge at the n-th of its steps, before or after it. From then on the bridge does nothing
+    more."""
 
     def __init__(self, at: int, is_after: bool) -> None:
         self.at, self.is_after, self.passed, self.is_stopped = at, is_after, 0, False

@@ -61,7 +61,8 @@ def resent(bridge: Bridge) -> None:
 def test_a_stop_at_each_write_and_send(
     project: Path, monkeypatch: pytest.MonkeyPatch, past: str, is_after: bool, asks_first: bool
 ) -> None:
-    """The client asks until it has a key. The bridge is stopped once, at the n-th write or send, for each n."""
+    """The client asks until it has a key. The bridge is stopped once, at the n-th write or send, for each
+    n."""
     with (project / "bridge.toml").open("a") as file:
         file.write(ACCOUNTS)
     seen = set()

@@ -25,7 +25,8 @@ HANGING_ERRORS = {"-136", "-161", "-205", "-206", "-204"}
 
 
 def account_answer(bridge: Bridge, query: str) -> Any:
-    """Returns the answer to a message about an account. The client reads its body only if the status is 200."""
+    """Returns the answer to a message about an account. The client reads its body only if the status is
+    200."""
     status, fields, body = bridge.got(f"/p/{query}")
     assert (status, fields["Content-Type"]) == ("200 OK", "text/xml; charset=utf-8")
     return ElementTree.fromstring(body)
@@ -54,7 +55,8 @@ def test_an_account_is_looked_up_by_its_key(bridge: Bridge) -> None:
         account_answer(bridge, "lookup_account.php?authenticator=nobody")
     assert account_answer(bridge, "lookup_account.php?authenticator=ann-key").tag == "account_out"
     with bridge.application.account_places.places.taken(), bridge.application.account_places.places.taken():
-        with bridge.application.account_places.places.taken(), bridge.application.account_places.places.taken():
+        places = bridge.application.account_places.places
+        with places.taken(), places.taken():
             answer = account_answer(bridge, "lookup_account.php?authenticator=ann-key")
     assert answer.findtext("error_num") == "-183"
     bridge.twin.close()

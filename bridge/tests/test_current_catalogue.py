@@ -1,9 +1,14 @@
-"""The catalogue is read again after an edit of it or of a file that it names. A fault keeps the former one."""
+"""The catalogue is read again after an edit of it or of a file that it names. A fault keeps the former
+one."""
 import logging
 import threading
+from pathlib import Path
+from typing import Any
 from xml.etree import ElementTree
 
 import pytest
+from bridges import Bridge
+from cryptography.hazmat.primitives.asymmetric.rsa import RSAPrivateKey
 from messages import FIRST, jobs, request, value
 
 from bsched_bridge import catalogue, current_catalogue
@@ -15,12 +20,12 @@ from bsched_bridge.settings import read_settings
 
 
 @pytest.fixture(autouse=True)
-def looks_each_time(monkeypatch):
+def looks_each_time(monkeypatch: pytest.MonkeyPatch) -> None:
     """Has each request look at all files that the catalogue names."""
     monkeypatch.setattr(current_catalogue, "LOOK_SECONDS", 0.0)
 
 
-def edit(folder, old, new):
+def edit(folder: Path, old: str, new: str) -> None:
     """Edits the catalogue."""
     path = folder / "catalogue.toml"
     text = path.read_text()
@@ -28,19 +33,19 @@ def edit(folder, old, new):
     path.write_text(text.replace(old, new, 1))
 
 
-def errors(caplog):
+def errors(caplog: pytest.LogCaptureFixture) -> list[str]:
     """Returns the error lines of the log."""
     return [one.getMessage() for one in caplog.records if one.levelno == logging.ERROR]
 
 
-def test_an_edit_counts_for_the_next_job(bridge):
+def test_an_edit_counts_for_the_next_job(bridge: Bridge) -> None:
     assert value(bridge.call(request()), "user_friendly_name") == "Sums &amp; more"
     edit(bridge.folder, "Sums & more", "Sums")
     reply = bridge.call(request(hostid=FIRST, listed=["u1_0"]))
     assert (jobs(reply), value(reply, "user_friendly_name")) == (["u2_0"], "Sums")
 
 
-def test_a_version_that_comes_while_the_bridge_serves(bridge, key):
+def test_a_version_that_comes_while_the_bridge_serves(bridge: Bridge, key: RSAPrivateKey) -> None:
     """The scheduler gives it out at once."""
     assert b"u1_0" in bridge.call(request())
     (bridge.folder / "files" / "sum_2").write_text("#!/bin/bash\n")
@@ -54,7 +59,9 @@ def test_a_version_that_comes_while_the_bridge_serves(bridge, key):
     assert [file.findtext("name") for file in reply.findall("file_info")] == ["sum_2", "two.txt"]
 
 
-def test_a_fault_keeps_the_former_catalogue_and_is_logged_once(bridge, caplog):
+def test_a_fault_keeps_the_former_catalogue_and_is_logged_once(
+    bridge: Bridge, caplog: pytest.LogCaptureFixture
+) -> None:
     edit(bridge.folder, 'title = "Sums & more"', "titel = 3")
     for _ in range(3):
         assert value(bridge.call(request()), "code_sign_key") is not None
@@ -66,7 +73,9 @@ def test_a_fault_keeps_the_former_catalogue_and_is_logged_once(bridge, caplog):
     assert len(errors(caplog)) == 1
 
 
-def test_a_file_that_the_catalogue_names_is_corrected(bridge, key, caplog):
+def test_a_file_that_the_catalogue_names_is_corrected(
+    bridge: Bridge, key: RSAPrivateKey, caplog: pytest.LogCaptureFixture
+) -> None:
     """A program is replaced before its signature is. Then both fit."""
     program, signature = bridge.folder / "files" / "sum_1", bridge.folder / "sum_1.signature"
     program.write_text("#!/bin/sh\nexit 1\n")
@@ -81,7 +90,7 @@ def test_a_file_that_the_catalogue_names_is_corrected(bridge, key, caplog):
     assert len(errors(caplog)) == 2 and errors(caplog)[1].endswith("sum_1.signature does not exist")
 
 
-def test_an_input_file_that_comes_later(bridge, caplog):
+def test_an_input_file_that_comes_later(bridge: Bridge, caplog: pytest.LogCaptureFixture) -> None:
     path = bridge.folder / "files" / "all.txt"
     edit(bridge.folder, "command_line", 'input_files = [{ name = "all.txt" }]\ncommand_line')
     assert bridge.application.catalogue.apps["sum"].work.input_files == ()
@@ -90,26 +99,28 @@ def test_an_input_file_that_comes_later(bridge, caplog):
     assert [file.name for file in bridge.application.catalogue.apps["sum"].work.input_files] == ["all.txt"]
 
 
-def test_a_catalogue_that_does_not_fit_the_settings(bridge, caplog):
+def test_a_catalogue_that_does_not_fit_the_settings(bridge: Bridge, caplog: pytest.LogCaptureFixture) -> None:
     edit(bridge.folder, "command_line", 'output_files = [{ open_name = "o", max_nbytes = 9 }]\ncommand_line')
     assert bridge.application.catalogue.apps["sum"].output_files == ()
     assert "sum has output files, and the settings have no [uploads]" in errors(caplog)[0]
 
 
-def test_the_first_catalogue_must_be_good(project):
+def test_the_first_catalogue_must_be_good(project: Path) -> None:
     edit(project, "[[app]]", "[[apps]]")
     with pytest.raises(OperatorFault, match="line 10: there is no application sum"):
         CatalogueReader(read_settings(project / "bridge.toml"))
 
 
-def test_files_that_it_does_not_name_are_no_change(bridge, monkeypatch):
+def test_files_that_it_does_not_name_are_no_change(bridge: Bridge, monkeypatch: pytest.MonkeyPatch) -> None:
     monkeypatch.setattr(CatalogueReader, "_read", lambda self: pytest.fail("it was read again"))
     (bridge.folder / "files" / "more").write_text("x")
     (bridge.folder / "files" / "two.txt").write_text("3\n")
     assert bridge.application.catalogue.apps
 
 
-def test_the_catalogue_is_looked_at_each_time_and_its_files_now_and_then(project, monkeypatch):
+def test_the_catalogue_is_looked_at_each_time_and_its_files_now_and_then(
+    project: Path, monkeypatch: pytest.MonkeyPatch
+) -> None:
     monkeypatch.setattr(current_catalogue, "LOOK_SECONDS", 3600.0)
     reader = CatalogueReader(read_settings(project / "bridge.toml"))
     reader.current()
@@ -120,14 +131,14 @@ def test_the_catalogue_is_looked_at_each_time_and_its_files_now_and_then(project
     assert seen == ["catalogue.toml"]
 
 
-def test_a_large_catalogue_keeps_nobody_waiting(project, monkeypatch):
+def test_a_large_catalogue_keeps_nobody_waiting(project: Path, monkeypatch: pytest.MonkeyPatch) -> None:
     """One request reads it. Another one waits for a moment, and takes the former one."""
     monkeypatch.setattr(current_catalogue, "WAIT_SECONDS", 0.01)
     reader = CatalogueReader(read_settings(project / "bridge.toml"))
     former, begun, may_end = reader.current(), threading.Event(), threading.Event()
     read = current_catalogue.read_catalogue
 
-    def slow(*args):
+    def slow(*args: Any) -> Any:
         begun.set()
         assert may_end.wait(10)
         return read(*args)
@@ -146,7 +157,7 @@ def test_a_large_catalogue_keeps_nobody_waiting(project, monkeypatch):
 # ---- Workunits without an entry
 
 
-def test_what_is_known_of_files_has_a_limit(project, monkeypatch):
+def test_what_is_known_of_files_has_a_limit(project: Path, monkeypatch: pytest.MonkeyPatch) -> None:
     monkeypatch.setattr(catalogue, "MOST_KNOWN", 3)
     folder = FileFolder(project / "files")
     for number in range(9):
@@ -156,7 +167,7 @@ def test_what_is_known_of_files_has_a_limit(project, monkeypatch):
     assert len(FileFolder(project / "files", former=folder)._known) == 3
 
 
-def test_command_lines_of_workunits(bridge, caplog):
+def test_command_lines_of_workunits(bridge: Bridge, caplog: pytest.LogCaptureFixture) -> None:
     """Each workunit has a file with the end of its command line."""
     lines = bridge.folder / "lines"
     lines.mkdir()
@@ -176,7 +187,7 @@ def test_command_lines_of_workunits(bridge, caplog):
     assert f"the command line {lines / 'u1'} is not in the catalogue or not there" in errors(caplog)[0]
 
 
-def test_faults_of_the_folder_of_command_lines(project):
+def test_faults_of_the_folder_of_command_lines(project: Path) -> None:
     edit(project, "command_line", 'command_lines = "none"\ncommand_line')
     with pytest.raises(OperatorFault, match="line 7: command_lines: .*none does not exist"):
         catalogue.read_catalogue(project / "catalogue.toml")

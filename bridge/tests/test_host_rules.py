@@ -27,7 +27,8 @@ def settings(project: Path, *lines: str) -> None:
 
 
 def called(bridge: Bridge, number: int, key: str = "ann-key", hostid: int = 0) -> str:
-    """Has a host call. Returns the place of its hostid in the order of all, or the message to the volunteer."""
+    """Has a host call. Returns the place of its hostid in the order of all, or the message to the
+    volunteer."""
     reply = bridge.call(request(key=key, cpid=f"c{number}", hostid=hostid, seconds=0))
     hostid = value(reply, "hostid")
     return str(int(hostid) - FIRST + 1) if hostid else value(reply, "message") or "known"

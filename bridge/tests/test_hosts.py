@@ -1,4 +1,5 @@
-"""Whose host a client is: numbers that clients were told, changed host_cpids, copies, and lost state files."""
+"""Whose host a client is: numbers that clients were told, changed host_cpids, copies, and lost state
+files."""
 from pathlib import Path
 
 import pytest
@@ -142,7 +143,8 @@ def test_an_older_state_file_and_a_changed_host_cpid(
 
 
 def test_a_client_of_an_unknown_number_gets_no_jobs_of_another(two: Bridge, twin: Twin) -> None:
-    """Its results say that it is another computer than its host_cpid says, as after a restore of the tables."""
+    """Its results say that it is another computer than its host_cpid says, as after a restore of the
+    tables."""
     reply = two.call(request(hostid=77, cpid="a", listed=["u2_0"]))
     assert value(reply, "hostid") == str(FIRST + 2)
     assert names(reply, "result_abort") == ["u2_0"] and jobs(reply) == []

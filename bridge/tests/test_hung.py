@@ -7,7 +7,7 @@ from collections.abc import Callable, Iterator
 from typing import Any
 
 import pytest
-import waitress  # type: ignore[import]
+import waitress
 from bridges import Bridge
 from joining import wait_until
 from messages import request

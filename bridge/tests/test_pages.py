@@ -20,7 +20,8 @@ FORM = "application/x-www-form-urlencoded"
 
 
 class Page(HTMLParser):
-    """A page as a browser reads it. Each element is closed, and there is no script, and no style but the one."""
+    """A page as a browser reads it. Each element is closed, and there is no script, and no style but the
+    one."""
 
     def __init__(self, text: str) -> None:
         super().__init__()
@@ -324,7 +325,8 @@ def test_a_ranking_of_all_users(open_bridge: Bridge, twin: Twin) -> None:
     with open_bridge.file.transaction() as connection:
         for number in range(130):
             connection.execute(
-                "INSERT INTO host (authenticator, host_cpid, scheduler_hostid, last_number, user_name, user_credit, "
+                "INSERT INTO host (authenticator, host_cpid, scheduler_hostid, last_number, user_name, "
+                "user_credit, "
                 "host_credit, heard_at) "
                 "VALUES (?, 'c', ?, 1, ?, ?, 0, ?)",
                 (f"k{number}", number + 1, f"User {number:03}", number * 1000, number),

@@ -44,7 +44,8 @@ CREATE TABLE member (
 ) STRICT;
 CREATE INDEX member_open ON member (id) WHERE is_imported = 0;
 CREATE INDEX member_created ON member (created_at) WHERE batch IS NOT NULL;
-INSERT INTO member (authenticator, name, is_imported, cpid, created_at) VALUES ('ann-key', 'Ann', 1, 'x', 100);
+INSERT INTO member (authenticator, name, is_imported, cpid, created_at)
+  VALUES ('ann-key', 'Ann', 1, 'x', 100);
 PRAGMA user_version = 2;
 """
 ROWS = [

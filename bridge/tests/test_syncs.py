@@ -11,7 +11,8 @@ from messages import request
 
 @pytest.fixture
 def events(monkeypatch: pytest.MonkeyPatch) -> Callable[..., Any]:
-    """Yields a function that returns what a bridge does from now on: SQL statements and messages to bsched."""
+    """Yields a function that returns what a bridge does from now on: SQL statements and messages to
+    bsched."""
 
     def watched(bridge: Bridge) -> list[Any]:
         seen = []

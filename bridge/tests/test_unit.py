@@ -32,8 +32,8 @@ def paths_of(name: str) -> set[tuple[str, str]]:
 
 @pytest.mark.parametrize("name", [name for name in UNITS if name != AS_ROOT])
 def test_a_unit_sees_no_other_project(name: str) -> None:
-    """All projects belong to one user, and have their operators' keys in files that this user can read. So each
-    unit sees an empty folder of projects with its own one in it, and of the copies its own ones or none.
+    """All projects belong to one user, and have their operators' keys in files that this user can read. So
+    each unit sees an empty folder of projects with its own one in it, and of the copies its own ones or none.
     """
     paths = paths_of(name)
     assert ("TemporaryFileSystem", "/var/lib/bsched:ro") in paths

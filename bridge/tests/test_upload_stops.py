@@ -15,8 +15,8 @@ TEXT = f"out sha256:{sha256_of(TWO)} {len(TWO)}\nlog sha256:{sha256_of(LOG)} 3"
 
 
 class Volunteer:
-    """A client that gets a job, loses it and gets it again, uploads its files and reports it, each until it is
-    done.
+    """A client that gets a job, loses it and gets it again, uploads its files and reports it, each until it
+    is done.
     """
 
     def __init__(self, bridge: Bridge) -> None:

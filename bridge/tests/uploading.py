@@ -118,8 +118,8 @@ def sha256_of(data: bytes) -> str:
 
 
 def odd_messages(names: tuple[str, str], good: str, other: str) -> Iterator[tuple[str, bytes, int]]:
-    """Yields messages that store nothing, each with the status of the answer. The names are those of two output
-    files of a result, with at most 20,000 bytes, each with its token.
+    """Yields messages that store nothing, each with the status of the answer. The names are those of two
+    output files of a result, with at most 20,000 bytes, each with its token.
     """
     first, second = names
     message = upload(first, DATA, good)
