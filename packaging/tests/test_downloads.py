@@ -1,4 +1,4 @@
-"""Tests the lines for nginx about downloads: nginx asks the bridge once for a file, and sends it by itself."""
+"""Tests the lines for nginx about downloads: nginx asks the bridge once for a file, and then sends it."""
 import http.client
 import ssl
 import threading
@@ -8,7 +8,8 @@ from http.server import BaseHTTPRequestHandler, ThreadingHTTPServer
 from pathlib import Path
 
 import pytest
-from test_nginx import NGINX, URL, free_port, served, written
+from served import free_port
+from test_nginx import NGINX, URL, served, written
 from test_project import Machine
 
 CHANGED = "Sun, 29 Nov 2026 12:00:00 GMT"
