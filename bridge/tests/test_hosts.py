@@ -199,7 +199,8 @@ def test_without_the_operators_key_a_host_is_the_one_with_bscheds_number(
 
 def test_searches_are_limited(two: Bridge, twin: Twin) -> None:
     for _ in range(MOST_SEARCHES + 1):  # a client without results needs none
-        two.call(request(hostid=77, cpid="a", listed=[], seconds=0))
+        reply = two.call(request(hostid=77, cpid="a", listed=[], seconds=0))
+        assert value(reply, "message") != "The project is busy at the moment."
     for _ in range(MOST_SEARCHES):
         two.call(request(hostid=77, cpid="a", listed=["u1_0"], seconds=0))
     heard = len(twin.heard)
@@ -362,3 +363,10 @@ def test_without_names_no_statement_is_asked_for(two: Bridge, twin: Twin) -> Non
     before = len(twin.heard)
     assert two.application.exchange.search.held(Key("ann-key", "a"), set()) == set()
     assert len(twin.heard) == before
+
+
+def test_a_call_for_another_host_asks_for_no_second_of_work(two: Bridge, twin: Twin) -> None:
+    before = len(twin.heard)
+    two.call(request(hostid=77, cpid="x", reports=[("u1_0", "42")]))
+    aside = [call for call in twin.calls()[before:] if call["rpc_seqno"] and call["results"]]
+    assert [(call["host_info"]["host_cpid"], call["work_req_seconds"]) for call in aside] == [("a", 0)]
