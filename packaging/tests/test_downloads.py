@@ -8,7 +8,8 @@ from http.server import BaseHTTPRequestHandler, ThreadingHTTPServer
 from pathlib import Path
 
 import pytest
-from test_nginx import NGINX, URL, free_port, served, written
+from served import free_port
+from test_nginx import NGINX, URL, served, written
 from test_project import Machine
 
 CHANGED = "Sun, 29 Nov 2026 12:00:00 GMT"

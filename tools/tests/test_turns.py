@@ -24,5 +24,5 @@ def test_others_wait_for_a_turn(tmp_path: Path) -> None:
         with turn(tmp_path, 0):
             pass
     with turn(tmp_path, 30):
-        assert not thread.is_alive() or thread.join(10) is None
-    thread.join()
+        thread.join(10)
+        assert not thread.is_alive()
