@@ -1,4 +1,4 @@
-"""Tests the lines for nginx about downloads: nginx asks the bridge once for a file, and sends it by itself."""
+"""Tests the lines for nginx about downloads: it asks the bridge once for a file, and sends it by itself."""
 import http.client
 import ssl
 import threading
