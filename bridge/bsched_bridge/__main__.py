@@ -6,7 +6,7 @@ from importlib import metadata
 from pathlib import Path
 from typing import NoReturn
 
-import waitress  # type: ignore[import]
+import waitress
 
 from . import client_requests, sweep_command
 from .application import new_application
