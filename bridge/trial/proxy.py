@@ -119,6 +119,11 @@ class Proxy:
         self._server.proxy = self
         threading.Thread(target=self._server.serve_forever, daemon=True).start()
 
+    def close(self) -> None:
+        """Gives the port back."""
+        self._server.shutdown()
+        self._server.server_close()
+
     def plan(self, fault: Fault) -> Fault:
         """Plans a fault. It happens once."""
         with self._lock:

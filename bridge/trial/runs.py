@@ -86,9 +86,12 @@ class Run:
         return made
 
     def end(self) -> None:
-        """Ends all programs."""
+        """Ends all programs, and gives the ports of the proxies back."""
         for program in self.programs:
             program.kill()
+        for proxy in (getattr(self, "before_bridge", None), getattr(self, "behind_bridge", None)):
+            if proxy is not None:
+                proxy.close()
 
     def give(self, name: str, quorum: int, errors: int = 3) -> None:
         """Imports a workunit while bsched serves."""

@@ -43,3 +43,9 @@ def test_a_file_of_another_format(tmp_path: Path) -> None:
     path.write_text(json.dumps({**fields, "format": fields["format"] + 1}))
     with pytest.raises(Fault, match="it has no averages"):
         Averages(path)
+
+
+def test_a_file_that_cant_be_read(tmp_path: Path) -> None:
+    (tmp_path / "averages").mkdir()
+    with pytest.raises(Fault, match="averages: "):
+        Averages(tmp_path / "averages")
