@@ -1,6 +1,9 @@
 -- The good reports of a workunit, and the leader of their shortest front, by the steps of a loop.
-use Rattle.std.proofs.Common.{◌≡◌, ℕ, ◌+◌, ◌<◌, ◌≤◌, Bool, true, false, cond, List, [], ◌∷◌, length, take, drop, get_or, Option, sym, refl, ap, ◌∙◌}
-use Rattle.std.specs.Prelude.{fold, is_some}
+use Rattle.std.proofs.Common.{◌≡◌, ℕ, ◌+◌, ◌<◌, ◌≤◌, Bool, true, false, cond, List, [], ◌∷◌, length, take, drop, get_or, Option, sym, refl, ap, ◌∙◌, arith}
+use Rattle.std.specs.Prelude.{count_by, fold, is_some, nat_le}
+use Rattle.std.specs.List.{prefix_len}
+use Rattle.std.proofs.lemmas.List.Edits.{length-insert}
+use Rattle.std.proofs.lemmas.List.Sums.{sum_by-cons, prefix_len-le-length}
 use Rattle.std.proofs.lemmas.List.{drop_all, drop_more, take_more, take_all}
 use Rattle.sched_book.specs.Count.{tells_success, place_of, numbers_from, put_by, good, leader, first_leader}
 use Rattle.sched_book.specs.declared.instance.Instance.{Instance}
@@ -81,6 +84,31 @@ pub leader_from-last : (a : Agreement) (xs : List Instance) (enough : ℕ) (repo
 unfolding leader_from
 leader_from-last a xs enough reports k past =
     ap (first_leader a xs enough (take k reports)) (drop_all k reports past) ∙ ap (leader a xs enough) (take_all k reports past)
+
+-- there are as many good reports as judged successes
+length_numbers : (n : ℕ) (p : Instance → Bool) (xs : List Instance) → length (numbers_from n p xs) ≡ count_by p xs
+length_numbers n p [] = refl
+length_numbers n p (x ∷ xs) = cases (p x) (length_numbers (n + 1) p xs) ∙ sym (sum_by-cons (λ y. cond {A = ℕ} (p y) 1 0) x xs)
+  where
+    cases : (b : Bool) → length (numbers_from (n + 1) p xs) ≡ count_by p xs
+        → length (cond b (n ∷ numbers_from (n + 1) p xs) (numbers_from (n + 1) p xs)) ≡ cond {A = ℕ} b 1 0 + count_by p xs
+    cases true rest = omega arith
+    cases false rest = omega arith
+
+length_put : (key : ℕ → ℕ) (is ns : List ℕ) → length (fold (put_by key) is ns) ≡ length is + length ns
+length_put key is [] = omega arith
+length_put key is (n ∷ ns) =
+    let front : ℕ = prefix_len (λ j. nat_le (key j) (key n)) is in
+    let rest : length (fold (put_by key) (put_by key is n) ns) ≡ length (put_by key is n) + length ns = length_put key (put_by key is n) ns in
+    let one : length (put_by key is n) ≡ length is + 1 = length-insert is front n (prefix_len-le-length (λ j. nat_le (key j) (key n)) is) in
+    omega arith
+
+pub length_good : (xs : List Instance) → length (good xs) ≡ count_by (λ x. tells_success x.report) xs
+length_good xs =
+    let put : length (good xs) ≡ length (numbers_from 0 (λ x. tells_success x.report) xs) =
+    (let whole : length (good xs) ≡ 0 + length (numbers_from 0 (λ x. tells_success x.report) xs) =
+    length_put (place_of xs) [] (numbers_from 0 (λ x. tells_success x.report) xs) in omega arith) in
+    put ∙ length_numbers 0 (λ x. tells_success x.report) xs
 
 -- for the loop that puts the good reports in order
 pub ruleset put_steps = (put_from-none, put_from-success, put_from-other, put_from-all)

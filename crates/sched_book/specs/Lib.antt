@@ -26,4 +26,5 @@ pub mod Selections
 pub mod UnitChanges
 pub mod Laws
 pub mod PlaceLaws
+pub mod Ballots
 pub mod Bounds

@@ -12,7 +12,7 @@ number_of digits = fold (λ n c. 10 * n + (c - 48)) 0 digits
 abbrev pub magnitude : List ℕ → Option ℕ
 magnitude [] = None
 magnitude (c ∷ cs) =
-    if nat_le 49 c && is_ascii_digit c && list_all is_ascii_digit cs && nat_le (length cs) 17
+    if nat_le 49 c && is_ascii_digit c && nat_le (length cs) 17 && list_all is_ascii_digit cs
     then Some (number_of (c ∷ cs))
     else None
 

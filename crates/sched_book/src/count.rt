@@ -5,9 +5,10 @@
 ghost use Rattle.std.specs.Prelude.{◌≡◌, ◌<◌, ◌≤◌, ◌^◌, ◌+◌, length, take, drop, nat_le};
 ghost use Rattle.std.specs.List.{prefix_len};
 ghost use Rattle.arrayvec.specs.ArrayVec.{array_vec_len};
-ghost use Rattle.sched_book.specs.Count.{agree, output_of, place_of, put_by, good, errors, live, votes, leader, first_leader, canonical, want, need, status, verdict_by, verdict, is_valid};
+ghost use Rattle.sched_book.specs.Count.{agree, output_of, place_of, put_by, good, errors, live, canonical, want, need, status, verdict_by, verdict, is_valid};
 ghost use Rattle.sched_book.specs.Places.{agreement_by, book_status};
 
+use crate::ballots::first_leader_among;
 use crate::instance::{Instance, Status, UnitBook, Verdict};
 use crate::limits::MOST_INSTANCES;
 use crate::rows::{Agreement, App, Workunit};
@@ -32,7 +33,7 @@ pub fn agree(agreement: &Agreement, left: &str, right: &str) -> bool
 }
 
 /// The output that was reported of an instance; empty if it has no report.
-fn output_at(instances: &[Instance], number: usize) -> &str
+pub(crate) fn output_at(instances: &[Instance], number: usize) -> &str
     ensures { result.now ≡ output_of instances.now number }
 {
     match instances.get(number) {
@@ -93,56 +94,6 @@ fn good_reports(instances: &[Instance]) -> ArrayVec<usize, MOST_INSTANCES>
     reports
 }
 
-/// How many of these reports agree with the report of this number.
-fn votes_for(
-    agreement: &Agreement,
-    instances: &[Instance],
-    reports: &[usize],
-    number: usize,
-) -> usize
-    ensures { result ≡ votes agreement.now instances.now reports.now number }
-{
-    let output = output_at(instances, number);
-    reports
-        .iter()
-        .filter(|other| agree(agreement, output, output_at(instances, **other)))
-        .count()
-}
-
-/// The first of these reports that agrees with enough of them.
-fn leader_among(
-    agreement: &Agreement,
-    instances: &[Instance],
-    enough: usize,
-    reports: &[usize],
-) -> Option<usize>
-    ensures { result ≡ leader agreement.now instances.now enough reports.now }
-{
-    reports.iter().copied().find(|number| enough
-        <= votes_for(agreement, instances, reports, *number))
-}
-
-/// The leader of the shortest front that has one, among fronts at least a quorum long.
-#[tactic(auto, using(crate::proofs::Reports::leader_steps))]
-fn first_leader_among(
-    agreement: &Agreement,
-    instances: &[Instance],
-    enough: usize,
-    reports: &[usize],
-    quorum: usize,
-) -> Option<usize>
-    requires { quorum ≤ length reports.now }
-    ensures { result ≡ first_leader agreement.now instances.now enough (take quorum reports.now) (drop quorum reports.now) }
-{
-    for length in quorum..reports.len() {
-        let front = leader_among(agreement, instances, enough, &reports[..length]);
-        if front.is_some() {
-            return front;
-        }
-    }
-    leader_among(agreement, instances, enough, reports)
-}
-
 /// The number of the canonical result, if there is one.
 pub fn canonical(agreement: &Agreement, unit: &Workunit, instances: &[Instance]) -> Option<usize>
     requires { length instances.now ≤ MOST_INSTANCES }
@@ -164,12 +115,16 @@ pub fn canonical(agreement: &Agreement, unit: &Workunit, instances: &[Instance])
 }
 
 /// How many judged successes a workunit has.
+#[tactic(auto, using(crate::proofs::Reports::length_good))]
 pub fn success_count(instances: &[Instance]) -> usize
     requires { length instances.now ≤ MOST_INSTANCES }
     ensures value { result ≡ length (good instances.now) }
     ensures few { result ≤ MOST_INSTANCES }
 {
-    good_reports(instances).len()
+    instances
+        .iter()
+        .filter(|instance| instance.is_judged_success())
+        .count()
 }
 
 /// How many judged client errors a workunit has.

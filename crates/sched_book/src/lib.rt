@@ -6,6 +6,7 @@
 //! A [`Desk`] represents a [`World`] and answers what that world says.
 #![tactic(auto)]
 
+mod ballots;
 mod changing;
 pub mod count;
 pub mod delta;

@@ -33,7 +33,7 @@ fn magnitude_of(text: &[u8]) -> Option<u64>
     let [first, rest @ ..] = text else {
         return None;
     };
-    if *first >= b'1' && first.is_ascii_digit() && are_digits(rest) && rest.len() <= 17 {
+    if *first >= b'1' && first.is_ascii_digit() && rest.len() <= 17 && are_digits(rest) {
         Some(number_of_digits(text))
     } else {
         None

@@ -18,7 +18,7 @@ use Rattle.sched_book.specs.declared.instance.UnitBook.{UnitBook}
 use Rattle.sched_book.specs.declared.rows.App.{App}
 use Rattle.sched_book.specs.declared.rows.HostRow.{HostRow}
 use Rattle.sched_book.specs.declared.rows.Workunit.{Workunit}
-use Rattle.sched_machine.proofs.Units.Alike.{count_cons}
+use Rattle.sched_book.proofs.Reports.{length_good}
 use Rattle.quorum_credit.proofs.GrownFits.{fresh_in_limits, open_total}
 
 -- several equal elements after a list
@@ -44,31 +44,6 @@ count_none p xs n y is = let whole : count_by p (xs ++ replicate n y) ≡ count_
 
 pub count_all : {X : Type 0} (p : X → Bool) (xs : List X) (n : ℕ) (y : X) → p y ≡ true → count_by p (xs ++ replicate n y) ≡ count_by p xs + n
 count_all p xs n y is = let whole : count_by p (xs ++ replicate n y) ≡ count_by p xs + n * 1 = count_with p xs n y true is in omega arith
-
--- there are as many good reports as judged successes
-length_numbers : (n : ℕ) (p : Instance → Bool) (xs : List Instance) → length (numbers_from n p xs) ≡ count_by p xs
-length_numbers n p [] = refl
-length_numbers n p (x ∷ xs) = cases (p x) (length_numbers (n + 1) p xs) ∙ sym (count_cons p x xs (p x) refl)
-  where
-    cases : (b : Bool) → length (numbers_from (n + 1) p xs) ≡ count_by p xs
-        → length (cond b (n ∷ numbers_from (n + 1) p xs) (numbers_from (n + 1) p xs)) ≡ cond {A = ℕ} b 1 0 + count_by p xs
-    cases true rest = omega arith
-    cases false rest = omega arith
-
-length_put : (key : ℕ → ℕ) (is ns : List ℕ) → length (fold (put_by key) is ns) ≡ length is + length ns
-length_put key is [] = omega arith
-length_put key is (n ∷ ns) =
-    let front : ℕ = prefix_len (λ j. nat_le (key j) (key n)) is in
-    let rest : length (fold (put_by key) (put_by key is n) ns) ≡ length (put_by key is n) + length ns = length_put key (put_by key is n) ns in
-    let one : length (put_by key is n) ≡ length is + 1 = length-insert is front n (prefix_len-le-length (λ j. nat_le (key j) (key n)) is) in
-    omega arith
-
-length_good : (xs : List Instance) → length (good xs) ≡ count_by (λ x. tells_success x.report) xs
-length_good xs =
-    let put : length (good xs) ≡ length (numbers_from 0 (λ x. tells_success x.report) xs) =
-    (let whole : length (good xs) ≡ 0 + length (numbers_from 0 (λ x. tells_success x.report) xs) =
-    length_put (place_of xs) [] (numbers_from 0 (λ x. tells_success x.report) xs) in omega arith) in
-    put ∙ length_numbers 0 (λ x. tells_success x.report) xs
 
 -- with what it needs it needs nothing more
 enough : (wanted running done : ℕ) → wanted - (running + (wanted - running - done)) - done ≡ 0
