@@ -86,7 +86,7 @@ fn replayed(alloc: Global, lines: &[u8]) -> Result<(Vec<u8>, Ended), Fail> {
     replayed_with(alloc, 3, lines)
 }
 
-/// The same if there may be so many hosts.
+/// The same with this limit of hosts.
 fn replayed_with(alloc: Global, max_hosts: u32, lines: &[u8]) -> Result<(Vec<u8>, Ended), Fail> {
     let mut settings = default_settings(alloc)?;
     settings.max_hosts = max_hosts;
@@ -99,7 +99,7 @@ const PROJECT: &str =
 const PROJECT_IMPORTED: &str =
     "200 {\"batch\":\"a0\",\"kind\":\"accounts\",\"rows\":3}\n200 {\"batch\":\"a0\",\"kind\":\"apps\",\"rows\":2}\n200 {\"batch\":\"a0\",\"kind\":\"versions\",\"rows\":3}\n";
 
-/// Whether these lines get these answers after the project's imports, if there may be so many hosts.
+/// Whether these lines get these answers after the project's imports, with this limit of hosts.
 fn answers_in_project(
     alloc: Global,
     max_hosts: u32,
@@ -272,7 +272,7 @@ fn replayed_before_a_fault<S: Store + Drop>(
     Ok(replayed_from(alloc, &mut service, reader))
 }
 
-/// What a service prints in a replay if there is room for so many bytes, and how the replay ends.
+/// What a service prints in a replay if there is room for this many bytes, and how the replay ends.
 fn printed_into<S: Store>(
     alloc: Global,
     service: &mut Service<S>,
@@ -285,7 +285,7 @@ fn printed_into<S: Store>(
     Ok((room, ended))
 }
 
-/// What a replay over a store prints if there is room for so many bytes, and how it ends.
+/// What a replay over a store prints if there is room for this many bytes, and how it ends.
 fn replayed_into<S: Store + Drop>(
     alloc: Global,
     store: S,

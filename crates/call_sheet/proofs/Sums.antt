@@ -5,7 +5,7 @@ use Rattle.std.proofs.lemmas.Bool.Decides.{nat_tests}
 use Rattle.std.proofs.lemmas.List.Sums.{sum_by-cons}
 use Rattle.call_sheet.specs.Sheets.{is_among, AreAbove, AreRising}
 
--- the sum of g over so many numbers, of which n is the first
+-- the sum of g over `count` numbers; n is the first
 unfoldable pub sum_from : (ℕ → ℕ) → ℕ → ℕ → ℕ
 sum_from g n zero = 0
 sum_from g n (suc k) = g n + sum_from g (suc n) k

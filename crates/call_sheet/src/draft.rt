@@ -83,7 +83,7 @@ pub trait Draft: Units {
             OnOk result (Self.world self.new ≡ applied_one (Self.world self.old) (change.Host number row.now))) }
         ensures delta { OnOk result (delta self.new ≡ delta self.old ++ change.Host number row.now ∷ []) };
 
-    /// Adds a host after the others, before any other change, and returns its number; none if there are already so many
+    /// Adds a host after the others, before any other change, and returns its number; none if the limit is reached
     /// hosts.
     fn add_host(&mut self, row: &HostRow, most: u32) -> Result<Option<u32>, Unavailable>
         ensures works { works self.old self.new }

@@ -104,7 +104,7 @@ pub(crate) fn put_host<D: Desk>(
     Ok(())
 }
 
-/// Adds a host after the others, unless there are already so many, and returns its number. Unavailable after any other
+/// Adds a host after the others, unless the limit is reached, and returns its number. Unavailable after any other
 /// change.
 pub(crate) fn add_host<D: Desk>(
     desk: &mut D,

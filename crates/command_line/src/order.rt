@@ -13,7 +13,7 @@ pub enum Order {
         settings: Text,
         tables: Text,
     },
-    /// Serve so many connections on this port of 127.0.0.1, one after the other.
+    /// Serve `count` connections on this port of 127.0.0.1, one after the other.
     Serve {
         tables: Text,
         port: u16,

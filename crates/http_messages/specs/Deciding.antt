@@ -24,7 +24,7 @@ pub data Asked : Type 0 where
   wrong_method : (allowed : Method) → Asked
   refused : (fault : Fault) → Asked
 
--- What a head decides: either what is asked, with any bytes after it, or its route and a body of so many bytes.
+-- What a head decides: either what is asked, with any bytes after it, or its route and the length of its body.
 pub data Decision : Type 0 where
   at_once : (asked : Asked) → Decision
   with_body : (route : Route) (bytes : ℕ) → Decision

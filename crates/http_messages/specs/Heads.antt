@@ -11,7 +11,7 @@ use Rattle.http_messages.specs.declared.heads.HeadRead.TheVariants.{Whole, Parti
 abbrev pub head_limit : ℕ
 head_limit = 8192
 
--- the most fields of a head
+-- the maximum number of fields of a head
 abbrev pub field_limit : ℕ
 field_limit = 64
 

@@ -24,11 +24,11 @@ Awaits key bytes =
     AwaitsHead bytes
     ⊎ ((h : RequestHead) × (rest : List ℕ) × IsHead bytes h rest × IsTrue (is_cut (decided key h) rest))
 
--- at least so many further bytes are needed: after fewer the bytes still await more
+-- at least `count` further bytes are needed: after fewer the bytes still await more
 abbrev pub Misses : List ℕ → List ℕ → ℕ → Type 0
 Misses key bytes count = (more : List ℕ) → length more < count → Awaits key (bytes ++ more)
 
--- after a whole head so many bytes are enough: with them the bytes mean something that no further bytes can change
+-- after a whole head `count` bytes are enough: with them the bytes mean something that no further bytes can change
 abbrev pub MissesNoMore : List ℕ → List ℕ → ℕ → Type 0
 MissesNoMore key bytes count = (h : RequestHead) (rest more : List ℕ) → IsHead bytes h rest → count ≤ length more
     → (asked : Asked) × IsSettled key (bytes ++ more) asked

@@ -9,7 +9,7 @@ use httparse::spans::{HeaderSpan, RequestSpans, parse_request};
 /// The most bytes of a head.
 const MOST_HEAD_BYTES: usize = 8_192;
 
-/// The most fields of a head.
+/// The maximum number of fields of a head.
 pub(crate) const MOST_FIELDS: usize = 64;
 
 /// What the bytes begin with.

@@ -11,7 +11,7 @@ use Rattle.http_serving.specs.declared.reading.Turn.TheVariants as turn
 abbrev pub Gives : Option (List ℕ) → Option (List ℕ) → List ℕ → Type 0
 Gives before after last = Consumes before after last × (length last ≤ 4096)
 
--- What one read did, after what was read before. It gave so many bytes, it was at the end, there was no room for its bytes, or it failed.
+-- What one read did, after what was read before. It gave some bytes, it was at the end, there was no room for its bytes, or it failed.
 abbrev pub TurnSays : Type 0 → Option (List ℕ) → Option (List ℕ) → List ℕ → List ℕ → Turn → Type 0
 TurnSays failed before after had has (turn.Gave count) =
     (last : List ℕ) × Gives before after last × (has ≡ had ++ last) × (length last ≡ count)

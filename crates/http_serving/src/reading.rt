@@ -64,7 +64,7 @@ pub(crate) fn read_message<H: Handler, R: Source>(
     Err(IoFault::Read)
 }
 
-/// How many bytes are missing, if so many are known to be missing. The handler is asked only if none is known to be.
+/// How many bytes are missing, if a number of missing bytes is known. The handler is asked only if none is known to be.
 fn still_missing<H: Handler>(service: &H, bytes: &[u8], known: usize) -> usize
     requires { Misses (H.wanting service.now) bytes.now known }
     ensures known { 0 < known → result ≡ known }

@@ -39,7 +39,7 @@ module _ (versions : List Version) (platforms : List (List ℕ)) (name : List �
       cases true is later = ap (λ n. version_among versions n platforms) ((bytes_eq-Decides a.name name).0 is)
       cases false is later = later
 
--- the place of an application represents it
+-- the application at its place is the one that its name finds
 by_place : (w : World) (h : HostRow) (o : Option ℕ)
     → option_and_then (λ (a : App). version_among w.versions a.name h.platforms) (option_and_then (nth w.apps) o)
     ≡ option_and_then (λ (a : Placed App). version_at w h a.place) (option_and_then (placed_at w.apps) o)

@@ -29,7 +29,7 @@ limits_on w number h held day = record {
 abbrev pub nothing_known : Known
 nothing_known = record { past = InPart []; apps = [] }
 
--- before the first offer, for a host with these limits that still wants so many seconds
+-- before the first offer, for a host with these limits that still wants this many seconds
 pub record IsBegun (h : HostRow) (limits : Limits) (wanted : ℕ) (t : Choosing) : Type 0 where
   pub host : t.host.now ≡ h
   pub known : t.known ≡ nothing_known

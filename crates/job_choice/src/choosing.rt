@@ -83,7 +83,7 @@ pub(crate) fn begin(alloc: Global, host: &HostRow, limits: Limits, wanted: u64) 
     }
 }
 
-/// Whether so many jobs are as many as a limit allows.
+/// Whether the number of jobs has reached a limit.
 fn reaches(count: usize, limit: u32) -> bool
     ensures { result ≡ nat_le limit count }
 {

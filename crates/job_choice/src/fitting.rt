@@ -8,7 +8,7 @@ ghost use Rattle.sched_book.specs.Fits as spec;
 
 use sched_book::{ClassRule, HostRow, Version, Workunit};
 
-/// The seconds that so many floating-point operations take at so many per second, rounded up, and at least 1.
+/// The seconds that floating-point operations take at a host's speed, rounded up, and at least 1.
 pub fn estimate(fpops: u64, p_fpops: u64) -> u64
     requires { 0 < p_fpops }
     ensures { result ≡ spec.estimate fpops p_fpops }

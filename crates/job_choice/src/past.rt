@@ -34,7 +34,7 @@ pub(crate) enum UserPast {
     Whole(SeenSet<u32>),
 }
 
-/// The look at the workunit at this place, if there is one.
+/// What was found out about this workunit, if it was looked at.
 fn find_look(looks: &[LookedAt], unit: u32) -> Option<&LookedAt>
     ensures { option_copied result ≡ look_of looks.now unit }
 {

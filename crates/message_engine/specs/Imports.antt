@@ -46,7 +46,7 @@ Reads = ReadsIn this_era
 abbrev pub import_of : ℕ → Kind → List ℕ → List ℕ → Result Rows Fault → Message
 import_of now kind batch text read = heard_now now (Import kind batch text read)
 
--- the entry of an import of so many rows, with its answer
+-- the entry of an import with this number of rows, with its answer
 abbrev pub entry_of_batch : Kind → List ℕ → List ℕ → ℕ → Entry
 entry_of_batch kind batch text count = Batch kind batch (record { text = text; answer = imported_text (kind_name kind) batch count })
 

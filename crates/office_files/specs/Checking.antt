@@ -32,7 +32,7 @@ new_units (rows.Apps xs) = 0
 new_units (rows.Versions xs) = 0
 new_units (rows.Workunits xs) = length xs
 
--- with so many rows in each table there is room for the new ones
+-- with these numbers of rows in the tables there is room for the new ones
 abbrev pub has_room_for : Counts → Rows → Bool
 has_room_for c new =
     nat_le (c.accounts + new_accounts new) most_accounts && nat_le (c.apps + new_apps new) most_apps

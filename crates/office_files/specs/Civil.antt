@@ -2,7 +2,7 @@
 use Rattle.std.specs.Prelude.{ℕ, zero, suc, ◌+◌, ◌-◌, ◌/◌, ◌%◌, Bool, nat_lt, if◌then◌else◌, List, [], ◌∷◌, ◌++◌, pos}
 use Rattle.jiff_core.specs.Calendar.{day_count}
 
--- the first number from n on that passes, among so many, and the one after them if none does
+-- the first of `count` numbers from n on that passes, and the one after them if none does
 unfoldable pub first_from : ℕ → ℕ → (ℕ → Bool) → ℕ
 first_from n zero p = n
 first_from n (suc more) p = if p n then n else first_from (n + 1) more p

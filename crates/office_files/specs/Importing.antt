@@ -115,7 +115,7 @@ first_other fields index (name ∷ names) = if is_field fields index name then f
 abbrev pub header_fault : List (List ℕ) → Record → Option ℕ
 header_fault names fields = if length fields == length names then first_other fields 0 names else Some 0
 
--- the row that a record of so many fields says
+-- the row that a record with this number of fields says
 unfoldable pub row_of : {X : Type 0} → (ℕ → Record → Result X RowsFault) → ℕ → ℕ → Record → Result X RowsFault
 row_of reads count row fields = if length fields == count then reads row fields else Err (BadCsv row 0)
 

@@ -109,7 +109,7 @@ fn unknown_in<D: Desk>(alloc: Global, desk: &mut D, rows: &Rows) -> Result<Optio
     }
 }
 
-/// Whether a table with so many rows has room for the new ones.
+/// Whether a table with `count` rows has room for the new ones.
 fn fits(count: u32, new: usize, most: usize) -> bool
     requires { most ≤ MOST_WORKUNITS }
     ensures { result ≡ nat_le (count + new) most }

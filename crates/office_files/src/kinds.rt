@@ -37,10 +37,10 @@ const WORKUNIT_COLUMNS: [&str; 13] = [
 pub(crate) trait ImportRow: Drop {
     ghost use Rattle.office_files.specs.declared.fault.RowsFault.{RowsFault};
 
-    /// The fields of its header, if the first record has so many.
+    /// The fields of its header, if the first record has this number of them.
     ghost header: { ℕ → List (List ℕ) };
 
-    /// What a data row of so many fields says.
+    /// What a data row with this number of fields says.
     ghost reads: { ℕ → List (List ℕ) → Result Self RowsFault };
 
     /// The ranges of its values.
@@ -50,7 +50,7 @@ pub(crate) trait ImportRow: Drop {
     fn header_fault(fields: &ByteRecord) -> Option<u64>
         ensures { result ≡ spec.header_fault (header (length (fields_of fields.now))) (fields_of fields.now) };
 
-    /// Reads a data row of so many fields.
+    /// Reads a data row with this number of fields.
     fn read(alloc: Global, row: &DataRow) -> Result<Self, RowsFault>
         ensures said { Gives result (reads row.now.number (fields_of row.now.record.now)) }
         ensures limits { IfOk result is_in_limits };

@@ -30,7 +30,7 @@ fn read_row<R: ImportRow>(alloc: Global, field_count: usize, row: &DataRow) -> R
     R::read(alloc, row)
 }
 
-/// Reads the data rows under a header of so many fields.
+/// Reads the data rows under a header with this number of fields.
 #[tactic(auto, unfolding(crate::specs::Importing::rows_from, texts::specs::Reading::and_then))]
 fn read_data<R: ImportRow>(
     alloc: Global,

@@ -32,7 +32,7 @@ put_behind unit number count b last =
     ∙ ap (λ (t : Bool). Some (record b { instances = cond t (slice_set b.instances number fresh) (b.instances ++ fresh ∷ []) }))
     (le-ltb number (length b.instances) (omega arith))
 
--- so many instances after its own
+-- `many` instances after its own
 pub fresh_here : (unit number count many : ℕ) (b : UnitBook) → number ≡ length b.instances
     → book_after unit count (Some b) (fresh_changes unit number many) ≡ Some (record b { instances = b.instances ++ replicate many fresh })
 fresh_here unit number count zero b last = ap (λ xs. Some (record b { instances = xs })) (sym (append-nil b.instances))

@@ -32,7 +32,7 @@ fits_then v (c ∷ cs) ds front behind = (front.0, fits_then (applied_one v c) c
 pub fresh_in_limits : IsInstanceInLimits fresh
 fresh_in_limits = record { sent = tt; deadline = tt; output = tt; place = tt }
 
--- so many instances fit after a workunit's own, if there are at most a hundred in all
+-- `many` instances fit after a workunit's own, if there are at most a hundred in all
 fresh_fits : (v : World) (unit number many : ℕ) (b : UnitBook) → unit_at v unit ≡ Some b → number ≡ length b.instances → number + many ≤ most_instances
     → Fits v (fresh_changes unit number many)
 fresh_fits v unit number zero b stands last few = tt

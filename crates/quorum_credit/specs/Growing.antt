@@ -8,7 +8,7 @@ use Rattle.sched_book.specs.declared.instance.UnitBook.{UnitBook}
 use Rattle.sched_book.specs.declared.world.World.{World}
 use Rattle.quorum_credit.specs.Settled.{new_instances}
 
--- so many instances of a workunit that were given to nobody; the first has the number `number`
+-- `count` instances of a workunit that were given to nobody; the first has the number `number`
 abbrev pub fresh_changes : ℕ → ℕ → ℕ → List Change
 fresh_changes unit number zero = []
 fresh_changes unit number (suc count) =

@@ -3,7 +3,7 @@
 ghost use Rattle.std.specs.Prelude.{◌≡◌, ◌≤◌, ◌*◌, ◌^◌, min};
 ghost use Rattle.sched_book.specs.Settle.{next_quota};
 
-/// A number doubled so many times, but at most the limit. It stops at the limit, so there are at most 32 doublings.
+/// A number doubled `times` times, but at most the limit. It stops at the limit, so there are at most 32 doublings.
 fn raised(number: u32, times: u32, limit: u32) -> u32
     requires { 1 ≤ number }
     ensures { result ≡ min limit (number * 2 ^ times) }

@@ -17,7 +17,7 @@ use serde_json::Value;
 use std::alloc::{AllocError, Global};
 use texts::{Listed, Memory, Text};
 
-/// 10^18: the most operations a second and the most bytes that a host may name.
+/// 10^18: the maximum of operations a second, and of bytes, that a host may name.
 const MOST_AMOUNT: u64 = 1_000_000_000_000_000_000;
 
 const MOST_SECONDS: u64 = 1_000_000_000;

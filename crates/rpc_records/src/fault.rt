@@ -97,7 +97,7 @@ pub enum Fault {
     /// A kept call of the host has the same number and said something else. The number given is that of the host's last
     /// call.
     Reused(u32),
-    /// There are as many hosts as there may be.
+    /// The limit of hosts is reached.
     HostsFull,
     /// The operator's key is missing or wrong.
     NotOperator,

@@ -11,7 +11,7 @@ ghost use Rattle.rpc_records.specs.Ranges.{IsInRange};
 ghost use Rattle.rpc_records.specs.Reading.{json_of, meaning};
 ghost use Rattle.rpc_records.specs.Spelling.{canonical_text};
 
-/// A body is refused as no object exactly if it is none.
+/// The refusal of a body says that it is no object exactly if it is none.
 pub fn only_objects_are_read()
     ensures { (body : List ℕ) → (meaning body ≡ Err BadJson) ↔ ((ms : Members) → json_of body ≢ Some (object ms)) }
 {}

@@ -1,21 +1,43 @@
 -- What ballots say of good reports: their votes, and which report leads.
-use Rattle.std.proofs.Common.{◌≡◌, ℕ, ◌+◌, ◌<◌, ◌≤◌, Bool, true, false, cond, List, [], ◌∷◌, ◌++◌, ◌-◌, length, take, drop, map, get_or, Option, Some, sym, refl, ap, ◌∙◌, arith}
-use Rattle.std.specs.Prelude.{find, nat_le, option_map, is_some}
+use Rattle.std.proofs.Common.{◌≡◌, ℕ, ◌+◌, ◌<◌, ◌≤◌, Bool, true, false, cond, List, [], ◌∷◌, ◌++◌, ◌-◌, length, take, drop, map, get_or, Option, None, Some, sym, refl, ap, ◌∙◌, arith}
+use Rattle.std.specs.Prelude.{◌||◌, ℤ, pos, ◌-ℤ◌, nat_abs, find, nat_le, option_map, is_some}
+use Rattle.std.specs.Str.{bytes_eq}
 use Rattle.std.proofs.lemmas.List.{get_or-map, get_or-drop, get_or-append_right, length-map, length-take, length-take-le, take_all, drop_all, append-nil, map-id, take-map}
 use Rattle.std.proofs.lemmas.Simd.{map-map}
+use Rattle.std.proofs.lemmas.Int.{ints}
+use Rattle.std.proofs.lemmas.Slice.Eq.{bytes_eq-Decides}
+use borrow.Author.Tests.{le-leb}
 use Rattle.std.proofs.lemmas.List.Sums.{count_by_more_yes, count_by_more_no, count_by-le-length}
 use Rattle.sched_book.specs.Ballots.{agree_by, ballot_of, voted, numbers_of, counted_in}
 use Rattle.sched_book.specs.Count.{agree, output_of, votes, leader, first_leader}
 use Rattle.sched_book.proofs.Reports.{leader_from, leader_from-is, leader_from-here, leader_from-later, leader_from-last}
-use Rattle.sched_book.specs.WholeNumbers.{whole_number}
+use Rattle.sched_book.specs.WholeNumbers.{whole_number, are_within}
 use Rattle.sched_book.specs.declared.ballots.Ballot.{Ballot}
 use Rattle.sched_book.specs.declared.instance.Instance.{Instance}
 use Rattle.sched_book.specs.declared.rows.Agreement.{Agreement}
 use Rattle.sched_book.specs.declared.rows.Agreement.TheVariants.{Exact, Within}
 
+-- equal numbers are within any distance
+near : (d : ℕ) (m : ℤ) → are_within d (Some m) (Some m) ≡ true
+near d m =
+    let none : m -ℤ m ≡ pos 0 = omega (arith, ints) in
+    ap (λ z. nat_le (nat_abs z) d) none ∙ le-leb 0 d (omega arith)
+
 agree_is : (a : Agreement) (x y : List ℕ) → agree_by a x (whole_number x) y (whole_number y) ≡ agree a x y
 agree_is Exact x y = refl
-agree_is (Within d) x y = refl
+agree_is (Within d) x y = cases (whole_number x) (whole_number y) (bytes_eq x y) refl refl refl
+  where
+    cases : (m n : Option ℤ) (same : Bool) → whole_number x ≡ m → whole_number y ≡ n → bytes_eq x y ≡ same
+        → agree_by (Within d) x m y n ≡ bytes_eq x y || are_within d m n
+    cases None n false left right is = is ∙ sym (ap (λ (b : Bool). b || false) is)
+    cases None n true left right is = is ∙ sym (ap (λ (b : Bool). b || false) is)
+    cases (Some m) None false left right is = is ∙ sym (ap (λ (b : Bool). b || false) is)
+    cases (Some m) None true left right is = is ∙ sym (ap (λ (b : Bool). b || false) is)
+    cases (Some m) (Some n) false left right is = sym (ap (λ (b : Bool). b || are_within d (Some m) (Some n)) is)
+    cases (Some m) (Some n) true left right is =
+        let texts : x ≡ y = (bytes_eq-Decides x y).0 is in
+        let both : Some m ≡ Some n = sym left ∙ ap whole_number texts ∙ right in
+        ap (λ o. are_within d (Some m) o) (sym both) ∙ near d m ∙ sym (ap (λ (b : Bool). b || are_within d (Some m) (Some n)) is)
 
 -- no report has more votes than there are reports
 pub votes_are_few : (a : Agreement) (xs : List Instance) (n : ℕ) (reports : List ℕ) (i : ℕ) (b d : Ballot) → i < length reports

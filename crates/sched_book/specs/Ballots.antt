@@ -1,5 +1,5 @@
 -- Words. Good reports with the votes that they have among the first of them.
-use Rattle.std.specs.Prelude.{ℕ, ◌+◌, Bool, ◌||◌, if◌then◌else◌, List, take, map, Option, ℤ}
+use Rattle.std.specs.Prelude.{ℕ, ◌+◌, Bool, if◌then◌else◌, List, take, map, Option, Some, None, ℤ}
 use Rattle.std.specs.Str.{bytes_eq}
 use Rattle.sched_book.specs.Count.{output_of, votes}
 use Rattle.sched_book.specs.WholeNumbers.{whole_number, are_within}
@@ -8,10 +8,13 @@ use Rattle.sched_book.specs.declared.instance.Instance.{Instance}
 use Rattle.sched_book.specs.declared.rows.Agreement.{Agreement}
 use Rattle.sched_book.specs.declared.rows.Agreement.TheVariants.{Exact, Within}
 
--- two outputs agree, if these are the whole numbers that they are
+-- Two outputs agree, if these are the whole numbers that they are. Equal texts are equal numbers, so the texts of two numbers
+-- need no comparison.
 abbrev pub agree_by : Agreement → List ℕ → Option ℤ → List ℕ → Option ℤ → Bool
 agree_by Exact x m y n = bytes_eq x y
-agree_by (Within d) x m y n = bytes_eq x y || are_within d m n
+agree_by (Within d) x None y n = bytes_eq x y
+agree_by (Within d) x (Some m) y None = bytes_eq x y
+agree_by (Within d) x (Some m) y (Some n) = are_within d (Some m) (Some n)
 
 abbrev pub ballot_of : List Instance → (ℕ → ℕ) → ℕ → Ballot
 ballot_of xs votes_of i = record { number = i; value = whole_number (output_of xs i); votes = votes_of i }

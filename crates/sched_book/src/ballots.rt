@@ -46,16 +46,15 @@ fn ballots_of(instances: &[Instance], reports: &[usize]) -> ArrayVec<Ballot, MOS
     ballots
 }
 
-/// Whether the outputs of two reports agree.
+/// Whether the outputs of two reports agree. Two whole numbers are compared without their texts.
 fn do_agree(agreement: &Agreement, instances: &[Instance], left: &Ballot, right: &Ballot) -> bool
     ensures { result ≡ agree_by agreement.now (output_of instances.now left.now.number) left.now.value (output_of instances.now right.now.number) right.now.value }
 {
-    let same = output_at(instances, left.number) == output_at(instances, right.number);
-    match agreement {
-        Agreement::Exact => same,
-        Agreement::Within(distance) => {
-            same || are_numbers_within(*distance, left.value, right.value)
+    match (agreement, left.value, right.value) {
+        (Agreement::Within(distance), Some(_), Some(_)) => {
+            are_numbers_within(*distance, left.value, right.value)
         }
+        _ => output_at(instances, left.number) == output_at(instances, right.number),
     }
 }
 

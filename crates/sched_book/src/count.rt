@@ -149,7 +149,7 @@ pub fn live_count(instances: &[Instance]) -> usize
         .count()
 }
 
-/// How many results a workunit wants by now, if it has so many successes.
+/// How many results a workunit wants by now, with this number of successes.
 fn wanted(unit: &Workunit, successes: usize) -> usize
     requires { successes ≤ MOST_INSTANCES }
     ensures value { result ≡ want unit.now successes }

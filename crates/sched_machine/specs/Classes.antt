@@ -83,7 +83,7 @@ abbrev pub OwnersAreOfClasses : Type 0
 OwnersAreOfClasses = (w after : World) (c : Call) (now : ℕ) (answer : Answered) → Sound w → Step w c now after answer → (p : Place) (o : Owner)
     → owner_at after p ≡ Some o → HadOwner w p o ⊎ IsGiven w after c now p o
 
--- the call after so many turns of a run gives the instance; the workunit's rule is the one in a later world
+-- the call after the first n turns of a run gives the instance; the workunit's rule is the one in a later world
 abbrev pub IsGivenAfter : World → List (Call × ℕ) → List (Answered × World) → ℕ → World → Place → Owner → Type 0
 IsGivenAfter w calls turns n later p o = (e : Call × ℕ) × (slice_get calls n ≡ Some e) × IsGiven (world_after w turns n) later e.0 e.1 p o
 

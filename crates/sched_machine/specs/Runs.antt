@@ -20,7 +20,7 @@ abbrev pub AllAfter : (World → Type 0) → List (Answered × World) → Type 0
 AllAfter P [] = Unit {0}
 AllAfter P (t ∷ ts) = P t.1 × AllAfter P ts
 
--- the world of a run after so many of its turns: the first world after none, the last one after all
+-- the world of a run after n of its turns: the first world after none, the last one after all
 abbrev pub world_after : World → List (Answered × World) → ℕ → World
 world_after w turns zero = w
 world_after w [] (suc n) = w

@@ -16,7 +16,7 @@ use Rattle.sched_machine.specs.Held.{IsHeldByName}
 use Rattle.sched_machine.specs.Laws.{AreCallsInLimits}
 use Rattle.sched_machine.specs.Runs.{owner_at, world_after, IsSentAgain}
 
--- the call after so many turns of a run sends the instance at a place again to its owner, the host that calls
+-- the call after the first n turns of a run sends the instance at a place again to its owner, the host that calls
 abbrev pub IsSentAgainAfter : World → List (Call × ℕ) → List (Answered × World) → ℕ → Place → Owner → Type 0
 IsSentAgainAfter w calls turns n p o = (e : Call × ℕ) × (slice_get calls n ≡ Some e) × IsSentAgain (world_after w turns n) e.0 p o
 
@@ -28,7 +28,7 @@ DeadlinesMoveByResendsInRuns = (w : World) (calls : List (Call × ℕ)) (turns :
     → (deadline_at (world_after w turns j) p ≡ deadline_at (world_after w turns i) p)
     ⊎ ((n : ℕ) × (i ≤ n) × (n < j) × IsSentAgainAfter w calls turns n p o)
 
--- The call after so many turns of a run got a reply. After it its host holds exactly what is listed or named.
+-- The call after the first n turns of a run got a reply. After it its host holds exactly what is listed or named.
 pub record IsInSightAfter (w : World) (turns : List (Answered × World)) (n : ℕ) (c : Caller) (r : Request) (names : List (List ℕ)) : Type 0 where
   pub reply : Reply
   pub turn : slice_get turns n ≡ Some (answered.Rpc reply, world_after w turns (suc n))

@@ -6,7 +6,7 @@ ghost use Rattle.sched_tables.specs.Laws.{HeldCanBeOpened, OpenedAreTaken, Reope
 
 use sqlite::Alter;
 
-/// Tables in memory have no disk that could fail. So they are never shut, and what they say needs no premise.
+/// Tables in memory have no disk. So they are never shut, and what they say needs no premise.
 pub fn memory_never_fails()
     ensures { NeverFails over_memory }
 {}

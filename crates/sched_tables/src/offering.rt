@@ -16,7 +16,7 @@ use sched_book::{Candidate, Flow, Place, Taker, Unavailable, copy_of};
 use sqlite::Alter;
 use table_cache::UnitRead;
 
-/// The workunits of at most so many offers of one look-up are remembered.
+/// Of how many offers of one look-up the workunits are remembered, at most.
 const MOST_NOTED: usize = 16;
 
 /// A taker that passes each offer on to another taker, and notes the workunits of the first ones.

@@ -117,7 +117,7 @@ impl<S: Alter + Drop> Tables<S> {
 }
 
 impl Tables<MemStore> {
-    /// New tables in memory, with these settings. They have no disk that could fail, so that they stay open.
+    /// New tables in memory, with these settings. They have no disk, so they stay open.
     pub fn in_memory(alloc: Global, settings: &Settings) -> Result<Tables<MemStore>, OpenFault>
         ensures open { IfOk result (λ t. IsHonest (state_of over_memory t)) }
         ensures held { IfOk result (AreKept over_memory) }

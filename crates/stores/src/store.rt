@@ -29,7 +29,7 @@ pub trait Store: Desk {
     /// Its disk has returned what was written, so far.
     ghost clean: { Self → Type 0 };
 
-    /// It has no disk that could fail: it is never shut.
+    /// It has no disk, so it is never shut.
     ghost lasting: { Type 0 };
 
     /// What a stop at this moment may leave, if the disk returns what was written. It is what the store holds when it

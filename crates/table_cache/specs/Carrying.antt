@@ -72,7 +72,7 @@ share account (Some h) = if h.row.account == account then h.credit else 0
 abbrev pub IsShareOf : ℕ → Option CountedHost → ℕ → Type 0
 IsShareOf account host credit = (other : ℕ) → share other host ≡ (if account == other then credit else 0)
 
--- what the hosts of the first so many numbers add to it
+-- what the hosts of the first `count` numbers add to it
 abbrev pub shares : (ℕ → Option CountedHost) → ℕ → ℕ → ℕ
 shares hosts account count = sum_by (λ number. share account (hosts number)) (range_with_len 0 count)
 
@@ -114,11 +114,11 @@ given_to host day s = if (s.host == host) && (s.day == day) then 1 else 0
 abbrev pub weight : ℕ → ℕ → Option Instance → ℕ
 weight host day job = if option_any (was_sent host day) job then 1 else 0
 
--- how many of a workunit's first so many jobs a host was sent on a day
+-- how many of a workunit's first n jobs a host was sent on a day
 abbrev pub sent_of_unit : (ℕ → ℕ → Option Instance) → ℕ → ℕ → ℕ → ℕ → ℕ
 sent_of_unit jobs host day numbers unit = sum_by (λ number. weight host day (jobs unit number)) (range_with_len 0 numbers)
 
--- how many of the jobs of the first so many workunits it was sent
+-- how many of the jobs of the first n workunits it was sent
 abbrev pub sent_among : (ℕ → ℕ → Option Instance) → ℕ → ℕ → ℕ → ℕ → ℕ
 sent_among jobs host day units numbers = sum_by (sent_of_unit jobs host day numbers) (range_with_len 0 units)
 

@@ -31,7 +31,7 @@ pub(crate) struct HostsRead {
 }
 
 impl HostsRead {
-    /// Nothing, and room for so many of each kind.
+    /// Nothing, and room for this number of each kind.
     pub(crate) fn new(alloc: Global, most: usize) -> HostsRead
         ensures rows { (key : ℕ) → get nat_cmp result.rows.rows key ≡ None }
         ensures credits { (key : ℕ) → get nat_cmp result.credits.rows key ≡ None }

@@ -56,7 +56,7 @@ pub(crate) struct UnitsRead {
 }
 
 impl UnitsRead {
-    /// Nothing, and room for so many workunits and names.
+    /// Nothing, and room for this number of workunits and of names.
     pub(crate) fn new(alloc: Global, most_rows: usize, most_names: usize) -> UnitsRead
         ensures rows { (key : ℕ) → get nat_cmp result.rows.rows key ≡ None }
         ensures names { (key : List ℕ) → get (slice_cmp nat_cmp) result.names.rows key ≡ None }

@@ -10,7 +10,7 @@ use std::alloc::Global;
 use std::collections::BTreeMap;
 use texts::{Memory, Same};
 
-/// Rows by their keys, as they were read, at most so many. At one more, those before it are forgotten.
+/// Rows by their keys, as they were read, at most `most`. At one more, those before it are forgotten.
 #[derive(Drop)]
 pub(crate) struct RowsRead<K: Ord, T> {
     rows: BTreeMap<K, T>,
@@ -18,7 +18,7 @@ pub(crate) struct RowsRead<K: Ord, T> {
 }
 
 impl<K: Ord, T> RowsRead<K, T> {
-    /// No rows, and room for so many.
+    /// No rows, and room for `most`.
     pub(crate) fn new(alloc: Global, most: usize) -> RowsRead<K, T>
         ensures { (key : K) → get K.cmp result.rows key ≡ None }
     {

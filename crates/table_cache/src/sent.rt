@@ -45,7 +45,7 @@ pub(crate) struct JobsRead {
 }
 
 impl JobsRead {
-    /// Nothing, and room for so many workunits and hosts.
+    /// Nothing, and room for this number of workunits and of hosts.
     pub(crate) fn new(alloc: Global, most_units: usize, most_hosts: usize) -> JobsRead
         ensures instances { (key : ℕ) → get nat_cmp result.instances.rows key ≡ None }
         ensures sent { (key : ℕ) → get nat_cmp result.sent.rows key ≡ None }

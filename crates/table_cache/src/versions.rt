@@ -15,7 +15,7 @@ use texts::{Listed, Memory, Text};
 /// The most versions that are remembered. At one more, those before it are forgotten.
 const MOST_VERSIONS: usize = 100;
 
-/// A version, for which platforms of a host and for the application at which place it was asked for.
+/// A cached version, with the platforms and the application of its look-up.
 #[derive(Drop)]
 pub(crate) struct VersionRead {
     platforms: Listed<Text>,

@@ -39,7 +39,7 @@ pub puts_own : (w : World) (key : WorldKey) (r : StoredRow) (rows : List StoredR
 puts_own w key r rows is =
     ap (λ b. b || is_put rows key) (ap (λ j. same_key j (key_of r)) (sym (row_has_key w key r is)) ∙ key_itself (key_of r))
 
--- more rows, which are of the world after and settle the further keys
+-- if the further rows are the new world's, they account for the further keys
 pub changes_more : (at wider : WorldKey → Bool) (before after : World) (xs ys : List StoredRow)
     → ((k : WorldKey) → wider k ≡ true → (at k ≡ true) ⊎ (is_put ys k ≡ false → IsSettled before after k)) → AllByRecursion (IsRowOf after) ys
     → AreChangesAt at before after xs → AreChangesAt wider before after (xs ++ ys)

@@ -74,7 +74,7 @@ of_unit w id b = stored.Unit (unit_row w id b)
 abbrev pub of_mark : ℕ → UnitBook → StoredRow
 of_mark id b = stored.UnitMark (mark_row id b)
 
--- the row of a host that holds so many instances, with so much credit
+-- the row of a host that holds this many instances, with this credit
 abbrev pub of_host : (ℕ → ℕ) → (ℕ → ℕ) → ℕ → HostRow → StoredRow
 of_host held credit id h = stored.Host (host_row (held id) (credit id) id h)
 

@@ -195,7 +195,7 @@ next_made (d ∷ all) zero at within below = absurd (omega (arith, below))
 next_made (d ∷ all) (suc count) zero within below = (d.1, refl)
 next_made (d ∷ all) (suc count) (suc at) within below = next_made all count at (omega (arith, within)) (omega (arith, below))
 
--- the wanted tables, and the rows that they have in the end
+-- the new tables, with their rows after the step
 module _ (wanted : Schema) (rows : Trees) where
   left_with : (old new : Database) (text : List ℕ) (made : Made) (more : List (List ℕ × Made)) → IsLeft wanted rows ((text, made) ∷ more) old → new.schema ≡ with_made old.schema made
       → AllByRecursion (λ t. new.trees t.tree ≡ rows t.tree) (with_made old.schema made).tables → IsLeft wanted rows more new

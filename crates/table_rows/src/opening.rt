@@ -23,7 +23,7 @@ use table_meaning::tables::NEWEST_SCHEMA;
 /// Why tables are refused.
 #[derive(Clone, Copy, Debug, PartialEq, Eq)]
 pub enum OpenFault {
-    /// Its tables are not the stored ones.
+    /// Its tables are not bsched's.
     NotTables,
     /// Its tables are those of an older schema with this number. They must be upgraded.
     OldSchema(u32),
@@ -88,7 +88,7 @@ impl From<OpenFault> for Unavailable {
 /// Why a connection is refused.
 #[derive(Drop)]
 pub enum Refused<S: Alter> {
-    /// Its tables are not the stored ones. The connection was opened anew.
+    /// Its tables are not bsched's. The connection was opened anew.
     NotTables(Connection<S>),
     /// Its tables are those of an older schema with this number. The connection was opened anew.
     OldSchema(u32, Connection<S>),

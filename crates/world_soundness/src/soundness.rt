@@ -33,7 +33,7 @@ fn is_sound_version(apps: &[App], version: &Version) -> bool
     has_app(apps, version.app.as_str()) && is_version_in_limits(version)
 }
 
-/// Whether a host is sound, if there are so many accounts and its quota has this limit.
+/// Whether a host is sound, with this number of accounts and this limit of its quota.
 fn is_sound_host(accounts: usize, most_quota: u32, host: &HostRow) -> bool
     ensures { IsTrue result ↔ IsSoundHost accounts most_quota host.now }
 {

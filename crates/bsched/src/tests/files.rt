@@ -30,7 +30,7 @@ pub struct Fuses {
 }
 
 impl Fuses {
-    /// The log, or the database file, lets so many calls through, and the other never fails.
+    /// The log, or the database file, fails after this many calls, and the other never fails.
     pub fn after(calls: u64, in_log: bool) -> Fuses {
         let mut fuses = LASTING;
         if in_log {
@@ -110,7 +110,7 @@ pub trait Deed: Copy {
     }
 }
 
-/// What a deed shows over the database in files that fail after so many calls. (Only this function names a connection
+/// What a deed shows over the database in files that fail after this many calls. (Only this function names a connection
 /// to such files, since the proof of each function that does takes a minute.)
 pub fn done_in<D: Deed>(
     alloc: Global,

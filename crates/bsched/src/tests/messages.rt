@@ -251,7 +251,7 @@ fn served_before_a_fault<S: Store>(
     (served, written)
 }
 
-/// The result of serving a message if there is room for so many bytes.
+/// The result of serving a message if there is room for this many bytes of the answer.
 fn served_into<S: Store>(
     alloc: Global,
     service: &mut Service<S>,

@@ -30,14 +30,14 @@ fn answers_of(alloc: Global, row: &str) -> Result<String, Fail> {
     lines_after(alloc, row, "< ")
 }
 
-/// Whether a row holds, if there may be so many hosts. After the project's imports each line must get its answer.
+/// Whether a row holds, with this limit of hosts. After the project's imports each line must get its answer.
 fn holds(alloc: Global, max_hosts: u32, row: &str) -> Result<bool, Fail> {
     let lines = lines_of(alloc, row)?;
     let told = answers_of(alloc, row)?;
     answers_in_project(alloc, max_hosts, lines.as_str(), told.as_str())
 }
 
-/// The name of the first row that does not hold, if there may be so many hosts.
+/// The name of the first row that does not hold, with this limit of hosts.
 pub fn first_wrong(
     alloc: Global,
     max_hosts: u32,

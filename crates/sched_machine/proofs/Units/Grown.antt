@@ -31,7 +31,7 @@ pairs_more R (x ∷ xs) n y apart pairs =
     (All-append (R x) xs (replicate n y) (λ k d within. pairs 0 (suc k) d (omega arith) (omega arith)) (All-replicate (R x) n y (apart x)))
     (pairs_more R xs n y apart (λ i j d below within. pairs (suc i) (suc j) d (omega arith) (omega arith)))
 
--- how many pass, with so many equal elements after the list
+-- how many pass, with n equal elements after the list
 count_with : {X : Type 0} (p : X → Bool) (xs : List X) (n : ℕ) (y : X) (b : Bool) → p y ≡ b
     → count_by p (xs ++ replicate n y) ≡ count_by p xs + n * cond {A = ℕ} b 1 0
 count_with p xs n y b is =

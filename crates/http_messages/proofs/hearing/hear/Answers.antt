@@ -1,4 +1,4 @@
--- A head was read: after it there is a whole body, or so many of its bytes are missing.
+-- A head was read: after it there is a whole body, or some of its bytes are missing.
 use Rattle.std.proofs.Common.{drop}
 use Rattle.std.proofs.lemmas.List.{take_rest}
 use Rattle.http_messages.specs.Hearing.{decision_seen}

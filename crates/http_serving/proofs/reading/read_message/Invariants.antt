@@ -4,7 +4,7 @@ use Rattle.http_serving.specs.Serving.{Comes}
 use Rattle.http_serving.specs.Streams.{Calls}
 use Rattle.http_serving.proofs.reading.read_message.Given as goal
 
--- what came so far was wanted, so many bytes are missing, and each turn was one read
+-- what came so far was wanted, this many bytes are missing, and each turn was one read
 abbrev pub invariant-loop : goal.invariant-loop
 invariant-loop g l = record {
   came : Comes (g.H.Handler.wanting l.service) (g.R.Source.left l.fn.reader) (g.R.Source.left l.reader) l.bytes.items;
