@@ -7,20 +7,22 @@ use Rattle.http_serving.specs.declared.fault.IoFault.TheVariants.{Read, Write}
 use Rattle.sched_server.specs.Arrivals.{Came}
 use Rattle.sched_server.specs.Serving.{ServesStream, ServesConnection}
 use Rattle.sched_server.specs.declared.service.Service.{Service}
-use Rattle.commands.specs.Messages.{AreOf, AtMostOne, HasArrived}
+use Rattle.commands.specs.Messages.{AreOf, IsOne, HasArrived}
 use Rattle.commands.specs.declared.answering.Task.{Task}
 use Rattle.commands.specs.declared.answering.Task.TheVariants as task
+use Rattle.commands.specs.declared.ending.Failure.{Failure}
+use Rattle.commands.specs.declared.ending.Outcome.{Outcome}
 
--- no message was handled
-pub none_of : (t : Task) → AreOf t []
-none_of (task.Serve port count) = omega arith
-none_of (task.Import kind batch file) = tt
-none_of (task.Tick at) = tt
-none_of (task.Statement host) = tt
+-- no message was handled, and the task failed
+pub none_of : (t : Task) (why : Failure) → AreOf t (Err why) []
+none_of (task.Serve port count) why = omega arith
+none_of (task.Import kind batch file) why = tt
+none_of (task.Tick at) why = tt
+none_of (task.Statement host) why = tt
 
 -- a message that arrived so is the one of its order
-pub one_of : (c : Came) (now : ℕ) (bytes : List ℕ) (Is : List ℕ → Type 0) → HasArrived now bytes c → Is bytes → AtMostOne now Is (c ∷ [])
-one_of c now bytes Is arrived is = (arrived.now_is, subst Is (sym arrived.bytes_are) is)
+pub one_of : (ended : Result Outcome Failure) (c : Came) (now : ℕ) (bytes : List ℕ) (Is : List ℕ → Type 0) → HasArrived now bytes c → Is bytes → IsOne ended now Is (c ∷ [])
+one_of ended c now bytes Is arrived is = (arrived.now_is, subst Is (sym arrived.bytes_are) is)
 
 -- what became of a connection, by the result of serving it
 pub connection_served : {S : Type 0} (store : Parts S) (now : ℕ) (before after : Option (List ℕ)) (Whole Front : List ℕ → Type 0) (W : Type 0) (old new : Service S)

@@ -1,5 +1,5 @@
 -- Promise. What an order leaves of the database of its file, and of what a stop may leave of it. (This project's own.)
-use Rattle.std.specs.Prelude.{◌≡◌, ◌-◌, ℕ, List, [], ◌++◌, IsTrue}
+use Rattle.std.specs.Prelude.{◌≡◌, ◌-◌, ℕ, List, [], ◌++◌, Result, IsTrue}
 use Rattle.sqlite.specs.Effect.{Database}
 use Rattle.sqlite.specs.Held.{AreDatabases}
 use Rattle.sqlite.specs.State.{State, HasCleanDisk, Opens}
@@ -22,6 +22,8 @@ use Rattle.table_pasts.specs.Stops.{OpensAndStands, StandSince}
 use Rattle.commands.specs.Messages.{AreOf}
 use Rattle.commands.specs.declared.database.Action.{Action}
 use Rattle.commands.specs.declared.database.Action.TheVariants as action
+use Rattle.commands.specs.declared.ending.Failure.{Failure}
+use Rattle.commands.specs.declared.ending.Outcome.{Outcome}
 
 -- A store that a connection gave back. If the disk returned what was written, whatever a stop may leave is a database.
 pub record IsGivenBack {S : Type 0} (g : Ghosts S) (s : S) : Type 0 where
@@ -70,7 +72,7 @@ pub record UpgradesTables {S : Type 0} (g : Ghosts S) (old : State) (s : S) : Ty
 
 -- ---- what an action leaves
 
-abbrev pub LeavesDatabase : {S : Type 0} → Ghosts S → Action → State → S → Type 0
-LeavesDatabase g (action.Create settings) old s = MakesTables g settings.now s
-LeavesDatabase g action.Upgrade old s = UpgradesTables g old s
-LeavesDatabase g (action.Handle task) old s = (came : List Came) × AreOf task came × ServesTables g came old s
+abbrev pub LeavesDatabase : {S : Type 0} → Ghosts S → Action → Result Outcome Failure → State → S → Type 0
+LeavesDatabase g (action.Create settings) ended old s = MakesTables g settings.now s
+LeavesDatabase g action.Upgrade ended old s = UpgradesTables g old s
+LeavesDatabase g (action.Handle task) ended old s = (came : List Came) × AreOf task ended came × ServesTables g came old s

@@ -1,5 +1,5 @@
 -- Promise. From a file to a file: what an order leaves of the files of its database agrees with the messages that came. (This project's own.)
-use Rattle.std.specs.Prelude.{ℕ, ◌-◌, ◌≤◌, List, [], ◌++◌, length}
+use Rattle.std.specs.Prelude.{ℕ, ◌-◌, ◌≤◌, List, [], ◌++◌, Result, length}
 use Rattle.sqlite.specs.Effect.{Database, IsDatabase}
 use Rattle.sqlite.specs.Files.{HoldsDatabase}
 use Rattle.sqlite_disk.specs.declared.Disk as disk
@@ -21,9 +21,11 @@ use Rattle.table_meaning.specs.Schemas.{IsSchema}
 use Rattle.table_meaning.specs.Upgrades.{HoldWorldAt}
 use Rattle.table_meaning.specs.Worlds.{SlotCalls}
 use Rattle.table_pasts.specs.Stops.{OpensAndStands, StandSince}
-use Rattle.commands.specs.Messages.{AreOf, AtMostOne, IsImport, IsTick, IsStatement}
+use Rattle.commands.specs.Messages.{AreOf, IsOne, IsImport, IsTick, IsStatement}
 use Rattle.commands.specs.declared.database.Action.{Action}
 use Rattle.commands.specs.declared.database.Action.TheVariants as action
+use Rattle.commands.specs.declared.ending.Failure.{Failure}
+use Rattle.commands.specs.declared.ending.Outcome.{Outcome}
 
 -- The two files of a database, its log and its database file, hold a database for which P is true. An opening finds it.
 abbrev pub FilesHold : (Database → Type 0) → Image → Type 0
@@ -58,22 +60,22 @@ module _ {D : Type 0} {g : disk.Ghosts D} where
       → FilesHold (λ db. IsDatabase db × HoldWorldAt n db w calls batches) before → StandsIn (n - 1) key (held_with w calls batches) upgrade_points earlier
       → LeavesInFiles (StandSince n w calls batches key upgrade_points earlier) it
 
-  -- what an order leaves of the files that held these contents
-  abbrev pub LeavesFiles : Order → Image → FileStore D g → Type 0
-  LeavesFiles (order.Create settings tables) before it = MakesFiles it
-  LeavesFiles (order.Upgrade tables) before it = UpgradesFiles before it
-  LeavesFiles (order.Serve tables port count) before it = ServesFiles (λ came. length came ≤ count) before it
-  LeavesFiles (order.Import tables kind batch file) before it = ServesFiles (AtMostOne 0 (IsImport kind batch)) before it
-  LeavesFiles (order.Tick tables at) before it = ServesFiles (AtMostOne at IsTick) before it
-  LeavesFiles (order.Statement tables host) before it = ServesFiles (AtMostOne 0 (IsStatement host)) before it
-  LeavesFiles (order.Replay settings) before it = ⊥
+  -- what an order that ended so leaves of the files that held these contents
+  abbrev pub LeavesFiles : Order → Result Outcome Failure → Image → FileStore D g → Type 0
+  LeavesFiles (order.Create settings tables) ended before it = MakesFiles it
+  LeavesFiles (order.Upgrade tables) ended before it = UpgradesFiles before it
+  LeavesFiles (order.Serve tables port count) ended before it = ServesFiles (λ came. length came ≤ count) before it
+  LeavesFiles (order.Import tables kind batch file) ended before it = ServesFiles (IsOne ended 0 (IsImport kind batch)) before it
+  LeavesFiles (order.Tick tables at) ended before it = ServesFiles (IsOne ended at IsTick) before it
+  LeavesFiles (order.Statement tables host) ended before it = ServesFiles (IsOne ended 0 (IsStatement host)) before it
+  LeavesFiles (order.Replay settings) ended before it = ⊥
 
   -- the same of an action
-  abbrev pub KeepsFiles : Action → Image → FileStore D g → Type 0
-  KeepsFiles (action.Create settings) before it =
+  abbrev pub KeepsFiles : Action → Result Outcome Failure → Image → FileStore D g → Type 0
+  KeepsFiles (action.Create settings) ended before it =
       AreSettingsInLimits settings.now → LeavesInFiles (OpensAndStands settings.now.operator_key (new_upgrade_points this_era) []) it
-  KeepsFiles action.Upgrade before it = UpgradesFiles before it
-  KeepsFiles (action.Handle task) before it = ServesFiles (AreOf task) before it
+  KeepsFiles action.Upgrade ended before it = UpgradesFiles before it
+  KeepsFiles (action.Handle task) ended before it = ServesFiles (AreOf task ended) before it
 
 -- the order is about the tables of a file
 abbrev pub HasTables : Order → Type 0

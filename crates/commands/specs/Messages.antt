@@ -1,20 +1,22 @@
 -- Promise. The messages that an order makes itself, and how many it may handle. (This project's own.)
-use Rattle.std.specs.Prelude.{◌≡◌, ◌≤◌, ℕ, List, [], ◌∷◌, length, decimal}
+use Rattle.std.specs.Prelude.{◌≡◌, ◌≤◌, ℕ, List, [], ◌∷◌, Result, OnOk, length, decimal}
 use Rattle.http_requests.specs.Requests.{import_request, tick_request, statement_request}
 use Rattle.sched_server.specs.Arrivals.{Came}
 use Rattle.commands.specs.declared.answering.Task.{Task}
 use Rattle.commands.specs.declared.answering.Task.TheVariants as task
+use Rattle.commands.specs.declared.ending.Failure.{Failure}
+use Rattle.commands.specs.declared.ending.Outcome.{Outcome}
 
 -- a message of these bytes that arrived at this moment, with some answer
 pub record HasArrived (now : ℕ) (bytes : List ℕ) (c : Came) : Type 0 where
   pub now_is : c.arrival.now ≡ now
   pub bytes_are : c.arrival.bytes ≡ bytes
 
--- no message, or one that arrived at this moment, and this is true of its bytes
-abbrev pub AtMostOne : ℕ → (List ℕ → Type 0) → List Came → Type 0
-AtMostOne now Is [] = Unit {0}
-AtMostOne now Is (c ∷ []) = (c.arrival.now ≡ now) × Is c.arrival.bytes
-AtMostOne now Is (c ∷ d ∷ came) = ⊥
+-- One message, which arrived at this moment, and this is true of its bytes. If the order failed, there may be none.
+abbrev pub IsOne : Result Outcome Failure → ℕ → (List ℕ → Type 0) → List Came → Type 0
+IsOne ended now Is [] = OnOk ended ⊥
+IsOne ended now Is (c ∷ []) = (c.arrival.now ≡ now) × Is c.arrival.bytes
+IsOne ended now Is (c ∷ d ∷ came) = ⊥
 
 -- the bytes import some text under this kind and name, with some operator's key
 abbrev pub IsImport : List ℕ → List ℕ → List ℕ → Type 0
@@ -28,9 +30,9 @@ IsTick bytes = (key : List ℕ) × (bytes ≡ tick_request key)
 abbrev pub IsStatement : ℕ → List ℕ → Type 0
 IsStatement host bytes = (key : List ℕ) × (bytes ≡ statement_request key (decimal host))
 
--- These may be all messages of a task: at most one of each connection, or the one that the task makes.
-abbrev pub AreOf : Task → List Came → Type 0
-AreOf (task.Serve port count) came = length came ≤ count
-AreOf (task.Import kind batch file) came = AtMostOne 0 (IsImport kind.now batch.now) came
-AreOf (task.Tick at) came = AtMostOne at IsTick came
-AreOf (task.Statement host) came = AtMostOne 0 (IsStatement host) came
+-- These may be all messages of a task that ended so: at most one of each connection, or the one that the task makes.
+abbrev pub AreOf : Task → Result Outcome Failure → List Came → Type 0
+AreOf (task.Serve port count) ended came = length came ≤ count
+AreOf (task.Import kind batch file) ended came = IsOne ended 0 (IsImport kind.now batch.now) came
+AreOf (task.Tick at) ended came = IsOne ended at IsTick came
+AreOf (task.Statement host) ended came = IsOne ended 0 (IsStatement host) came

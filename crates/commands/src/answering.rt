@@ -4,7 +4,7 @@ ghost use Rattle.std.specs.Prelude.{◌≡◌, ◌≤◌, ◌∷◌, [], List, l
 ghost use Rattle.std.specs.String.{string_bytes};
 ghost use Rattle.sched_server.specs.Arrivals.{Came};
 ghost use Rattle.sched_server.specs.Serving.{ServesInTurn};
-ghost use Rattle.commands.specs.Messages.{AreOf, IsImport, IsTick, IsStatement, AtMostOne, HasArrived};
+ghost use Rattle.commands.specs.Messages.{AreOf, IsImport, IsTick, IsStatement, IsOne, HasArrived};
 
 use crate::ending::{Failure, Outcome};
 use crate::files::bytes_of;
@@ -48,7 +48,7 @@ pub(crate) fn perform_by<S: Store>(
     service: &mut Service<S>,
     task: &Task<'_>,
 ) -> Result<Outcome, Failure>
-    ensures { (came : List Came) × AreOf task.now came × ServesInTurn S.Store came service.old service.new }
+    ensures { (came : List Came) × AreOf task.now result came × ServesInTurn S.Store came service.old service.new }
 {
     match task {
         Task::Serve { port, count } => serve(rt, service, *port, *count),
@@ -80,7 +80,7 @@ fn import<S: Store>(
     batch: &str,
     file: &str,
 ) -> Result<Outcome, Failure>
-    ensures { (came : List Came) × AtMostOne 0 (IsImport kind.now batch.now) came × ServesInTurn S.Store came service.old service.new }
+    ensures { (came : List Came) × IsOne result 0 (IsImport kind.now batch.now) came × ServesInTurn S.Store came service.old service.new }
 {
     let message = import_message(rt, service.operator_key(), kind, batch, file)?;
     answer(rt, service, 0, &message)
@@ -107,7 +107,7 @@ fn tick<S: Store>(
     service: &mut Service<S>,
     at: Moment,
 ) -> Result<Outcome, Failure>
-    ensures { (came : List Came) × AtMostOne at IsTick came × ServesInTurn S.Store came service.old service.new }
+    ensures { (came : List Came) × IsOne result at IsTick came × ServesInTurn S.Store came service.old service.new }
 {
     let message = tick_request(rt.alloc(), service.operator_key())?;
     answer(rt, service, at.seconds(), &message)
@@ -119,7 +119,7 @@ fn statement<S: Store>(
     service: &mut Service<S>,
     host: u32,
 ) -> Result<Outcome, Failure>
-    ensures { (came : List Came) × AtMostOne 0 (IsStatement host) came × ServesInTurn S.Store came service.old service.new }
+    ensures { (came : List Came) × IsOne result 0 (IsStatement host) came × ServesInTurn S.Store came service.old service.new }
 {
     let message = statement_message(rt.alloc(), service.operator_key(), host)?;
     answer(rt, service, 0, &message)

@@ -41,7 +41,7 @@ pub(crate) fn perform_on<S: Alter + Drop>(
 ) -> Performed<S>
     ensures done { OnOk result.ended (IsSome result.left) }
     ensures back { IfSome result.left (IsGivenBack S.Store) }
-    ensures leaves { IfSome result.left (LeavesDatabase S.Store action.now (state S.Store conn)) }
+    ensures leaves { IfSome result.left (LeavesDatabase S.Store action.now result.ended (state S.Store conn)) }
 {
     match action {
         Action::Create(settings) => create(rt, conn, settings),
@@ -99,7 +99,7 @@ fn print_schema(rt: &HostRuntime, schema: u32) -> Result<Outcome, Failure> {
 fn handle<S: Alter + Drop>(rt: &HostRuntime, conn: Connection<S>, task: &Task<'_>) -> Performed<S>
     ensures done { OnOk result.ended (IsSome result.left) }
     ensures back { IfSome result.left (IsGivenBack S.Store) }
-    ensures serves { IfSome result.left (λ left. (came : List Came) × AreOf task.now came × ServesTables S.Store came (state S.Store conn) left) }
+    ensures serves { IfSome result.left (λ left. (came : List Came) × AreOf task.now result.ended came × ServesTables S.Store came (state S.Store conn) left) }
 {
     opened_tables_stand::<S>();
     stopped_tables_stand::<S>();
@@ -118,7 +118,7 @@ fn perform_over<S: Store + Drop>(
     store: S,
     task: &Task<'_>,
 ) -> (Result<Outcome, Failure>, S)
-    ensures { (came : List Came) × AreOf task.now came × ServesStore S.Store came store result.1 }
+    ensures { (came : List Came) × AreOf task.now result.0 came × ServesStore S.Store came store result.1 }
 {
     match Service::new(rt.alloc(), store) {
         Ok(mut service) => {

@@ -36,7 +36,7 @@ pub fn perform<B: Start>(
     start: B,
 ) -> Performed<FileStore<FileFrom<B>>>
     ensures done { HasTables order.now → OnOk result.ended (IsSome result.left) }
-    ensures stands { IfSome result.left (LeavesFiles order.now (image_at B.Start)) }
+    ensures stands { IfSome result.left (LeavesFiles order.now result.ended (image_at B.Start)) }
 {
     match order {
         Order::Create { settings, tables } => match ready(rt, settings.as_str(), tables.as_str()) {
@@ -99,7 +99,7 @@ fn perform_in<B: Start>(
     action: &Action<'_>,
 ) -> Performed<FileStore<FileFrom<B>>>
     ensures done { OnOk result.ended (IsSome result.left) }
-    ensures keeps { IfSome result.left (KeepsFiles action.now (image_at B.Start)) }
+    ensures keeps { IfSome result.left (KeepsFiles action.now result.ended (image_at B.Start)) }
 {
     if let Err(error) = fs::metadata(rt, path) {
         return Performed::without_tables(Err(Failure::from(error)));

@@ -12,4 +12,4 @@ pub returns : goal.returns
 returns g c =
     let done = c.answer.ensures in
     let Is = IsImport c.args.kind.now c.args.batch.now in
-    (done.0 ∷ [], one_of done.0 _ _ Is done.1 (subst Is (sym c.deref.ensures.value) c.in_ok-message.ensures), done.2)
+    (done.0 ∷ [], one_of _ done.0 _ _ Is done.1 (subst Is (sym c.deref.ensures.value) c.in_ok-message.ensures), done.2)

@@ -1,5 +1,7 @@
 use Rattle.sqlite.specs.Held.{state}
+use Rattle.std.proofs.Common.{sym, subst}
 use Rattle.commands.proofs.Databases.{serves_tables}
+use Rattle.commands.specs.Messages.{AreOf}
 use Rattle.commands.proofs.database.handle.Goals as goal
 
 pub returns-clause-back : goal.returns-clause-back
@@ -11,7 +13,7 @@ returns-clause-serves g c =
     let done = c.perform_over-ended.ensures in
     rw c.leaving.ensures.left (
       done.0,
-      done.1,
+      subst (λ ended. AreOf c.args.task.now ended done.0) (sym c.leaving.ensures.ended) done.1,
       serves_tables g.S.Store _ c.stopped_tables_stand.ensures (λ t honest. honest) (λ t kept. kept) c.opened_tables_stand.ensures (λ t honest. honest.0)
           (λ t clean. clean) (λ t clean. clean) (λ t reopens. reopens) (λ t reopens. reopens)
           done.0 (state g.S.Store c.args.conn) c.in-Ok.tables c.perform_over-ended.result.1 c.into_connection.result c.into_store-left.result
