@@ -1,4 +1,4 @@
-use Rattle.std.proofs.Common.{[], ◌∷◌, sym, subst}
+use Rattle.std.proofs.Common.{[], ◌∷◌, rules, sym, subst}
 use Rattle.stores.specs.Acting.{parts_of}
 use Rattle.sched_server.proofs.Served.{none_served}
 use Rattle.commands.specs.Messages.{IsStatement}
@@ -6,10 +6,10 @@ use Rattle.commands.proofs.Messages.{one_of}
 use Rattle.commands.proofs.answering.statement.Goals as goal
 
 pub returns-in_err-message : goal.returns-in_err-message
-returns-in_err-message g c = ([], tt, none_served (parts_of g.S.Units g.S.Store.holds g.S.Store.clean g.S.Store.lasting g.S.Store.may_leave g.S.Store.reopens) c.args.service.now)
+returns-in_err-message g c = ([], search rules, none_served (parts_of g.S.Units g.S.Store.holds g.S.Store.clean g.S.Store.lasting g.S.Store.may_leave g.S.Store.reopens) c.args.service.now)
 
 pub returns : goal.returns
 returns g c =
     let done = c.answer.ensures in
     let Is = IsStatement c.args.host in
-    (done.0 ∷ [], one_of _ done.0 _ _ Is done.1 (subst Is (sym c.deref.ensures.value) c.in_ok-message.ensures), done.2)
+    (done.0 ∷ [], one_of c.answer.result done.0 _ _ Is done.1 (subst Is (sym c.deref.ensures.value) c.in_ok-message.ensures), done.2)

@@ -1,10 +1,10 @@
-use Rattle.std.proofs.Common.{[], ◌∷◌, ◌∙◌}
+use Rattle.std.proofs.Common.{[], ◌∷◌, rules, ◌∙◌}
 use Rattle.stores.specs.Acting.{parts_of}
 use Rattle.sched_server.proofs.Served.{none_served}
 use Rattle.commands.proofs.answering.tick.Goals as goal
 
 pub returns-in_err-message : goal.returns-in_err-message
-returns-in_err-message g c = ([], tt, none_served (parts_of g.S.Units g.S.Store.holds g.S.Store.clean g.S.Store.lasting g.S.Store.may_leave g.S.Store.reopens) c.args.service.now)
+returns-in_err-message g c = ([], search rules, none_served (parts_of g.S.Units g.S.Store.holds g.S.Store.clean g.S.Store.lasting g.S.Store.may_leave g.S.Store.reopens) c.args.service.now)
 
 pub returns : goal.returns
 returns g c =
