@@ -34,8 +34,8 @@ def create(program: str, folder: str) -> str:
     settings, tables = os.path.join(folder, "worst.toml"), os.path.join(folder, "worst.db")
     with open(settings, "w") as file:
         file.writelines(f"{name} = {json.dumps(value)}\n" for name, value in SETTINGS.items())
-    told = ordered(program, "create", "--settings", settings, "--tables", tables)
-    wants(told, "created\n", "new tables")
+    printed = ordered(program, "create", "--settings", settings, "--tables", tables)
+    wants(printed, "created\n", "new tables")
     users = [f"user{user},User {user}" for user in range(1, HOSTS + FRESH + 1)]
     units = [f"unit-{unit},fold,{LIMITS}" for unit in range(1, MOST_NAMES + 1)]
     imports = {
