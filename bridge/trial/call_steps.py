@@ -159,34 +159,39 @@ class Calls(Run):
         """Kills the bridge between a call and its answer: once when the answer acknowledges a report, and
         once when it brings a job.
         """
+        fault = self.held_answer('"result_ack":["held_')
         self.give("held", 2)
         for client in self.clients:
             self.until_it_has(client, "held")
-        answer = self.killed_at('"result_ack":["held_')
+        answer = self.killed_at(fault, "that acknowledges a report")
         name = json.loads(answer)["result_ack"][0]
         self.until(lambda: name not in self.ann.tasks(), "the report is acknowledged", self.ann)
         seen(f"ann: reported {name} again; it was recorded once, and is acknowledged")
+        fault = self.held_answer('"name":"next_')
         self.give("next", 2)
-        answer = self.killed_at('"name":"next_')
+        answer = self.killed_at(fault, "that brings a job")
         name = json.loads(answer)["results"][0]["name"]
         wants(self.until_it_has(self.ann, "next") == name, "Ann has the job of the answer that nobody heard")
         seen(f"ann: has {name}, the job of that answer")
 
-    def killed_at(self, text: str) -> bytes:
-        """Kills the bridge while bsched's answer to a call of Ann is on its way. The answer has this text in
-        it. Returns the answer.
+    def held_answer(self, text: str) -> Fault:
+        """Plans that bsched's next answer to a call of Ann with this text in it is held on its way. A quick
+        client may call at once, so this comes before the work.
         """
         fits = is_request_of(self.ann)
-        fault = self.behind_bridge.plan(
+        return self.behind_bridge.plan(
             Fault(lambda message: fits(message) and text.encode() in message.answer, is_held=True)
         )
-        self.until(fault.met.is_set, f"bsched answers a call of Ann with {text}", self.ann)
+
+    def killed_at(self, fault: Fault, what: str) -> bytes:
+        """Kills the bridge while an answer of bsched to Ann is held on its way. Returns the answer."""
+        self.until(fault.met.is_set, f"bsched gives Ann an answer {what}", self.ann)
         self.until(lambda: not any(client.downloads() for client in self.clients), "no client downloads")
         self.bridge.kill()
         held = fault.message
         seen(
             f"bridge: killed, when bsched had answered call {json.loads(held.body)['rpc_seqno']} of Ann "
-            f"({text}..)"
+            f"by one {what}"
         )
         fault.let_go.set()
         count = len(self.behind_bridge.messages)
