@@ -6,6 +6,7 @@ whole numbers at most two apart: a pair costs more than under equality.
 """
 import json
 import os
+import sqlite3
 import statistics
 from typing import Any
 
@@ -17,14 +18,15 @@ from served import ordered, wants
 
 HOSTS = 100  # of as many users, one for each instance of a workunit
 REPORTED = 10, 20, 50, 99  # how many reports a workunit has before the one that is timed
-NAMED = 24  # how many jobs a host names
+NAMED = 24  # how many of its jobs a host names at first
 MOST_REPORTS = 256  # how many reports a call may have
-MOST_NAMES = 1024  # how many names a call may list
+MOST_JOBS = 1000  # how many jobs a host may hold
+MOST_SENT = 100  # how many jobs a reply may bring
 FRESH = 31  # how many calls of fresh hosts are timed
 SETTINGS = serve_life.SETTINGS | {
     "daily_result_quota": 1_000_000,
-    "max_wus_in_progress": 2000,
-    "max_wus_to_send": 2000,
+    "max_wus_in_progress": MOST_JOBS,
+    "max_wus_to_send": MOST_SENT,
 }
 LIMITS = f"2,100,100,100,100,{DELAY},1,1000000,1000000,5000"
 
@@ -37,7 +39,7 @@ def create(program: str, folder: str) -> str:
     printed = ordered(program, "create", "--settings", settings, "--tables", tables)
     wants(printed, "created\n", "new tables")
     users = [f"user{user},User {user}" for user in range(1, HOSTS + FRESH + 1)]
-    units = [f"unit-{unit},fold,{LIMITS}" for unit in range(1, MOST_NAMES + 1)]
+    units = [f"unit-{unit},fold,{LIMITS}" for unit in range(1, MOST_JOBS + 1)]
     imports = {
         "accounts": ["authenticator,name", *users],
         "apps": ["name,agreement", "fold,within:2"],
@@ -49,6 +51,9 @@ def create(program: str, folder: str) -> str:
         with open(path, "w") as file:
             file.write("\n".join([*lines, ""]))
         ordered(program, "import", "--tables", tables, "--kind", kind, "--batch", "b1", "--file", path)
+    connection = sqlite3.connect(tables)
+    connection.execute("PRAGMA wal_checkpoint(TRUNCATE)")  # the database file alone is copied
+    connection.close()
     return tables
 
 
@@ -68,11 +73,13 @@ class Worst(Played):
             raise SystemExit(f"a call of host {host} is refused")
         return reply, [seconds * 1e3 for seconds in self.seconds]
 
-    def take_jobs(self, host: int, count: int) -> list[str]:
-        """Lets a host get an instance of each of the first workunits, and returns their names."""
-        reply, _ = self.ask(host, work_req_seconds=count)
-        names = [job["name"] for job in reply["results"]]
-        wants(len(names), count, f"how many jobs host {host} got")
+    def take_jobs(self, host: int) -> list[str]:
+        """Lets a host get an instance of each workunit, and returns their names."""
+        names: list[str] = []
+        for _ in range(MOST_JOBS // MOST_SENT):
+            reply, _ = self.ask(host, work_req_seconds=MOST_SENT)
+            names += [job["name"] for job in reply["results"]]
+        wants(len(names), MOST_JOBS, f"how many jobs host {host} got")
         return names
 
     def report(self, host: int, names: list[str]) -> list[float]:
@@ -106,7 +113,7 @@ def worst(options: Options, folder: str) -> None:
     limit_time("worst", 1800)
     programs = options.programs()
     played = Worst(programs, create(programs[0], folder), folder)
-    names = [[], *(played.take_jobs(host, MOST_NAMES) for host in range(1, HOSTS + 1))]
+    names = [[], *(played.take_jobs(host) for host in range(1, HOSTS + 1))]
     reports = {}
     for host in range(1, HOSTS):
         if host - 1 in REPORTED:
@@ -121,9 +128,12 @@ def worst(options: Options, folder: str) -> None:
         tell(f"a further report of a workunit with {count} reports that all differ", took, fresh)
     many = f"a call with {MOST_REPORTS} reports of workunits with {HOSTS - 2} reports that all differ"
     tell(many, last, fresh)
-    for count in (NAMED, MOST_NAMES):
-        _, took = played.ask(HOSTS, other_results=names[HOSTS][:count])
-        tell(f"a call that names {count} jobs of such workunits", took, fresh)
+    _, took = played.ask(HOSTS, other_results=names[HOSTS][:NAMED])
+    tell(
+        f"a call that lists {NAMED} of {MOST_JOBS} such jobs, so that the others are sent again", took, fresh
+    )
+    _, took = played.ask(HOSTS, other_results=names[HOSTS])
+    tell(f"a call that lists {MOST_JOBS} such jobs", took, fresh)
     took = played.report(HOSTS, names[HOSTS][:1])
     tell(f"a further report of a workunit with {HOSTS - 1} reports that all differ", took, fresh)
     played.end()
