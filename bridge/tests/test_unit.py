@@ -56,3 +56,10 @@ def test_what_strangers_reach_sees_no_tables(name: str) -> None:
     assert written == {f"{OWN}/bridge"}
     unreadable = {path for kind, path in paths if kind == "InaccessiblePaths"}
     assert {f"{OWN}/{file}" for file in ("project.db", "project.db-wal", "settings.toml")} <= unreadable
+
+
+def test_the_scheduler_may_make_a_log() -> None:
+    """A new log gets the owner of the database, by fchown: @privileged has it, so it is allowed again."""
+    unit = (DEBIAN / "bsched@.service").read_text()
+    filters = re.findall(r"^SystemCallFilter=(.*)$", unit, re.MULTILINE)
+    assert filters.index("fchown") > filters.index("~@privileged @resources")
