@@ -7,9 +7,9 @@ import socket
 import subprocess
 import sys
 import time
-from collections.abc import Sequence
+from collections.abc import Mapping, Sequence
 from pathlib import Path
-from typing import NoReturn
+from typing import BinaryIO, NoReturn
 
 BUILT = os.path.join(
     os.path.dirname(os.path.dirname(os.path.abspath(__file__))), "crates", "bsched", "out", "bsched"
@@ -51,16 +51,28 @@ def listens(port: int) -> bool:
         return probe.connect_ex(("127.0.0.1", port)) == 0
 
 
-def start(command: Sequence[str | Path], port: int, seconds: float = 10) -> "subprocess.Popen[bytes]":
-    """Starts a program, and returns it once it listens on a port. It ends the run if that takes longer."""
-    process = subprocess.Popen(command)
+class NotStarted(SystemExit):
+    """Raised if a program does not start. It ends a script that does not catch it."""
+
+
+def start(
+    command: Sequence[str | Path],
+    port: int,
+    seconds: float = 10,
+    folder: Path | None = None,
+    environment: Mapping[str, str] | None = None,
+    log: BinaryIO | None = None,
+) -> "subprocess.Popen[bytes]":
+    """Starts a program, and returns it once it listens on a port. If that takes longer, the program is killed
+    and NotStarted is raised. The program can get a folder, an environment and a log."""
+    process = subprocess.Popen(command, cwd=folder, env=environment, stdout=log, stderr=log)
     until = time.monotonic() + seconds
     while time.monotonic() < until and process.poll() is None:
         if listens(port):
             return process
         time.sleep(0.005)
     stop(process)
-    raise SystemExit(f"{command[0]} does not start")
+    raise NotStarted(f"{command[0]} does not start")
 
 
 def stop(process: "subprocess.Popen[bytes]") -> None:

@@ -1,24 +1,21 @@
 """A bridge before the twin, with the files of a project: what tests and `bridge/try_lives` work on."""
-from typing import Any
 import io
-import sys
 from pathlib import Path
+from typing import Any
+
+from twin import Twin
+
+from bsched_bridge.application import Application
+from bsched_bridge.code_signing import file_md5, public_key_text, signature_text
+from bsched_bridge.current_catalogue import CatalogueReader
+from bsched_bridge.host_rules import HostRuleReader
+from bsched_bridge.passwords import Cost, Passwords
+from bsched_bridge.scheduler import Scheduler
+from bsched_bridge.settings import read_settings
+from bsched_bridge.state_file import StateFile
+from bsched_bridge.upload_store import open_store
 
 BRIDGE = Path(__file__).resolve().parent.parent
-sys.path[:0] = [str(BRIDGE), str(BRIDGE.parent / "bench"), str(BRIDGE / "tests")]
-
-from twin import Twin  # noqa: E402
-
-from bsched_bridge.application import Application  # noqa: E402
-from bsched_bridge.code_signing import file_md5, public_key_text, signature_text  # noqa: E402
-from bsched_bridge.current_catalogue import CatalogueReader  # noqa: E402
-from bsched_bridge.host_rules import HostRuleReader  # noqa: E402
-from bsched_bridge.passwords import Cost, Passwords  # noqa: E402
-from bsched_bridge.scheduler import Scheduler  # noqa: E402
-from bsched_bridge.settings import read_settings  # noqa: E402
-from bsched_bridge.state_file import StateFile  # noqa: E402
-from bsched_bridge.upload_store import open_store  # noqa: E402
-
 MEMORY = "/dev/shm"
 CATALOGUE = """\
 code_sign_key = "key"

@@ -1,29 +1,16 @@
 """What the tests share: a bsched that can lose answers, and a bridge before it."""
-from collections.abc import Iterator
-from typing import Any
 import os
 import shutil
-import sys
 import tempfile
+from collections.abc import Iterator
 from pathlib import Path
+from typing import Any
 
-import hypothesis.configuration
 import pytest
-from hypothesis import settings
+from bridges import ACCOUNTS, Bridge, new_project
+from twin import Twin
 
-sys.dont_write_bytecode = True
-BRIDGE = Path(__file__).resolve().parent.parent
-sys.path[:0] = [str(BRIDGE), str(BRIDGE.parent / "bench"), str(BRIDGE / "tests")]
-
-hypothesis.configuration.set_hypothesis_home_dir(BRIDGE / ".pytest_cache" / "hypothesis")
-# a busy machine may take any time for an example
-settings.register_profile("without deadlines", deadline=None)
-settings.load_profile("without deadlines")
-
-from bridges import ACCOUNTS, Bridge, new_project  # noqa: E402
-from twin import Twin  # noqa: E402
-
-from bsched_bridge.code_signing import new_key  # noqa: E402
+from bsched_bridge.code_signing import new_key
 
 MEMORY = "/dev/shm"
 

@@ -1,25 +1,22 @@
 """A bridge in a process of its own that kills itself at the n-th of its writes and sends.
 
 usage: killed_bridge.py SETTINGS PORT N before|after
+PYTHONPATH must have the folders bridge and bench.
 """
-from typing import Any
 import os
 import signal
 import sys
 from pathlib import Path
+from typing import Any
 
-sys.dont_write_bytecode = True
-TESTS = Path(__file__).resolve().parent
-sys.path[:0] = [str(TESTS.parent), str(TESTS.parent.parent / "bench"), str(TESTS)]
+import joining
+import waitress
 
-import joining  # noqa: E402
-import waitress  # noqa: E402
-
-from bsched_bridge.application import Application  # noqa: E402
-from bsched_bridge.catalogue import read_catalogue  # noqa: E402
-from bsched_bridge.scheduler import Scheduler  # noqa: E402
-from bsched_bridge.settings import read_settings  # noqa: E402
-from bsched_bridge.state_file import StateFile  # noqa: E402
+from bsched_bridge.application import Application
+from bsched_bridge.catalogue import read_catalogue
+from bsched_bridge.scheduler import Scheduler
+from bsched_bridge.settings import read_settings
+from bsched_bridge.state_file import StateFile
 
 
 class Killed(joining.Stopped):

@@ -5,7 +5,6 @@ import http.client
 import os
 import random
 import signal
-import socket
 import subprocess
 import sys
 import threading
@@ -17,6 +16,7 @@ from typing import Any
 import pytest
 from bridges import ACCOUNTS, BRIDGE, Bridge
 from joining import Stopped, Stops, account_query, create, key_or_number, look_up, made_accounts, rows, works
+from served import free_port
 from twin import Twin
 
 from bsched_bridge.scheduler import NoAnswer
@@ -197,13 +197,6 @@ def test_a_life_of_accounts(
 POINTS = [(at, is_after) for at in (1, 2, 3) for is_after in (False, True)]
 
 
-def free_port() -> int:
-    """Returns a port that nobody uses."""
-    with socket.socket() as listener:
-        listener.bind(("127.0.0.1", 0))
-        return listener.getsockname()[1]
-
-
 def asked(port: int, query: str) -> None:
     """Returns the answer of a bridge in another process, or None if the bridge is killed first."""
     for _ in range(600):  # a busy machine may need long to start it
@@ -238,7 +231,8 @@ def test_a_bridge_that_is_killed(project: Path, twin: Twin, at: int, is_after: b
         str(at),
     ]
     process = subprocess.Popen(
-        [*words, "after" if is_after else "before"], env={**os.environ, "PYTHONDONTWRITEBYTECODE": "1"}
+        [*words, "after" if is_after else "before"],
+        env={**os.environ, "PYTHONPATH": f"{BRIDGE}:{BRIDGE.parent / 'bench'}", "PYTHONDONTWRITEBYTECODE": "1"},
     )
     try:
         answer = asked(port, account_query("create_account.php", EMAIL, "secret1", user_name="ann"))

@@ -17,16 +17,22 @@ from bsched_bridge.operator_files import OperatorFault
 from bsched_bridge.settings import read_settings
 
 
-def archive(path: Path, credits: dict[tuple[str, str], int]) -> Path:
-    """Makes an archive with some credit for each authenticator and host_cpid."""
+SETTINGS = {"max_hosts": 100, "operator_key": "change-this-key"}
+
+
+def archive(path: Path, credits: dict[tuple[str, str], int], first_sent: int = 1000) -> Path:
+    """Makes an archive with some credit for each authenticator and host_cpid. Its first job was sent at this
+    moment, by which archives of one project differ."""
+    plain_tables.create(path, SETTINGS)
     connection = sqlite3.connect(path)
-    connection.executescript(plain_tables.FIRST_SCHEMA)
     users = list(dict.fromkeys(user for user, _ in credits))
     for number, user in enumerate(users, 1):
         connection.execute("INSERT INTO account VALUES (?, ?, ?)", (number, user, user))
     for number, ((user, cpid), credit) in enumerate(credits.items(), 1):
         row = (number, users.index(user) + 1, cpid, "x", 1, 1, 1, 1, 0, credit)
         connection.execute(f"INSERT INTO host VALUES ({', '.join('?' * 10)})", row)
+    columns = "unit_id, num, host_id, sent, lapse, queued"
+    connection.execute(f"INSERT INTO instance ({columns}) VALUES (1, 0, 1, ?, 0, 0)", (first_sent,))
     connection.commit()
     connection.close()
     return path
@@ -34,7 +40,7 @@ def archive(path: Path, credits: dict[tuple[str, str], int]) -> Path:
 
 def test_credit_is_summed_over_archives(tmp_path: Path) -> None:
     first = archive(tmp_path / "1.db", {("k1", "a"): 1000, ("k1", "b"): 500, ("k2", "a"): 7})
-    second = archive(tmp_path / "2.db", {("k1", "a"): 30})
+    second = archive(tmp_path / "2.db", {("k1", "a"): 30}, first_sent=2000)
     archives = read_archives([first, second])
     assert archives.users == {"k1": 1530, "k2": 7}
     assert archives.hosts == {Key("k1", "a"): 1030, Key("k1", "b"): 500, Key("k2", "a"): 7}
@@ -43,24 +49,37 @@ def test_credit_is_summed_over_archives(tmp_path: Path) -> None:
 
 def test_an_archive_that_is_named_twice(tmp_path: Path) -> None:
     first = archive(tmp_path / "1.db", {("k1", "a"): 1000})
-    connection = sqlite3.connect(first)
-    columns = "unit_id, num, host_id, sent, lapse, queued"
-    connection.execute(f"INSERT INTO instance ({columns}) VALUES (1, 0, 1, 1000, 0, 0)")
-    connection.commit()
-    connection.close()
     (tmp_path / "link.db").symlink_to(first)
     (tmp_path / "copy.db").write_bytes(first.read_bytes())
     for name in ("1.db", "link.db", "copy.db"):
-        with pytest.raises(OperatorFault, match=f"{name}: has the same tables as .*1.db: name one of them"):
+        with pytest.raises(OperatorFault, match=f"{name}: .*: it has the same tables as .*1.db: name one"):
             read_archives([first, tmp_path / name])
 
 
 def test_a_file_that_is_no_archive(tmp_path: Path) -> None:
     path = tmp_path / "1.db"
-    for content in (b"", b"text" * 1000):
+    for content, what in ((b"", "it is empty"), (b"text" * 1000, "it is not a SQLite database")):
         path.write_bytes(content)
-        with pytest.raises(OperatorFault, match="1.db: can't be read as an archive"):
+        with pytest.raises(OperatorFault, match=f"1.db: can't be read as an archive: {what}"):
             read_archives([path])
+
+
+def test_an_archive_of_another_schema(tmp_path: Path) -> None:
+    path = archive(tmp_path / "new.db", {("k1", "a"): 1000})
+    older = tmp_path / "old.db"
+    plain_tables.make_former(older, str(path))
+    assert read_archives([older]).users == {"k1": 1000}
+    for order, what in (
+        ("UPDATE setting SET value = 4 WHERE name = 'schema'", "its tables are of schema 4, a newer one"),
+        ("DROP INDEX instance_sent", "its tables are not bsched's"),
+    ):
+        (tmp_path / "wrong.db").write_bytes(older.read_bytes())
+        connection = sqlite3.connect(tmp_path / "wrong.db")
+        connection.execute(order)
+        connection.commit()
+        connection.close()
+        with pytest.raises(OperatorFault, match=f"wrong.db: can't be read as an archive: {what}"):
+            read_archives([tmp_path / "wrong.db"])
 
 
 def test_settings(project: Path) -> None:

@@ -8,6 +8,7 @@ import time
 from pathlib import Path
 
 import pytest
+from served import free_port
 from twin import Twin
 
 BRIDGE = Path(__file__).resolve().parents[1]
@@ -51,8 +52,7 @@ def test_no_log_has_an_address(project: Path, twin: Twin, fields: str, status: b
     settings = project / "bridge.toml"
     host = f"{twin.address.host}:{twin.address.port}"
     settings.write_text(settings.read_text().replace("127.0.0.1:8080", host))
-    with socket.create_server(("127.0.0.1", 0)) as free:
-        port = free.getsockname()[1]
+    port = free_port()
     process = subprocess.Popen(
         command(port),
         cwd=project,

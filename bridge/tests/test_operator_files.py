@@ -1,6 +1,5 @@
 """Faults of the settings and of the catalogue are reported with their line."""
 import re
-import socket
 import subprocess
 import sys
 from pathlib import Path
@@ -8,6 +7,7 @@ from typing import Any
 
 import pytest
 from bridges import BRIDGE
+from served import free_port
 from twin import Twin
 
 from bsched_bridge.catalogue import read_catalogue
@@ -241,12 +241,6 @@ def ordered(folder: Path, *words: str) -> Any:
         text=True,
         timeout=60,
     )
-
-
-def free_port() -> int:
-    """Returns a port at which nobody listens."""
-    with socket.create_server(("127.0.0.1", 0)) as made:
-        return made.getsockname()[1]
 
 
 def at_port(project: Path, port: int) -> None:

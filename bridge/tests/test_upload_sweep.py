@@ -1,17 +1,14 @@
 """What the sweep deletes, and what it keeps."""
-import sys
 from pathlib import Path
 
 import pytest
+from bridges import Bridge
 from messages import FIRST, jobs, names, request
 from uploading import file_info, on_disk, report, sent, sha256_of, tokens_of, upload
 
-sys.path.append(str(Path(__file__).resolve().parent.parent.parent / "tools"))
-
-from bsched_bridge import sweep_command  # noqa: E402
-from bsched_bridge.operator_files import OperatorFault  # noqa: E402
-from bsched_bridge.upload_sweep import DAY, Decisions, Swept, sweep  # noqa: E402
-from bridges import Bridge  # noqa: E402
+from bsched_bridge import sweep_command
+from bsched_bridge.operator_files import OperatorFault
+from bsched_bridge.upload_sweep import DAY, Decisions, Swept, sweep
 
 RIGHT, WRONG = b"right\n", b"wrong\n"
 

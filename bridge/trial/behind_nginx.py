@@ -11,6 +11,7 @@ import time
 from pathlib import Path
 
 from bsched_bridge.upload_tokens import UploadTokens
+from served import free_port
 from uploading import HEAD
 
 from . import project
@@ -53,13 +54,6 @@ TEMPLATES = BRIDGE.parent / "packaging" / "nginx"
 LIMITS = (TEMPLATES / "limits.conf").read_text()
 LOCATIONS = (TEMPLATES / "locations.conf").read_text()
 UNIT = BRIDGE.parent / "debian" / "bsched-tools@.bsched-bridge.service"
-
-
-def free_port() -> int:
-    """Returns a port on which nothing listens."""
-    with socket.socket() as listener:
-        listener.bind(("127.0.0.1", 0))
-        return int(listener.getsockname()[1])
 
 
 def nginx_lines(folder: Path, port: int, bridge_port: int, most: int) -> str:

@@ -1,16 +1,16 @@
 """The programs of a trial: bsched, the bridge and the clients."""
 import os
 import re
-import signal
-import socket
 import subprocess
 import sys
-import time
 import urllib.request
 from pathlib import Path
 
-ORDER_SECONDS, END_SECONDS = 120, 10
+from served import NotStarted, start, stop
+
+START_SECONDS, ORDER_SECONDS = 30, 120
 BRIDGE = Path(__file__).resolve().parent.parent
+PACKAGES = f"{BRIDGE}:{BRIDGE.parent / 'tools'}"  # the tools open the archives of a bridge
 CLIENT_OPTIONS = ["--allow_multiple_clients", "--skip_cpu_benchmarks", "--no_gpus", "--no_info_fetch"]
 CLIENT_CONFIG = """\
 <cc_config>
@@ -27,13 +27,6 @@ class TrialFault(Exception):
     """Raised if something is wrong."""
 
 
-def listens(port: int) -> bool:
-    """Returns whether something listens on a port of 127.0.0.1."""
-    with socket.socket() as probe:
-        probe.settimeout(1)
-        return probe.connect_ex(("127.0.0.1", port)) == 0
-
-
 class Program:
     """A program that runs, writes to a log, and can be killed and started again."""
 
@@ -42,21 +35,18 @@ class Program:
     ):
         self.name, self.words, self.folder, self.port = name, words, folder, port
         self.environment = {**os.environ, **(environment or {})}
-        self.process: subprocess.Popen | None = None
+        self.process: subprocess.Popen[bytes] | None = None
 
     def start(self) -> None:
         """Starts the program, and waits until it listens."""
-        with (self.folder / f"{self.name}.log").open("ab") as log:
-            self.process = subprocess.Popen(
-                self.words, cwd=self.folder, env=self.environment, stdout=log, stderr=log
-            )
-        for _ in range(300):
-            if listens(self.port):
-                return
-            if self.process.poll() is not None:
-                break
-            time.sleep(0.1)
-        raise TrialFault(f"{self.name} does not start, see {self.folder / self.name}.log")
+        path = self.folder / f"{self.name}.log"
+        with path.open("ab") as log:
+            try:
+                self.process = start(
+                    self.words, self.port, START_SECONDS, self.folder, self.environment, log
+                )
+            except NotStarted:
+                raise TrialFault(f"{self.name} does not start, see {path}") from None
 
     def log(self) -> str:
         """Returns what the program wrote to its log."""
@@ -64,9 +54,8 @@ class Program:
 
     def kill(self) -> None:
         """Kills the program, which gets no time to do anything."""
-        if self.process is not None and self.process.poll() is None:
-            self.process.send_signal(signal.SIGKILL)
-            self.process.wait(END_SECONDS)
+        if self.process is not None:
+            stop(self.process)
 
 
 class Scheduler(Program):
@@ -110,7 +99,7 @@ class Bridge(Program):
     def __init__(self, folder: Path, port: int):
         words = [sys.executable, "-m", "bsched_bridge", "--config", "bridge.toml"]
         super().__init__(
-            "bridge", words, folder, port, {"PYTHONPATH": str(BRIDGE), "PYTHONDONTWRITEBYTECODE": "1"}
+            "bridge", words, folder, port, {"PYTHONPATH": PACKAGES, "PYTHONDONTWRITEBYTECODE": "1"}
         )
 
     def order(self, *words: str) -> str:

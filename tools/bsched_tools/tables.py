@@ -154,8 +154,9 @@ def connected(path: Path) -> sqlite3.Connection:
     return sqlite3.connect(f"file:{name}?{mode}", uri=True, timeout=BUSY_SECONDS, isolation_level=None)
 
 
-def schema_fault(connection: sqlite3.Connection) -> str | None:
-    """Returns what is wrong with the schema of a database, or None."""
+def schema_fault(connection: sqlite3.Connection, takes_older: bool = False) -> str | None:
+    """Returns what is wrong with the schema of a database, or None. An older schema is a fault, unless it is
+    taken."""
     shape = shape_of(connection)
     if not shape:
         return EMPTY
@@ -167,6 +168,8 @@ def schema_fault(connection: sqlite3.Connection) -> str | None:
         return None
     older: dict[int, Shape] = {1: shape_of_text(FIRST_SCHEMA), 2: shape_of_text(SECOND_SCHEMA)}
     if number in older and shape == older[number]:
+        if takes_older:
+            return None
         return f"its tables are of schema {number}, an older one: run `bsched upgrade`, then take a copy"
     if isinstance(number, int) and number > SCHEMA_NUMBER:
         return f"its tables are of schema {number}, a newer one: install newer tools"
@@ -175,17 +178,20 @@ def schema_fault(connection: sqlite3.Connection) -> str | None:
 
 @contextmanager
 def opened(
-    path: Path, is_any_schema: bool = False, names: Mapping[str, str] | None = None
+    path: Path,
+    is_any_schema: bool = False,
+    names: Mapping[str, str] | None = None,
+    takes_older: bool = False,
 ) -> Iterator[Tables]:
-    """Yields the tables of a copy. They must be of the newest schema, unless any schema is right. Names of
-    users can be given by authenticator; the others have those in the tables."""
+    """Yields the tables of a copy. They must be of the newest schema, unless an older one is taken or any
+    schema is right. Names of users can be given by authenticator; the others have those in the tables."""
     path = found_copy(path)
     check_file(path)
     with faults_of(path), closing(connected(path)) as connection:
         shown = names or {}
         connection.create_function("shown_name", 2, lambda auth, name: shown.get(auth, name))
         connection.execute("BEGIN")
-        if not is_any_schema and (fault := schema_fault(connection)):
+        if not is_any_schema and (fault := schema_fault(connection, takes_older)):
             raise Fault(f"{path}: {fault}")
         settings = dict(connection.execute("SELECT name, value FROM setting"))
         yield Tables(path, connection, moment_of(path), settings)
@@ -207,11 +213,15 @@ def project_mark(tables: Tables) -> str:
 
 
 @contextmanager
-def all_opened(paths: Iterable[Path], names: Mapping[str, str] | None = None) -> Iterator[list[Tables]]:
+def all_opened(
+    paths: Iterable[Path], names: Mapping[str, str] | None = None, takes_older: bool = False
+) -> Iterator[list[Tables]]:
     """Yields the tables of several copies, which must be of different files. Rows of a file that is named
-    twice, or by two copies, would count twice."""
+    twice, or by two copies, would count twice. The bridge opens its archives by this, too."""
     with ExitStack() as stack:
-        all_tables = [stack.enter_context(opened(path, names=names)) for path in paths]
+        all_tables = [
+            stack.enter_context(opened(path, names=names, takes_older=takes_older)) for path in paths
+        ]
         files: dict[object, Path] = {}
         for tables in all_tables:
             status = tables.path.stat()

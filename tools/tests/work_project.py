@@ -1,13 +1,9 @@
 """A project with a bridge for the tests: its scheduler is the twin, and nobody serves its bridge."""
-import sys
 from pathlib import Path
 
+from bsched_bridge.code_signing import write_new_keys
 from made_project import MadeProject
-from small_project import KEY, TOOLS
-
-sys.path.insert(0, str(TOOLS.parent / "bridge"))
-
-from bsched_bridge.code_signing import write_new_keys  # noqa: E402
+from small_project import KEY
 
 PLATFORM = "x86_64-pc-linux-gnu"
 CATALOGUE = """\
