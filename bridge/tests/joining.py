@@ -6,12 +6,15 @@ import time
 import xml.etree.ElementTree as ElementTree
 from collections.abc import Callable
 from dataclasses import dataclass, field
-from typing import Any
+from typing import Any, Protocol
 from urllib.parse import quote
 
 from bridges import Bridge
 from messages import request, value
 from twin import IMPORTS, Twin
+
+from bsched_bridge.application import Application
+from bsched_bridge.state_file import StateFile
 
 CLIENT = "198.51.100.7"
 OPERATORS = {line.partition(",")[0] for line in IMPORTS["accounts"].splitlines()[1:]}
@@ -115,6 +118,13 @@ def wait_until(is_so: Callable[..., Any]) -> None:
 # ---- Stops
 
 
+class Watched(Protocol):
+    """A bridge whose writes and sends can be watched."""
+
+    file: StateFile
+    application: Application
+
+
 class Stopped(BaseException):
     """Raised at the point where a bridge is stopped."""
 
@@ -144,7 +154,7 @@ class Stops:
             act()
         raise Stopped
 
-    def set(self, monkeypatch: Any, bridge: Bridge) -> "Stops":
+    def set(self, monkeypatch: Any, bridge: Watched) -> "Stops":
         """Watches the writes and sends of a bridge."""
         transaction, message = bridge.file.transaction, bridge.application.scheduler.message
         stops = self

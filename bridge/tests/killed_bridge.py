@@ -39,7 +39,7 @@ class Places:
 class Served:
     """A bridge like the one in the tests."""
 
-    def __init__(self, path: Any) -> None:
+    def __init__(self, path: Path) -> None:
         settings = read_settings(path)
         self.file = StateFile(settings.state)
         self.application = Application(
@@ -50,7 +50,7 @@ class Served:
 def main() -> None:
     """Serves until the process is killed."""
     path, port, at, when = sys.argv[1:]
-    joining.Stopped = Killed
+    setattr(joining, "Stopped", Killed)
     bridge = Served(Path(path))
     joining.Stops(int(at), when == "after").set(Places, bridge)
     waitress.serve(bridge.application, host="127.0.0.1", port=int(port), threads=2)

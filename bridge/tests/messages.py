@@ -1,6 +1,7 @@
 """Requests that tests write, and what tests read in replies."""
 import re
 from typing import Any
+from xml.etree import ElementTree
 
 FIRST = 100_001  # the number that the first host gets, if the clock does not give a greater one
 
@@ -61,7 +62,21 @@ def jobs(reply: bytes) -> list[str]:
     return names(reply, "result")
 
 
+def found(pattern: str, text: str, flags: int = 0) -> str:
+    """Returns what the first group of a pattern has in a text, which must have the pattern."""
+    match = re.search(pattern, text, flags)
+    assert match is not None, pattern
+    return match[1]
+
+
+def element_at(root: ElementTree.Element, path: str) -> ElementTree.Element:
+    """Returns the first element at a path, which must exist."""
+    element = root.find(path)
+    assert element is not None, path
+    return element
+
+
 def value(reply: bytes, element: str) -> Any:
     """Returns the text of the first element of a kind, or None."""
-    found = re.search(rf"<{element}[^>]*>([^<]*)</{element}>", reply.decode())
-    return found[1] if found else None
+    match = re.search(rf"<{element}[^>]*>([^<]*)</{element}>", reply.decode())
+    return match[1] if match else None

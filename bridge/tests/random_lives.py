@@ -98,7 +98,8 @@ class Life:
         self.bridge, self.twin, self.chance, self.clock = bridge, twin, chance, clock
         self.clients = [Client("ann-key", "a1", 1), Client("ann-key", "a2", 2), Client("bob-key", "b1", 3)]
         self.tables, self.files, self.state, self.renamed = 0, 0, 0, 0
-        self.older_tables = self.older_state = None
+        self.older_tables: plain.Service | None = None
+        self.older_state: dict[str, bytes] | None = None
         self.counts = {
             "acknowledged": 0,
             "copies": 0,
@@ -236,7 +237,7 @@ class Life:
         for name in jobs(reply):
             self.is_given(client, name)
 
-    def owner(self, name: str) -> tuple[Any, ...]:
+    def owner(self, name: str) -> tuple[tuple[str, str] | None, bool]:
         """Returns the key of the host that has a job in the present tables, and whether it was reported."""
         machine = self.twin.service.machine
         unit_name, _, number = name.rpartition("_")

@@ -24,7 +24,7 @@ from bsched_bridge.scheduler import NoAnswer
 EMAIL = "ann@sums.example"
 FULL = '{"error":"table_full","number":18}'
 # the answers to the first imports; later answers are good
-PASTS = {
+PASTS: dict[str, list[str]] = {
     "good": [],
     "lost": ["lost"],
     "unheard": ["unheard"],
@@ -65,13 +65,14 @@ def test_a_stop_at_each_write_and_send(
     n."""
     with (project / "bridge.toml").open("a") as file:
         file.write(ACCOUNTS)
-    seen = set()
+    seen: set[str] = set()
     for at in range(1, 30):
         for path in project.glob("bridge.db*"):
             path.unlink()
         twin = Twin()
         twin.import_faults = list(PASTS[past])
-        bridge, keys = Bridge(project, twin), []
+        keys: list[str] = []
+        bridge = Bridge(project, twin)
         with monkeypatch.context() as patch:
             stops = Stops(at, is_after).set(patch, bridge)
             try:
@@ -134,9 +135,9 @@ FAULTS = [
 
 def two_at_once(bridge: Bridge, act: Callable[..., Any]) -> list[Any]:
     """Returns the answers to the same message, sent twice at once. A stop may leave fewer than two."""
-    answers = []
+    answers: list[Any] = []
 
-    def asks() -> int | str | None:
+    def asks() -> None:
         try:
             answers.append(act(bridge))
         except Stopped:
@@ -156,16 +157,16 @@ def test_a_life_of_accounts(
 ) -> None:
     chance = random.Random(seed)
     emails = [f"u{number}@sums.example" for number in range(6)]
-    keys = {}
+    keys: dict[str, str] = {}
     for step in range(60):
         email, right = chance.choice(emails), chance.random() < 0.85
         twin.import_faults = [chance.choice(FAULTS) for _ in range(chance.randint(0, 2))]
         act = chance.choice([create, create, look_up])
 
-        def asks(bridge: Bridge) -> int | str:
+        def asks(bridge: Bridge) -> Any:
             return act(bridge, email, "secret1" if right else "wrong-1", client=f"198.51.100.{step}")
 
-        answers = []
+        answers: list[Any] = []
         with monkeypatch.context() as patch:
             stops = Stops(chance.randint(1, 12), chance.random() < 0.5).set(patch, open_bridge)
             try:
@@ -197,7 +198,7 @@ def test_a_life_of_accounts(
 POINTS = [(at, is_after) for at in (1, 2, 3) for is_after in (False, True)]
 
 
-def asked(port: int, query: str) -> None:
+def asked(port: int, query: str) -> tuple[str, dict[str, str], bytes] | None:
     """Returns the answer of a bridge in another process, or None if the bridge is killed first."""
     for _ in range(600):  # a busy machine may need long to start it
         connection = http.client.HTTPConnection("127.0.0.1", port, timeout=60)

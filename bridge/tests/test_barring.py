@@ -8,7 +8,7 @@ import subprocess
 import sys
 from contextlib import redirect_stderr, redirect_stdout
 from pathlib import Path
-from typing import Any
+from typing import Any, cast
 from urllib.parse import urlencode
 
 import pytest
@@ -18,7 +18,6 @@ from messages import request, value
 
 from bsched_bridge.__main__ import main
 from bsched_bridge.barring import Barred, forget
-from bsched_bridge.scheduler import Reply
 from bsched_bridge.state_file import StateFault, StateFile
 
 ANN, PASSWORD = "ann@sums.example", "secret1"
@@ -60,10 +59,11 @@ def posted(bridge: Bridge, page: str, **fields: str) -> str:
 
 def message(bridge: Bridge, key: str, cpid: str = "c1") -> str:
     """Returns what a client with a key reads."""
-    return value(bridge.call(request(key=key, cpid=cpid)), "message")
+    text: str = value(bridge.call(request(key=key, cpid=cpid)), "message")
+    return text
 
 
-def files_with(folder: Path, text: str) -> list[Any]:
+def files_with(folder: Path, text: str) -> list[str]:
     """Returns the files of a folder that have a text."""
     return [path.name for path in folder.iterdir() if path.is_file() and text.encode() in path.read_bytes()]
 
@@ -201,18 +201,20 @@ def test_the_operator_deletes_an_account(project: Path, open_bridge: Bridge) -> 
     assert done(project, "consented") == "" and "0 users" not in done(project, "members")
 
 
-def test_a_message_in_work_writes_nothing_of_a_deleted_account(project: Path, open_bridge: Bridge) -> None:
+def test_a_message_in_work_writes_nothing_of_a_deleted_account(
+    project: Path, open_bridge: Bridge, monkeypatch: pytest.MonkeyPatch
+) -> None:
     """A call is under way when its account is deleted, and so are changes of the name and the password."""
     key = create(open_bridge)
     member = open_bridge.members.of_key(key)
     scheduler = open_bridge.application.scheduler
     call_once = scheduler.call_once
 
-    def deleted_meanwhile(body: bytes) -> Reply:
+    def deleted_meanwhile(body: bytes) -> Any:
         open_bridge.application.exchange.barring.delete(key, 7)
         return call_once(body)
 
-    scheduler.call_once = deleted_meanwhile
+    monkeypatch.setattr(scheduler, "call_once", deleted_meanwhile)
     open_bridge.call(request(key=key, cpid="computer-of-ann"))
     open_bridge.members.change(member, "Zoë", True)
     open_bridge.members.set_password(member, ANN, member.secret)
@@ -238,7 +240,7 @@ def test_a_stop_within_a_deletion(project: Path, open_bridge: Bridge) -> None:
 
         with pytest.raises(RuntimeError):
             with open_bridge.file.transaction() as connection:
-                forget(Counted(), key, 7)
+                forget(cast(sqlite3.Connection, Counted()), key, 7)
         assert look_up(open_bridge) == key and barring.reason(key) is None
     barring.delete(key, 7)
     assert barring.reason(key) is Barred.DELETED

@@ -34,7 +34,7 @@ def test_numbers_rise_by_key(numbers: CallNumbers) -> None:
 
 def test_a_number_that_could_not_be_told_is_not_taken(numbers: CallNumbers) -> None:
     with pytest.raises(ZeroDivisionError):
-        numbers.open(KEY, lambda number: 1 // 0)
+        numbers.open(KEY, lambda number: b"%d" % (number // 0))
     assert numbers.open_call(KEY) is None
     assert numbers.open(KEY, lambda number: b"%d" % number) == b"1"
 
@@ -82,7 +82,7 @@ def test_numbers_end(numbers: CallNumbers) -> None:
 
 
 def test_threads_share_no_number(numbers: CallNumbers) -> None:
-    given = []
+    given: list[bytes] = []
     threads = [
         threading.Thread(
             target=lambda: given.extend(numbers.open(KEY, lambda number: b"%d" % number) for _ in range(20))

@@ -17,7 +17,8 @@ def call(asked: ClientRequest, in_hand: list[str] | tuple[Any, ...] = (), second
     """Returns the record of the call of a request. The twin's reader must accept it."""
     body = calls.call_text(asked, "made", 5, list(in_hand), seconds)
     record_of(body)
-    return json.loads(body)
+    sent: dict[str, Any] = json.loads(body)
+    return sent
 
 
 def test_a_call() -> None:
@@ -78,4 +79,4 @@ def test_no_call_is_too_large(output: str, length: int, listed: int | None) -> N
     sent = call(replace(REQUEST, results=results, other_results=other))
     assert sent["results"]
     if "other_results" in sent:  # each result is either reported or listed
-        assert len(sent["results"]) + len(sent["other_results"]) == 300 + listed
+        assert len(sent["results"]) + len(sent["other_results"]) == 300 + (listed or 0)

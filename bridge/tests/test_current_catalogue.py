@@ -124,7 +124,7 @@ def test_the_catalogue_is_looked_at_each_time_and_its_files_now_and_then(
     monkeypatch.setattr(current_catalogue, "LOOK_SECONDS", 3600.0)
     reader = CatalogueReader(read_settings(project / "bridge.toml"))
     reader.current()
-    seen = []
+    seen: list[str] = []
     monkeypatch.setattr(current_catalogue, "mark_of", lambda path: seen.append(path.name))
     monkeypatch.setattr(CatalogueReader, "_read", lambda self: None)
     reader.current()

@@ -26,7 +26,9 @@ OUT = OutputFile("out", 1000, False, True), OutputFile("log", 1000, True, False)
 def can_run() -> bool:
     """Returns whether bubblewrap works here: some machines allow no namespaces."""
     words = [digest_programs.BWRAP, "--unshare-all", "--ro-bind", "/", "/", "/bin/true"]
-    return shutil.which(digest_programs.BWRAP) and subprocess.run(words, capture_output=True).returncode == 0
+    if shutil.which(digest_programs.BWRAP) is None:
+        return False
+    return subprocess.run(words, capture_output=True).returncode == 0
 
 
 pytestmark = pytest.mark.skipif(not can_run(), reason="bubblewrap can't run here")

@@ -97,14 +97,14 @@ def test_members_that_the_bridge_does_not_know_are_passed_over(bridge: Bridge, t
         jobs = [{**job, "job_news": [1]} for job in answer["results"]]
         return json.dumps({**answer, "results": jobs, "news": {"a": 1}})
 
-    twin.service.scheduler = newer
+    twin.handle = newer
     assert jobs(bridge.call(request())) == ["u1_0"]
     assert len(twin.heard) == 1
 
 
 def test_an_answer_that_lacks_a_member_is_none(bridge: Bridge, twin: Twin) -> None:
     handle = twin.service.scheduler
-    twin.service.scheduler = lambda body, now: handle(body, now).replace('"end_word":', '"last_word":')
+    twin.handle = lambda body, now: handle(body, now).replace('"end_word":', '"last_word":')
     assert value(bridge.call(request()), "project_is_down") == "1"
 
 
@@ -191,14 +191,14 @@ def test_a_stop_between_a_call_and_its_answer(bridge: Bridge, twin: Twin) -> Non
     to continue.
     """
     bridge.call(request())
-    seen = []
+    seen: list[tuple[bytes, bytes | None]] = []
     handle = twin.service.scheduler
 
     def looked(body: bytes, now: int) -> str:
         seen.append((body, bridge.numbers.open_call(Key("ann-key", "c1"))))
         return handle(body, now)
 
-    twin.service.scheduler = looked
+    twin.handle = looked
     bridge.call(request(hostid=FIRST, listed=["u1_0"]))
     assert seen[0][0] == seen[0][1]
 
@@ -223,18 +223,18 @@ def test_a_call_that_gets_no_answer_does_not_keep_others_from_theirs(bridge: Bri
     bridge.call(request(key="bob-key", cpid="c2"))
     handle = twin.service.scheduler
 
-    def fails_for_ann(body: Any, now: Any) -> Any:
+    def fails_for_ann(body: bytes, now: int) -> str:
         if b"ann-key" in body:
             raise OSError("no answer")
         return handle(body, now)
 
-    twin.service.scheduler = fails_for_ann
+    twin.handle = fails_for_ann
     resending = Resending(bridge.application.exchange, 0.01)
     resending.start()
     ann, bob = Key("ann-key", "c1"), Key("bob-key", "c2")
     wait_until(lambda: bridge.numbers.open_call(bob) is None)
     assert bridge.numbers.open_call(ann) == twin.heard[0]
-    twin.service.scheduler = handle
+    twin.handle = None
     wait_until(lambda: bridge.numbers.open_call(ann) is None)
     resending.end()
 

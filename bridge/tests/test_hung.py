@@ -82,9 +82,9 @@ def test_pages_and_files_are_answered_while_bsched_hangs(
     def got(method: str, path: str, body: str | None = None) -> bytes:
         connection = http.client.HTTPConnection("127.0.0.1", port, timeout=30)
         connection.request(method, path, body)
-        body = connection.getresponse().read()
+        answer = connection.getresponse().read()
         connection.close()
-        return body
+        return answer
 
     callers = [
         threading.Thread(target=got, args=("POST", "/p/cgi", request(cpid=f"c{number}")))

@@ -5,16 +5,24 @@ import random
 import threading
 import time
 from pathlib import Path
-from typing import Any
+from typing import Any, Protocol
 
 import pytest
+from bridges import Bridge
 from messages import jobs, names, request, value
 from random_lives import LIFE_SETTINGS, Life, SimulatedClock, life_twin
 from served import free_port
-from trial.programs import Bridge
+from trial import programs
 from twin import Twin
 
 FAULTS = ["lost", "unheard", "unavailable", "garbage"]
+
+
+class Called(Protocol):
+    """What answers calls."""
+
+    def call(self, body: str) -> bytes:
+        """Returns the reply to a scheduler_request."""
 
 
 class Client:
@@ -23,18 +31,11 @@ class Client:
     """
 
     def __init__(self, key: str, cpid: str, lists: bool) -> None:
-        self.key, self.cpid, self.lists, self.hostid, self.working, self.finished = (
-            key,
-            cpid,
-            lists,
-            0,
-            set(),
-            set(),
-        )
+        self.key, self.cpid, self.lists, self.hostid = key, cpid, lists, 0
+        self.working: set[str] = set()
+        self.finished: set[str] = set()
 
-    def call(
-        self, bridge: "KilledBridge | Bridge", chance: Any, loses: bool, seconds: int = 61
-    ) -> bytes | None:
+    def call(self, bridge: Called, chance: Any, loses: bool, seconds: int = 61) -> None:
         """Calls. The reply may get lost on the way, and the bridge may be killed."""
         self.finished |= {name for name in self.working if chance.random() < 0.5}
         self.working -= self.finished
@@ -93,7 +94,7 @@ def looked_at_numbers(twin: Twin) -> None:
     """Checks that the numbers of a key rise, that only the same bytes repeat a number, and that no call was
     refused.
     """
-    last = {}
+    last: dict[tuple[str, str], tuple[int, bytes]] = {}
     for body in twin.heard:
         call = json.loads(body)
         if call["rpc_seqno"] == 0:
@@ -133,8 +134,6 @@ def test_each_acknowledged_report_is_recorded_and_no_job_is_given_twice(
     project: Path, monkeypatch: pytest.MonkeyPatch, seed: int
 ) -> None:
     """bridge/try_lives has many more steps."""
-    from bridges import Bridge
-
     clock, twin = SimulatedClock(), life_twin()
     clock.replaces(monkeypatch.setattr)
     with (project / "bridge.toml").open("a") as file:
@@ -151,7 +150,7 @@ def test_each_acknowledged_report_is_recorded_and_no_job_is_given_twice(
 # ---- A bridge that is killed
 
 
-class KilledBridge(Bridge):
+class KilledBridge(programs.Bridge):
     """A bridge in a process of its own."""
 
     def call(self, body: str) -> bytes:

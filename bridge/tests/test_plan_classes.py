@@ -5,7 +5,7 @@ from typing import Any
 
 import pytest
 from bridges import Bridge
-from messages import FIRST, jobs, request
+from messages import FIRST, element_at, jobs, request
 
 from bsched_bridge.client_requests import ClientRequest, Coproc, read_request
 from bsched_bridge.operator_files import OperatorFault
@@ -137,7 +137,7 @@ def test_a_job_of_several_processors(class_bridge: Bridge) -> None:
         "<p_fpops>", "<p_ncpus>4</p_ncpus><p_fpops>"
     )
     reply = ElementTree.fromstring(class_bridge.call(body))
-    version = reply.find("app_version")
+    version = element_at(reply, "app_version")
     elements = [(one.tag, one.text) for one in version if one.tag not in ("file_ref", "app_name")]
     assert elements == [
         ("version_num", "2"),
@@ -147,7 +147,7 @@ def test_a_job_of_several_processors(class_bridge: Bridge) -> None:
         ("flops", "3000000000"),
         ("cmdline", "--nthreads 3"),
     ]
-    result = reply.find("result")
+    result = element_at(reply, "result")
     assert [result.findtext(name) for name in ("platform", "plan_class", "version_num")] == [X86, "mt", "2"]
     # bsched's estimate is 60 seconds on one processor; the client divides by flops
     assert reply.findtext("workunit/rsc_fpops_est") == "60000000000"
@@ -156,7 +156,7 @@ def test_a_job_of_several_processors(class_bridge: Bridge) -> None:
 def test_a_job_of_a_coprocessor_alone(class_bridge: Bridge) -> None:
     extra = "<cpu_req_secs>0</cpu_req_secs>" + COPROCS.format(seconds=60)
     reply = ElementTree.fromstring(class_bridge.call(request(seconds=0, extra=extra)))
-    version = reply.find("app_version")
+    version = element_at(reply, "app_version")
     assert version.findtext("plan_class") == reply.findtext("result/plan_class") == "fake"
     assert (version.findtext("avg_ncpus"), version.findtext("flops")) == ("0.1", "20000000000")
     assert (version.findtext("coproc/type"), version.findtext("coproc/count")) == ("fakegpu", "0.5")

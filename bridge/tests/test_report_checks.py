@@ -29,7 +29,7 @@ OUT, LOG = b"the answer\n", b"some lines\n"
 TEXT = f"out sha256:{sha256_of(OUT)} 11\nlog sha256:{sha256_of(LOG)} 11"
 
 
-def worked(bridge: Bridge, out: bytes = OUT, log: bytes | None = None, **more: str) -> list[str]:
+def worked(bridge: Bridge, out: bytes = OUT, log: bytes | None = None, **more: Any) -> list[str]:
     """Has a client get a job and upload its files. Returns the elements of its report."""
     reply = bridge.call(request(**more))
     tokens, (result,) = tokens_of(reply), jobs(reply)
@@ -223,12 +223,14 @@ def test_bsched_is_asked_once_for_results_that_did_not_go_out(
     file_bridge: Bridge, monkeypatch: pytest.MonkeyPatch
 ) -> None:
     file_bridge.call(request())
-    asked, statement = [], file_bridge.application.scheduler.statement
-    monkeypatch.setattr(
-        file_bridge.application.scheduler,
-        "statement",
-        lambda *words: asked.append(words) or statement(*words),
-    )
+    asked: list[tuple[Any, ...]] = []
+    statement = file_bridge.application.scheduler.statement
+
+    def counted(*words: Any) -> Any:
+        asked.append(words)
+        return statement(*words)
+
+    monkeypatch.setattr(file_bridge.application.scheduler, "statement", counted)
     reports = [(f"x{number}_0", "1") for number in range(50)]
     file_bridge.call(request(hostid=FIRST, seconds=0, reports=reports))
     assert len(asked) == 1

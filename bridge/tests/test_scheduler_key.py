@@ -28,9 +28,14 @@ def test_the_scheduler_of_another_project_gets_no_call(twin: Twin, caplog: pytes
 def test_its_own_scheduler_is_asked_once(twin: Twin, monkeypatch: pytest.MonkeyPatch) -> None:
     twin.statement = None
     bridge = Scheduler(twin.address, 2, "change-this-key")
-    asked = []
+    asked: list[str] = []
     knows = bridge.knows_key
-    monkeypatch.setattr(bridge, "knows_key", lambda key: asked.append(key) or knows(key))
+
+    def counted(key: str) -> bool:
+        asked.append(key)
+        return knows(key)
+
+    monkeypatch.setattr(bridge, "knows_key", counted)
     for _ in range(3):
         bridge.call(asking_call("ann-key", "c1", 1))
     assert asked == ["change-this-key"] and len(twin.heard) == 3

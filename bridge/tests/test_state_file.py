@@ -167,7 +167,8 @@ def test_a_file_of_an_older_version_keeps_its_hosts(tmp_path: Path, version: int
     assert [hosts.of_number("ann-key", number) for number in (1, 2, 3)] == [None] * 3
     assert [host.scheduler_hostid for host in hosts.heard(9)] == [1, 3, 2]
     assert numbers.give_hostid(Key("ann-key", "c2")) == 100_001
-    assert hosts.of_number("ann-key", 100_001).key == Key("ann-key", "c2")
+    known = hosts.of_number("ann-key", 100_001)
+    assert known is not None and known.key == Key("ann-key", "c2")
     assert hosts.count() == 3
     file.close()
 
@@ -179,6 +180,7 @@ def test_a_file_of_version_1_gets_accounts(tmp_path: Path) -> None:
     members = Members(file)
     # the accounts whose hosts had a reply are known, in the order of the first replies; they have no batch
     ann, bob = members.of_key("ann-key"), members.of_key("bob-key")
+    assert ann is not None and bob is not None
     assert (ann.name, ann.created_at, ann.email, ann.batch, ann.is_imported) == ("Ann", 100, None, None, True)
     assert (bob.name, bob.id) == ("Bob", 1)
     assert re.fullmatch("[0-9a-f]{32}", ann.cpid) and ann.cpid != bob.cpid

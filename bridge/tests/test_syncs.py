@@ -14,12 +14,12 @@ def events(monkeypatch: pytest.MonkeyPatch) -> Callable[..., Any]:
     """Yields a function that returns what a bridge does from now on: SQL statements and messages to
     bsched."""
 
-    def watched(bridge: Bridge) -> list[Any]:
-        seen = []
+    def watched(bridge: Bridge) -> list[str]:
+        seen: list[str] = []
         bridge.file._connection.set_trace_callback(seen.append)
         exchange = bridge.application.scheduler._exchange
 
-        def sent(method: str, path: str, *words: bytes | dict[str, str]) -> tuple[int, bytes]:
+        def sent(method: str, path: str, *words: Any) -> tuple[int, bytes]:
             seen.append(f"SEND {path}")
             return exchange(method, path, *words)
 

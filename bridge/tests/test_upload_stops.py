@@ -20,7 +20,9 @@ class Volunteer:
     """
 
     def __init__(self, bridge: Bridge) -> None:
-        self.bridge, self.tokens, self.done = bridge, {}, []
+        self.bridge = bridge
+        self.tokens: dict[str, str] = {}
+        self.done: list[str] = []
 
     def steps(self) -> Iterator[tuple[str, Callable[..., Any]]]:
         """Yields what the client does, in order."""
@@ -91,7 +93,7 @@ def test_a_stop_between_each_two_steps(
     file_project: Path, monkeypatch: pytest.MonkeyPatch, is_after: bool, is_power: bool
 ) -> None:
     monkeypatch.setattr("bsched_bridge.scheduler.PAUSE_SECONDS", 0.0)
-    at, kinds = 0, set()
+    at, kinds = 0, set[str]()
     while True:
         at += 1
         for path in [*file_project.glob("bridge.db*"), *file_project.glob("uploads/uploads.db*")]:

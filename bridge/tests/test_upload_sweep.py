@@ -96,7 +96,9 @@ def test_uploads_and_jobs_that_nobody_reports_go(file_bridge: Bridge) -> None:
 def test_an_upload_after_the_report_goes_after_a_week(file_bridge: Bridge) -> None:
     result = ran(file_bridge, "ann", RIGHT)
     name = f"{result}_0"
-    token = file_bridge.application.writer.tokens.token(name, 20_000)
+    writer = file_bridge.application.writer
+    assert writer.tokens is not None
+    token = writer.tokens.token(name, 20_000)
     assert sent(file_bridge, upload(name, WRONG, token)) == 0
     assert sweep(file_bridge.store, later(file_bridge, 6), None) == Swept()
     assert sweep(file_bridge.store, later(file_bridge, 8), None) == Swept(uploads=1, nbytes=6)

@@ -55,15 +55,15 @@ def test_a_reply_names_the_output_files(file_bridge: Bridge) -> None:
         "result",
     ]
     first, second = [one for one in reply.findall("file_info") if one.find("upload_when_present") is not None]
-    assert [(one.tag, one.text.strip()) for one in first][:-1] == [
+    assert [(one.tag, (one.text or "").strip()) for one in first][:-1] == [
         ("name", "u1_0_0"),
         ("generated_locally", "1"),
         ("upload_when_present", "1"),
         ("max_nbytes", "20000"),
         ("url", "http://127.0.0.1:8081/p/file_upload_handler"),
     ]
-    token = first.findtext("xml_signature").strip()
-    assert len(token) == 64 and token != second.findtext("xml_signature").strip()
+    token, other = (one.findtext("xml_signature", "").strip() for one in (first, second))
+    assert len(token) == 64 and token != other
     references = [[(one.tag, one.text) for one in place] for place in reply.findall("result/file_ref")]
     assert references == [
         [("file_name", "u1_0_0"), ("open_name", "out"), ("copy_file", "1")],
@@ -87,7 +87,7 @@ def test_a_name_that_the_client_would_refuse(file_bridge: Bridge) -> None:
         "name,app,min_quorum,target_nresults,max_error_results,max_total_results,"
         f"max_success_results,delay_bound,rsc_fpops_est,rsc_memory_bound,rsc_disk_bound,credit\n{line}\n",
     )
-    handed = {}
+    handed: dict[str, str] = {}
     for number in range(12):
         handed |= given(file_bridge, cpid=f"c{number}", key=("ann-key", "bob-key")[number % 2], seconds=1000)
         if any(name.startswith("a.") for name in handed):
@@ -147,8 +147,8 @@ def test_a_body_that_comes_in_small_pieces(file_bridge: Bridge) -> None:
     class Pieces(io.BytesIO):
         """A stream that gives a few bytes at a time after the head, as a slow connection does."""
 
-        def read(self, size: int = -1) -> bytes:
-            return super().read(min(size, 1000) if self.tell() else size)
+        def read(self, size: int | None = -1, /) -> bytes:
+            return super().read(min(size or 0, 1000) if self.tell() else size)
 
     tokens = given(file_bridge)
     message = upload("u1_0_0", DATA, tokens["u1_0_0"])
@@ -218,7 +218,7 @@ def test_a_connection_that_fails_is_no_final_answer(file_bridge: Bridge) -> None
     class Failing(io.BytesIO):
         """A stream that fails after the head."""
 
-        def read(self, size: int = -1) -> bytes:
+        def read(self, size: int | None = -1, /) -> bytes:
             if self.tell():
                 raise ConnectionResetError
             return super().read(size)
@@ -244,8 +244,10 @@ def test_without_output_files_nothing_is_uploaded(bridge: Bridge) -> None:
 
 
 def test_thirty_uploads_under_one_name_leave_one_file(file_bridge: Bridge) -> None:
-    tokens, answers = given(file_bridge), []
-    file_bridge.application._handlers[uploads.PATH].__self__.places = uploads.Places(30)
+    tokens = given(file_bridge)
+    answers: list[int] = []
+    handler: Any = file_bridge.application._handlers[uploads.PATH]
+    handler.__self__.places = uploads.Places(30)
 
     def send(number: int) -> None:
         data = b"content %d" % (number % 3)
@@ -265,12 +267,13 @@ def test_thirty_uploads_under_one_name_leave_one_file(file_bridge: Bridge) -> No
 def test_an_upload_waits_for_a_place(file_bridge: Bridge, monkeypatch: pytest.MonkeyPatch) -> None:
     monkeypatch.setattr(uploads, "PLACE_SECONDS", 0.01)
     tokens = given(file_bridge)
-    places = file_bridge.application._handlers[uploads.PATH].__self__.places
+    handler: Any = file_bridge.application._handlers[uploads.PATH]
+    places = handler.__self__.places
     message = upload("u1_0_0", DATA, tokens["u1_0_0"])
     with places.taken(), places.taken(), places.taken(), places.taken():
         assert sent(file_bridge, message) == AGAIN
         monkeypatch.setattr(uploads, "PLACE_SECONDS", 30.0)
-        answers = []
+        answers: list[int] = []
         waiting = threading.Thread(target=lambda: answers.append(sent(file_bridge, message)))
         waiting.start()
     waiting.join()
@@ -365,6 +368,7 @@ def test_faulty_settings(file_project: Path, old: str, new: str, fault: str) -> 
 
 def test_a_secret_that_is_lost_is_not_replaced(file_bridge: Bridge) -> None:
     settings = file_bridge.application.settings.uploads
+    assert settings is not None
     secret = settings.folder / "secret"
     kept = secret.read_bytes()
     secret.unlink()
@@ -386,7 +390,9 @@ def test_a_process_that_keeps_its_turn_puts_uploads_off(
     monkeypatch.setattr("bsched_bridge.upload_tables.SECONDS", 0.05)
     tokens = given(file_bridge)
     message = upload("u1_0_0", DATA, tokens["u1_0_0"])
-    sweeping = UploadStore(file_bridge.application.settings.uploads)  # as another process has it
+    settings = file_bridge.application.settings.uploads
+    assert settings is not None
+    sweeping = UploadStore(settings)  # as another process has it
     with sweeping.tables.turn():
         assert sent(file_bridge, message) == AGAIN
         assert on_disk(file_bridge.folder) == {}

@@ -2,6 +2,7 @@
 import json
 import threading
 import time
+from collections.abc import Callable
 from http.server import BaseHTTPRequestHandler, ThreadingHTTPServer
 from typing import Any
 
@@ -73,7 +74,8 @@ class Handler(BaseHTTPRequestHandler):
                 status, answer = 400, fault
             else:
                 try:
-                    status, answer = 200, twin.service.scheduler(body, int(time.time()))
+                    handle = twin.handle or twin.service.scheduler
+                    status, answer = 200, handle(body, int(time.time()))
                 except Refused as refusal:
                     status, answer = refusal.status, refusal.body
             twin.answers.append(answer)
@@ -161,6 +163,7 @@ class Twin:
         )
         for kind, text in IMPORTS.items():
             self.service.imported(kind, "first", text)
+        self.handle: Callable[[bytes, int], str] | None = None  # in place of the service's own
         self.lock = threading.Lock()
         self.faults: list[str | None] = []
         self.heard: list[bytes] = []

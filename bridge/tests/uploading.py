@@ -6,7 +6,7 @@ from pathlib import Path
 from typing import Any
 
 from bridges import Bridge
-from messages import FIRST, request
+from messages import FIRST, found, request
 
 HEAD = """\
 <data_server_request>
@@ -55,9 +55,7 @@ def tokens_of(reply: bytes) -> dict[str, str]:
     """Returns the token of each file in a reply, as the client reads it."""
     files = (part for part in reply.decode().split("<file_info>")[1:] if "<xml_signature>" in part)
     return {
-        re.search("<name>(.*?)</name>", part)[1]: re.search("<xml_signature>\n(.*?)\n</xml_signature>", part)[
-            1
-        ]
+        found("<name>(.*?)</name>", part): found("<xml_signature>\n(.*?)\n</xml_signature>", part)
         for part in files
     }
 
@@ -68,17 +66,12 @@ def upload(name: str, data: bytes, token: str, max_nbytes: int | str = 20_000, *
     return HEAD.format(name=name, token=token, max_nbytes=max_nbytes, **values).encode() + data
 
 
-def sent(bridge: Bridge, message: bytes, **more: Any) -> int | None:
+def sent(bridge: Bridge, message: bytes, **more: Any) -> int:
     """Returns the status in the answer to a message of an upload."""
     status, fields, body = bridge.got("/p/file_upload_handler", "POST", message, **more)
     assert (status, fields["Content-Length"]) == ("200 OK", str(len(body)))
-    return int(
-        re.fullmatch(
-            r"<data_server_reply>\n<status>(-?\d+)</status>\n.*</data_server_reply>\n",
-            body.decode(),
-            re.DOTALL,
-        )[1]
-    )
+    pattern = r"\A<data_server_reply>\n<status>(-?\d+)</status>\n.*</data_server_reply>\n\Z"
+    return int(found(pattern, body.decode(), re.DOTALL))
 
 
 def file_info(name: str, data: bytes, more: str = "") -> str:
