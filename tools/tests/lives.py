@@ -19,11 +19,12 @@ def life_of(
     """Returns a project of the plain scheduler that lived this many calls. Its lines are those of the life."""
     chosen = bench_project.random
     try:
-        bench_project.random = type("Chosen", (), {"Random": staticmethod(lambda _: random.Random(seed))})
+        chance = type("Chosen", (), {"Random": staticmethod(lambda _: random.Random(seed))})
+        setattr(bench_project, "random", chance)
         lived = made(calls)
         lived.live()
     finally:
-        bench_project.random = chosen
+        setattr(bench_project, "random", chosen)
     return lived
 
 
@@ -60,13 +61,15 @@ def stored_life(lived: bench_project.Project, path: Path) -> Path:
 def decided_by(lived: bench_project.Project) -> list[tuple[Any, ...]]:
     """Returns what the plain scheduler says about workunits that are done or have failed: for each its name,
     the reason or the canonical result, and the verdicts."""
-    machine, decided = lived.service.machine, []
+    machine = lived.service.machine
+    decided: list[tuple[Any, ...]] = []
     for unit in machine.places:
         if unit.failed():
             decided.append((unit.name, unit.status, None, None, {}))
         elif unit.status == "done":
             good = [one for one in unit.judged if one.exit_status == 0]
             best = plain.canonical(machine.rows["apps"][unit.app], unit, good)
+            assert best is not None
             verdicts = {one.name(): one.verdict for one in unit.instances if one.verdict is not None}
             decided.append((unit.name, None, best.name(), best.output, verdicts))
     return decided

@@ -71,6 +71,7 @@ class Twin:
     def __init__(self, path: Path) -> None:
         command = [sys.executable, str(BENCH / "plain_tables.py"), str(path), "0"]
         self.process = subprocess.Popen(command, stdout=subprocess.PIPE, text=True)
+        assert self.process.stdout is not None
         self.port = int(self.process.stdout.readline())
 
     def call(self, user: int, seqno: int, **more: Any) -> Any:

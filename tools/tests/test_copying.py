@@ -42,8 +42,14 @@ def goes_on(twin: Twin) -> bool:
 
 def counted_parts(monkeypatch: pytest.MonkeyPatch) -> list[tuple[int, ...]]:
     """Returns a list that gets an entry each time a file is copied as a whole."""
-    parts, copy_bytes = [], taking.copy_bytes
-    monkeypatch.setattr(taking, "copy_bytes", lambda *files: (parts.append(files), copy_bytes(*files)))
+    parts: list[tuple[int, ...]] = []
+    copy_bytes = taking.copy_bytes
+
+    def counted(*files: int) -> None:
+        parts.append(files)
+        copy_bytes(*files)
+
+    monkeypatch.setattr(taking, "copy_bytes", counted)
     return parts
 
 
@@ -143,7 +149,8 @@ def test_a_file_that_is_written_during_the_early_copy_is_copied_again(
     copies: Path,
     monkeypatch: pytest.MonkeyPatch,
 ) -> None:
-    copy_bytes, parts = taking.copy_bytes, []
+    copy_bytes = taking.copy_bytes
+    parts: list[tuple[int, ...]] = []
 
     def written_meanwhile(*files: int) -> None:
         copy_bytes(*files)
@@ -190,7 +197,7 @@ def test_serving_goes_on_where_the_tool_is_killed_while_it_stands_still(project:
         command = [sys.executable, "-c", script]
         pipes = {"stdout": subprocess.PIPE, "stderr": subprocess.DEVNULL}
         with subprocess.Popen(command, env={"PYTHONPATH": str(TOOLS)}, **pipes) as stopper:
-            assert stopper.stdout.readline() == b"still\n"
+            assert stopper.stdout is not None and stopper.stdout.readline() == b"still\n"
             assert state_of(twin.process.pid) == "T"
             stopper.send_signal(end)
             stopper.wait(END)
@@ -248,9 +255,10 @@ def test_locks_of_open_files(project: Path, copies: Path) -> None:
     command = [sys.executable, "-c", LIKE_THE_PROGRAM, str(project), str(log)]
     with subprocess.Popen(command, env={"PYTHONPATH": str(TOOLS)}, stdout=subprocess.PIPE) as holder:
         try:
-            assert holder.stdout.readline() == b"locked\n"
+            assert holder.stdout is not None and holder.stdout.readline() == b"locked\n"
             identity = holders.identity_of(project)
-            assert holders.holder_among(holders.all_open_files(identity)).pid == holder.pid
+            found = holders.holder_among(holders.all_open_files(identity))
+            assert found is not None and found.pid == holder.pid
             assert copying.copy_tables(project, copies).still_seconds is not None
         finally:
             holder.kill()
@@ -278,7 +286,8 @@ def test_a_process_that_stops_at_the_second_try(
     copies: Path,
     monkeypatch: pytest.MonkeyPatch,
 ) -> None:
-    is_still, tries = stopping.is_still, []
+    is_still = stopping.is_still
+    tries: list[stopping.Threads] = []
 
     def too_late_at_first(states: stopping.Threads) -> bool:
         tries.append(states)
@@ -301,7 +310,8 @@ def test_nobody_begins_while_a_copy_is_made(
     copies: Path,
     monkeypatch: pytest.MonkeyPatch,
 ) -> None:
-    rest, tried = taking.Work.copy_rest, []
+    rest = taking.Work.copy_rest
+    tried: list[bool] = []
 
     def tries_to_begin(work: taking.Work, *args: Any) -> bytes:
         with pytest.raises(sqlite3.OperationalError, match="locked"):
@@ -327,6 +337,7 @@ def test_a_reader_is_named(project: Path, copies: Path, monkeypatch: pytest.Monk
             assert time.monotonic() < ends
         with pytest.raises(Fault, match=rf"process {reader.pid} \(\w+\S*\) reads it: end that first"):
             copying.copy_tables(project, copies)
+        assert reader.stdin is not None
         reader.stdin.close()
 
 

@@ -43,11 +43,11 @@ def test_counts_are_those_of_the_plain_scheduler(tmp_path_factory: pytest.TempPa
         "all": len(every),
         "waiting": sum(one.unit.status == "open" and one.host is None for one in every),
         "held": len(held),
-        "late": sum(one.deadline < lived.now for one in held),
+        "late": sum((one.deadline or 0) < lived.now for one in held),
         "reported": sum(one.exit_status is not None for one in every),
         "lapsed": sum(one.lapse is not None and one.exit_status is None for one in every),
     }
-    lately = {one.host for one in every if one.host is not None and one.sent >= lived.now - 86400}
+    lately = {one.host for one in every if one.host is not None and (one.sent or 0) >= lived.now - 86400}
     assert counted.people == {
         "hosts": len(machine.hosts),
         "users": len(machine.rows["accounts"]),
@@ -119,11 +119,11 @@ def test_who_called_is_unknown_without_an_older_copy(project: Path, copies: Path
 
 
 def test_several_files_have_each_user_and_host_once(tmp_path: Path) -> None:
-    first = Stored(tmp_path / "1.db")
-    first.answer(life_of(5).lines)
+    stored = Stored(tmp_path / "1.db")
+    stored.answer(life_of(5).lines)
     second = tmp_path / "2.db"
-    made_anew(first.copy(second))
-    first = first.close()
+    made_anew(stored.copy(second))
+    first = stored.close()
     alone, both = counts.counted([first]), counts.counted([first, second])
     assert both.people == alone.people
     assert both.millicredits == 2 * alone.millicredits

@@ -76,7 +76,9 @@ def test_rows_that_the_program_refuses(tmp_path: Path, statement: str) -> None:
         changed = connection.execute(statement).rowcount
     lines = findings_of(path)
     assert changed > 0 and lines
-    table = re.search(r"(?:UPDATE|INTO|FROM) (\w+)", statement)[1]
+    found = re.search(r"(?:UPDATE|INTO|FROM) (\w+)", statement)
+    assert found is not None
+    table = found[1]
     assert re.search(rf"row \S.* of (?:{'|'.join(NAMED.get(table, [table]))}): ", lines[0]), lines
     assert lines[-1].startswith("no scheduler wrote such rows")
 

@@ -13,6 +13,7 @@ import pytest
 from made_project import SETTINGS, MadeProject
 
 from bsched_tools import health
+from bsched_tools.faults import Fault
 from bsched_tools.health import Finding, Level
 from bsched_tools.projects import Project
 
@@ -151,7 +152,7 @@ def test_certificates(made: MadeProject, tmp_path: Path, monkeypatch: pytest.Mon
     ],
 )
 def test_ticks(
-    made: MadeProject, monkeypatch: pytest.MonkeyPatch, states: dict[str, str], level: Level, text: str
+    made: MadeProject, monkeypatch: pytest.MonkeyPatch, states: dict[str, str | None], level: Level, text: str
 ) -> None:
     monkeypatch.setattr(health, "shown_by_systemd", lambda _unit, key: states[key])
     finding = found(made)["tick"]
@@ -193,7 +194,7 @@ def test_a_table_that_is_nearly_full(made: MadeProject, monkeypatch: pytest.Monk
 
 def test_a_disk_that_is_nearly_full(made: MadeProject, monkeypatch: pytest.MonkeyPatch) -> None:
     usage = type("Usage", (), {"free": 2 * 10**9, "total": 100 * 10**9})
-    monkeypatch.setattr(health.shutil, "disk_usage", lambda _folder: usage)
+    monkeypatch.setattr("bsched_tools.health.shutil.disk_usage", lambda _folder: usage)
     finding = found(made)["disk"]
     assert finding.level is Level.CRITICAL and "2.0 GB of 100.0 GB" in finding.text
 
@@ -220,7 +221,7 @@ def test_mail_of_changes(made: MadeProject, tmp_path: Path, monkeypatch: pytest.
 
     assert not mailed(good) and not sent.exists()
     (tmp_path / "broken").touch()
-    with pytest.raises(health.Fault, match="status 75"):
+    with pytest.raises(Fault, match="status 75"):
         mailed(bad)
     os.remove(tmp_path / "broken")
     assert mailed(bad) and not mailed(bad)

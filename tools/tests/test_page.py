@@ -2,7 +2,7 @@
 import json
 import os
 import re
-from collections.abc import Callable, Iterable
+from collections.abc import Callable, Sequence
 from html.parser import HTMLParser
 from pathlib import Path
 from typing import Any
@@ -52,14 +52,14 @@ class Read(HTMLParser):
     def handle_endtag(self, tag: str) -> None:
         assert self.open.pop() == tag
         if tag in ("td", "th"):
-            self.tables[-1][-1].append(self.cell)
+            self.tables[-1][-1].append(self.cell or "")
             self.cell = None
 
     def handle_data(self, data: str) -> None:
         if self.cell is not None:
             self.cell += data
 
-    def rows(self, header: Iterable[str]) -> list[list[str]]:
+    def rows(self, header: Sequence[str]) -> list[list[str]]:
         """Returns the rows of the table whose header begins with these cells."""
         (found,) = [table[1:] for table in self.tables if table[0][: len(header)] == list(header)]
         return found
@@ -115,7 +115,7 @@ def test_the_page_has_the_counts(tmp_path: Path, folder: Path) -> None:
 
 def test_hosts_with_errors(tmp_path: Path, folder: Path) -> None:
     lived, _, read = lived_in_parts(tmp_path, folder)
-    wanted = {}
+    wanted: dict[str, list[int]] = {}
     for unit in lived.service.machine.places:
         for one in unit.instances:
             if one.host is not None:
@@ -133,7 +133,7 @@ def test_each_plot_has_a_text_and_a_table(tmp_path: Path, folder: Path) -> None:
     _, _, read = lived_in_parts(tmp_path, folder)
     plots = [attrs for tag, attrs in read.tags if tag == "svg"]
     assert len(plots) == 7
-    assert all(plot["role"] == "img" and len(plot["aria-label"]) > 20 and "viewbox" in plot for plot in plots)
+    assert all(plot["role"] == "img" and len(plot["aria-label"] or "") > 20 and "viewbox" in plot for plot in plots)
     names = [tag for tag, _ in read.tags]
     assert names.count("details") == len(plots) and names.count("figure") == len(plots)
     assert "script" not in names

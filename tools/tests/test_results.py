@@ -67,7 +67,7 @@ def test_both_forms_have_the_hosts_users_and_credits_of_the_plain_scheduler(tmp_
         one.name(): (unit.app, unit.credit, one.host.number, one.host.account.name, one.verdict)
         for unit in units.values()
         for one in unit.instances
-        if one.verdict is not None
+        if one.host is not None and one.verdict is not None
     }
     rows = [row for row in rows_of(path) if row["status"] == "done"]
     assert wanted == {
@@ -99,7 +99,8 @@ def test_with_a_cursor_each_result_comes_once(
 ) -> None:
     folder = tmp_path_factory.mktemp("cursor")
     lived = life_of(seed)
-    stored, cursor, came = Stored(folder / "project.db"), folder / "cursor", []
+    stored, cursor = Stored(folder / "project.db"), folder / "cursor"
+    came: list[dict[str, str]] = []
     size = len(lived.lines) // parts + 1
     for part in range(parts):
         stored.answer(lived.lines[part * size :][:size])

@@ -12,7 +12,7 @@ import pytest
 from lives import Stored, life_of, stored_life
 from small_project import SETTINGS, made_anew, make_tables, tools
 
-from bsched_tools import averages, exports, files
+from bsched_tools import averages, exports
 from bsched_tools.faults import Fault
 from bsched_tools.members import agreed_in
 
@@ -118,10 +118,10 @@ def test_nobody_is_named_who_did_not_agree(tmp_path: Path, folder: Path) -> None
 
 
 def test_several_files_are_summed_by_authenticator(tmp_path: Path, folder: Path) -> None:
-    first = Stored(tmp_path / "2025.db")
-    first.answer(life_of(11).lines)
-    second = made_anew(first.copy(tmp_path / "2026.db"))
-    first = first.close()
+    stored = Stored(tmp_path / "2025.db")
+    stored.answer(life_of(11).lines)
+    second = made_anew(stored.copy(tmp_path / "2026.db"))
+    first = stored.close()
     exports.export([first], folder, None)
     alone = {user["id"]: float(user["total_credit"]) for user in read(folder, "user.gz")}
     exports.export([first, second], folder, None)
@@ -149,7 +149,7 @@ def test_no_half_file(tmp_path: Path, folder: Path, monkeypatch: pytest.MonkeyPa
     def full(_descriptor: int) -> None:
         raise OSError(28, "No space left on device")
 
-    monkeypatch.setattr(files.os, "fsync", full)
+    monkeypatch.setattr("bsched_tools.files.os.fsync", full)
     with pytest.raises(Fault, match="stats-averages.json: No space left on device"):
         exports.export([path], folder, frozenset())
     assert {one.name: one.read_bytes() for one in folder.iterdir()} == before
