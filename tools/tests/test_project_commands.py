@@ -248,7 +248,9 @@ def test_names_that_volunteers_chose(project: MadeProject, tmp_path: Path) -> No
     for user in (1, 2, 3):
         with file.transaction() as connection:
             first_heard(connection, f"k{user}", f"User {user}", 1000)
-        members.change(members.of_key(f"k{user}"), f"Chosen {user}", user == 1)
+        member = members.of_key(f"k{user}")
+        assert member is not None
+        members.change(member, f"Chosen {user}", user == 1)
     Barring(file).delete("k3", 2000)
     project.serve()
     for user in (1, 2):

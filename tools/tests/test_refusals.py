@@ -10,7 +10,7 @@ import plain_tables
 import pytest
 from small_project import TOOLS, Twin, make_tables, tools
 
-COMMANDS = {
+COMMANDS: dict[str, list[str]] = {
     "results": [],
     "counts": [],
     "statistics": ["--to", "DIR"],
@@ -63,7 +63,7 @@ def changed(path: Path, good: Path) -> None:
     connection.close()
 
 
-FILES = [
+FILES: list[tuple[Callable[[Path, Path], object], str]] = [
     (lambda path, _good: None, "No such file or directory"),
     (lambda path, _good: path.write_bytes(b""), "it is empty, so it is not a database"),
     (lambda path, _good: path.write_text("name,app\n" * 100), "it is not a SQLite database"),

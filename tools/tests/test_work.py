@@ -6,11 +6,13 @@ import os
 import shutil
 import socket
 import sys
-from collections.abc import Iterator
+from collections.abc import Callable, Iterator
 from pathlib import Path
+from typing import Any
 
 import pytest
-from made_project import SETTINGS, TWIN, free_port
+from made_project import SETTINGS, TWIN
+from served import free_port
 from small_project import TOOLS, rows_of, tools
 from work_project import CATALOGUE, PLATFORM, WorkProject
 
@@ -321,7 +323,7 @@ def test_mistakes_in_what_is_named(work: WorkProject, tmp_path: Path) -> None:
     text = tmp_path / "text"
     text.write_text("-x\n")
     before = work.state()
-    for words, options, fault in (
+    mistakes: list[tuple[list[object], dict[str, str], str]] = [
         ([folder], {"app": "none"}, "there is no application none; there are: count"),
         ([tmp_path / "none"], {}, f"{tmp_path}/none: No such file or directory"),
         ([large], {}, f"{large}/in: it has 999.0 MB, and with its program and outputs a job may use 1.0 GB"),
@@ -340,7 +342,8 @@ def test_mistakes_in_what_is_named(work: WorkProject, tmp_path: Path) -> None:
         ([folder, "--lines", text], {}, "just one of the three"),
         (["--lines", text], {}, "count takes an input file for each workunit, and no command lines"),
         ([folder, "--disk", "2G"], {}, "--disk 2000000000: it is more than 1000000000, which the catalogue"),
-    ):
+    ]
+    for words, options, fault in mistakes:
         is_refused(work, work.submit(*words, **options), fault, before)
 
 
@@ -502,8 +505,8 @@ def test_a_stop_at_each_step(
 
     left = 0
 
-    def steps_before(function):  # type: ignore[no-untyped-def]
-        def stepped(*args, **more):  # type: ignore[no-untyped-def]
+    def steps_before(function: Callable[..., Any]) -> Callable[..., Any]:
+        def stepped(*args: Any, **more: Any) -> Any:
             nonlocal left
             if left == 0:
                 raise Stop
@@ -554,8 +557,8 @@ def test_a_stop_of_app_at_each_step(
 
     left = 0
 
-    def steps_before(function):  # type: ignore[no-untyped-def]
-        def stepped(*args, **more):  # type: ignore[no-untyped-def]
+    def steps_before(function: Callable[..., Any]) -> Callable[..., Any]:
+        def stepped(*args: Any, **more: Any) -> Any:
             nonlocal left
             if left == 0:
                 raise Stop
