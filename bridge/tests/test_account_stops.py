@@ -22,6 +22,7 @@ from twin import Twin
 from bsched_bridge.scheduler import NoAnswer
 
 EMAIL = "ann@sums.example"
+PACKAGES = f"{BRIDGE}:{BRIDGE.parent / 'bench'}"
 FULL = '{"error":"table_full","number":18}'
 # the answers to the first imports; later answers are good
 PASTS: dict[str, list[str]] = {
@@ -48,9 +49,11 @@ def ended_well(bridge: Bridge, twin: Twin, keys: list[str]) -> None:
 
 def resent(bridge: Bridge) -> None:
     """Sends open imports again, as the bridge does at its start and at intervals."""
+    accounts = bridge.application.accounts
+    assert accounts is not None
     for _ in range(4):
         try:
-            bridge.application.accounts.resend_open()
+            accounts.resend_open()
         except NoAnswer:
             pass
 
@@ -158,10 +161,11 @@ def test_a_life_of_accounts(
     chance = random.Random(seed)
     emails = [f"u{number}@sums.example" for number in range(6)]
     keys: dict[str, str] = {}
+    acts: list[Callable[..., Any]] = [create, create, look_up]
     for step in range(60):
         email, right = chance.choice(emails), chance.random() < 0.85
         twin.import_faults = [chance.choice(FAULTS) for _ in range(chance.randint(0, 2))]
-        act = chance.choice([create, create, look_up])
+        act = chance.choice(acts)
 
         def asks(bridge: Bridge) -> Any:
             return act(bridge, email, "secret1" if right else "wrong-1", client=f"198.51.100.{step}")
@@ -233,7 +237,7 @@ def test_a_bridge_that_is_killed(project: Path, twin: Twin, at: int, is_after: b
     ]
     process = subprocess.Popen(
         [*words, "after" if is_after else "before"],
-        env={**os.environ, "PYTHONPATH": f"{BRIDGE}:{BRIDGE.parent / 'bench'}", "PYTHONDONTWRITEBYTECODE": "1"},
+        env={**os.environ, "PYTHONPATH": PACKAGES, "PYTHONDONTWRITEBYTECODE": "1"},
     )
     try:
         answer = asked(port, account_query("create_account.php", EMAIL, "secret1", user_name="ann"))

@@ -232,11 +232,11 @@ def test_a_stop_within_a_deletion(project: Path, open_bridge: Bridge) -> None:
         class Counted:
             """Counts statements, and ends at one of them."""
 
-            def execute(self, *words: str | tuple[Any, ...]) -> Any:
+            def execute(self, statement: str, *values: tuple[Any, ...]) -> Any:
                 left[0] -= 1
                 if left[0] == 0:
                     raise RuntimeError
-                return connection.execute(*words)
+                return connection.execute(statement, *values)
 
         with pytest.raises(RuntimeError):
             with open_bridge.file.transaction() as connection:

@@ -136,7 +136,7 @@ def test_a_large_catalogue_keeps_nobody_waiting(project: Path, monkeypatch: pyte
     monkeypatch.setattr(current_catalogue, "WAIT_SECONDS", 0.01)
     reader = CatalogueReader(read_settings(project / "bridge.toml"))
     former, begun, may_end = reader.current(), threading.Event(), threading.Event()
-    read = current_catalogue.read_catalogue
+    read = catalogue.read_catalogue
 
     def slow(*args: Any) -> Any:
         begun.set()

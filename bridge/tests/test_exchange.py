@@ -431,7 +431,7 @@ def test_calls_of_known_hosts_and_accounts_are_stored(bridge: Bridge, twin: Twin
 
 
 def test_a_resent_call_that_is_refused_is_let_go(bridge: Bridge, twin: Twin) -> None:
-    twin.faults = ["unheard"] * 3 + ['{"error":"hosts_full","number":12}']
+    twin.faults = [*["unheard"] * 3, '{"error":"hosts_full","number":12}']
     bridge.call(request())
     assert jobs(bridge.call(request())) == ["u1_0"]
 

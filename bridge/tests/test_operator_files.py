@@ -277,8 +277,8 @@ def test_the_command_line(project: Path) -> None:
         1,
         "bsched-bridge: catalogue.toml: line 1: code_sign_key is missing\n",
     )
-    for words in ([], ["nothing"], ["sign", "files/two.txt"], ["--other"]):
-        assert ordered(project, *words).returncode == 64
+    faulty: list[list[str]] = [[], ["nothing"], ["sign", "files/two.txt"], ["--other"]]
+    assert {ordered(project, *words).returncode for words in faulty} == {64}
 
 
 @pytest.mark.parametrize(

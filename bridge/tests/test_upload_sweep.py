@@ -1,6 +1,4 @@
 """What the sweep deletes, and what it keeps."""
-from pathlib import Path
-
 import pytest
 from bridges import Bridge
 from messages import FIRST, jobs, names, request

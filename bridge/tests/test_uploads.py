@@ -30,6 +30,7 @@ from uploading import (
 
 from bsched_bridge import uploads
 from bsched_bridge.catalogue import read_catalogue
+from bsched_bridge.limits import Places
 from bsched_bridge.operator_files import OperatorFault
 from bsched_bridge.settings import read_settings
 from bsched_bridge.upload_store import UploadStore, check_uploads
@@ -247,7 +248,7 @@ def test_thirty_uploads_under_one_name_leave_one_file(file_bridge: Bridge) -> No
     tokens = given(file_bridge)
     answers: list[int] = []
     handler: Any = file_bridge.application._handlers[uploads.PATH]
-    handler.__self__.places = uploads.Places(30)
+    handler.__self__.places = Places(30)
 
     def send(number: int) -> None:
         data = b"content %d" % (number % 3)

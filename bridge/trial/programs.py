@@ -42,9 +42,7 @@ class Program:
         path = self.folder / f"{self.name}.log"
         with path.open("ab") as log:
             try:
-                self.process = start(
-                    self.words, self.port, START_SECONDS, self.folder, self.environment, log
-                )
+                self.process = start(self.words, self.port, START_SECONDS, self.folder, self.environment, log)
             except NotStarted:
                 raise TrialFault(f"{self.name} does not start, see {path}") from None
 
@@ -85,7 +83,8 @@ class Scheduler(Program):
             {"x-operator-key": self.operator_key},
         )
         with urllib.request.urlopen(message, timeout=30) as response:
-            return response.read().decode()
+            answer: bytes = response.read()
+        return answer.decode()
 
     def statement(self, host: int) -> dict[str, list[str]]:
         """Returns the lines of a host's statement, by result."""

@@ -16,15 +16,14 @@ def life_of(
     calls: int = CALLS,
     made: type[bench_project.Project] = bench_project.Project,
 ) -> bench_project.Project:
-    """Returns a project of the plain scheduler that lived this many calls. Its lines are those of the life."""
-    chosen = bench_project.random
+    """Returns a project of the plain scheduler that lived this many calls. It has the lines of the life."""
     try:
         chance = type("Chosen", (), {"Random": staticmethod(lambda _: random.Random(seed))})
         setattr(bench_project, "random", chance)
         lived = made(calls)
         lived.live()
     finally:
-        setattr(bench_project, "random", chosen)
+        setattr(bench_project, "random", random)
     return lived
 
 

@@ -18,7 +18,15 @@ from small_project import END, SETTINGS, TOOLS, Twin, make_tables, rows_of, tool
 
 from bsched_tools import copies as copies_module
 from bsched_tools import copying, holders, stopping, tables, taking
-from bsched_tools.faults import Fault
+from bsched_tools.faults import Fault, Retry
+
+
+def identity_of(path: Path) -> holders.Identity:
+    """Returns the identity of a file that exists."""
+    identity = holders.identity_of(path)
+    assert identity is not None
+    return identity
+
 
 SEQNOS = """
 SELECT auth, max(seqno)
@@ -88,7 +96,7 @@ def test_copies_under_load_have_what_was_answered(project: Path, twin: Twin, cop
             heard = {int(auth[1:]): seqno for auth, seqno in rows_of(copied.path, SEQNOS)}
             for user, seqno in answered.items():
                 assert seqno <= heard.get(user, 0) <= sent[user]
-            assert copied.still_seconds < 1
+            assert copied.still_seconds is not None and copied.still_seconds < 1
             assert goes_on(twin)
     finally:
         load.end()
@@ -195,8 +203,10 @@ def test_serving_goes_on_where_the_tool_is_killed_while_it_stands_still(project:
     )
     for end in (signal.SIGKILL, signal.SIGTERM, signal.SIGINT):
         command = [sys.executable, "-c", script]
-        pipes = {"stdout": subprocess.PIPE, "stderr": subprocess.DEVNULL}
-        with subprocess.Popen(command, env={"PYTHONPATH": str(TOOLS)}, **pipes) as stopper:
+        path = {"PYTHONPATH": str(TOOLS)}
+        with subprocess.Popen(
+            command, env=path, stdout=subprocess.PIPE, stderr=subprocess.DEVNULL
+        ) as stopper:
             assert stopper.stdout is not None and stopper.stdout.readline() == b"still\n"
             assert state_of(twin.process.pid) == "T"
             stopper.send_signal(end)
@@ -214,7 +224,7 @@ def test_no_process_stands_still_beyond_the_limit(twin: Twin, monkeypatch: pytes
 
 
 def test_a_process_that_ran_meanwhile_voids_the_copy(twin: Twin) -> None:
-    with pytest.raises(stopping.Retry, match="ran while"), stopping.process_of(twin.process.pid) as process:
+    with pytest.raises(Retry, match="ran while"), stopping.process_of(twin.process.pid) as process:
         with stopping.stopped(process):
             os.kill(twin.process.pid, signal.SIGCONT)
             time.sleep(0.05)
@@ -256,8 +266,7 @@ def test_locks_of_open_files(project: Path, copies: Path) -> None:
     with subprocess.Popen(command, env={"PYTHONPATH": str(TOOLS)}, stdout=subprocess.PIPE) as holder:
         try:
             assert holder.stdout is not None and holder.stdout.readline() == b"locked\n"
-            identity = holders.identity_of(project)
-            found = holders.holder_among(holders.all_open_files(identity))
+            found = holders.holder_among(holders.all_open_files(identity_of(project)))
             assert found is not None and found.pid == holder.pid
             assert copying.copy_tables(project, copies).still_seconds is not None
         finally:
@@ -333,7 +342,7 @@ def test_a_reader_is_named(project: Path, copies: Path, monkeypatch: pytest.Monk
     script = f"import sqlite3; c = sqlite3.connect({str(project)!r}); {reads}; input()"
     with subprocess.Popen([sys.executable, "-c", script], stdin=subprocess.PIPE) as reader:
         ends = time.monotonic() + END
-        while not any(one.lock for one in holders.all_open_files(holders.identity_of(project))):
+        while not any(one.lock for one in holders.all_open_files(identity_of(project))):
             assert time.monotonic() < ends
         with pytest.raises(Fault, match=rf"process {reader.pid} \(\w+\S*\) reads it: end that first"):
             copying.copy_tables(project, copies)
@@ -400,7 +409,7 @@ def test_keep_leaves_copies_of_a_project_with_other_settings_alone(
 ) -> None:
     (tmp_path / "else").mkdir()
     # the same imports, and another key
-    settings = {**SETTINGS, "operator_key": "another-key"}
+    settings: dict[str, Any] = {**SETTINGS, "operator_key": "another-key"}
     other = make_tables(tmp_path / "else" / "project.db", settings=settings)
     of_other = copying.copy_tables(other, copies).path
     first = copying.copy_tables(project, copies).path
@@ -414,21 +423,21 @@ def test_the_holder_is_looked_at_again_while_it_stands_still(
     copies: Path,
     monkeypatch: pytest.MonkeyPatch,
 ) -> None:
-    source = taking.Source(project, holders.identity_of(project))
+    source = taking.Source(project, identity_of(project))
     (holder,) = [
         one for one in holders.open_files_of(twin.process.pid, source.identity) if one.lock == "WRITE"
     ]
     taking.check_holder(source, holder, 3)
-    with pytest.raises(taking.Retry, match="was made meanwhile"):
+    with pytest.raises(Retry, match="was made meanwhile"):
         taking.check_holder(source, holder, None)
     with monkeypatch.context() as patched:
         patched.setattr(holders, "lock_of", lambda *_args: "READ")
-        with pytest.raises(taking.Retry, match="gave up the file"):
+        with pytest.raises(Retry, match="gave up the file"):
             taking.check_holder(source, holder, 3)
     os.rename(project, project.with_name("moved.db"))
     project.write_bytes(b"another")
-    with pytest.raises(taking.Retry, match="gave up the file"):
-        taking.check_holder(taking.Source(project, holders.identity_of(project)), holder, 3)
+    with pytest.raises(Retry, match="gave up the file"):
+        taking.check_holder(taking.Source(project, identity_of(project)), holder, 3)
 
 
 def test_a_link_in_the_place_of_a_copy_is_not_followed(tmp_path: Path) -> None:
@@ -477,7 +486,7 @@ def test_the_newest_good_copy_is_never_removed(project: Path, copies: Path) -> N
 def test_a_bad_copy_removes_nothing_and_gets_no_name(project: Path, copies: Path) -> None:
     first = copying.copy_tables(project, copies).path
     with pytest.raises(Fault, match="the copy was not good, and is not kept"):
-        copying.copy_tables(project, copies, keep=1, program="/bin/false")
+        copying.copy_tables(project, copies, keep=1, program=Path("/bin/false"))
     assert list(copies.iterdir()) == [first]
 
 
@@ -586,7 +595,9 @@ def test_the_command_line(project: Path, copies: Path) -> None:
     status, output, fault = tools("copy", "--tables", project, "--to", copies, "--keep", "1")
     assert (status, fault) == (0, "")
     assert output.endswith(" bytes, nobody had the tables\n")
-    for args in (["copy"], [], ["copy", "--tables", project, "--to", copies, "--keep", "0"], ["cop"]):
+    none_kept = ["copy", "--tables", project, "--to", copies, "--keep", "0"]
+    faulty: list[list[object]] = [["copy"], [], [*none_kept], ["cop"]]
+    for args in faulty:
         status, output, fault = tools(*args)
         assert (status, output) == (64, "") and "bsched-tools: " in fault
     assert tools("copy", "--tables", project, "--to", copies / "none" / "x")[0] == 1

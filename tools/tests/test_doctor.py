@@ -41,7 +41,7 @@ def findings_of(path: Path) -> list[str]:
 
 
 def short_life(path: Path) -> Path:
-    """Makes tables with three users and two workunits. Host 1 has done one workunit, and the other one waits."""
+    """Makes tables with three users and two workunits. Host 1 has done one of these, and the other waits."""
     plain_tables.create(path, {**SETTINGS, "daily_result_quota": 4})
     tables = plain_tables.Tables(path, synchronous="OFF")
     service = plain_tables.Service(tables)

@@ -138,9 +138,9 @@ def test_it_refuses_what_bsched_refuses(data: st.DataObject) -> None:
         assert faults == []
     except Refused as refusal:
         fields = json.loads(refusal.body)
-        row = found.rows[fields["row"] - 1]
+        line = found.rows[fields["row"] - 1].line
         column = header[fields["column"] - 1] if fields["column"] else "there are"
-        assert faults[0].startswith(f"line {row.line}: {column} ")
+        assert faults[0].startswith(f"line {line}: {column} ")
 
 
 def test_the_command(tmp_path: Path) -> None:

@@ -133,7 +133,8 @@ def test_each_plot_has_a_text_and_a_table(tmp_path: Path, folder: Path) -> None:
     _, _, read = lived_in_parts(tmp_path, folder)
     plots = [attrs for tag, attrs in read.tags if tag == "svg"]
     assert len(plots) == 7
-    assert all(plot["role"] == "img" and len(plot["aria-label"] or "") > 20 and "viewbox" in plot for plot in plots)
+    assert all(plot["role"] == "img" and "viewbox" in plot for plot in plots)
+    assert all(len(plot["aria-label"] or "") > 20 for plot in plots)
     names = [tag for tag, _ in read.tags]
     assert names.count("details") == len(plots) and names.count("figure") == len(plots)
     assert "script" not in names
@@ -149,8 +150,8 @@ def test_the_history(tmp_path: Path, folder: Path) -> None:
     path = folder / "history.jsonl"
     before = path.read_text()
     entries = [json.loads(line) for line in before.splitlines()]
-    assert len(entries) == 4
-    assert sorted(entries, key=lambda one: one["moment"]) == entries
+    moments: list[int] = [one["moment"] for one in entries]
+    assert len(entries) == 4 and sorted(moments) == moments
     assert sum(sum(one["turnaround"]) for one in entries) > 10
     reported(copy, folder)
     assert path.read_text() == before

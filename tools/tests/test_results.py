@@ -13,7 +13,7 @@ from small_project import TOOLS, WORKUNITS, made_anew, tools
 from small_project import rows_of as stored_rows
 
 from bsched_tools import results, tables, workunits
-from bsched_tools.cursors import cursor_at, former_mark
+from bsched_tools.cursors import Cursor, cursor_at, former_mark
 from bsched_tools.faults import Fault
 from bsched_tools.tables import opened
 
@@ -331,10 +331,10 @@ def test_a_stop_before_the_cursor_is_written(tmp_path: Path, monkeypatch: pytest
     path = stored_life(life_of(3), tmp_path / "project.db")
     cursor, target = tmp_path / "cursor", tmp_path / "new"
 
-    def stopped(_cursor: results.Cursor) -> None:
+    def stopped(_cursor: Cursor) -> None:
         raise KeyboardInterrupt
 
-    monkeypatch.setattr(results.Cursor, "write", stopped)
+    monkeypatch.setattr(Cursor, "write", stopped)
     with pytest.raises(KeyboardInterrupt):
         results.write_results([path], cursor=cursor, target=target)
     first = target.read_text()

@@ -12,7 +12,7 @@ import pytest
 from lives import Stored, life_of, stored_life
 from small_project import SETTINGS, made_anew, make_tables, tools
 
-from bsched_tools import averages, exports
+from bsched_tools import averages, exports, files
 from bsched_tools.faults import Fault
 from bsched_tools.members import agreed_in
 
@@ -162,12 +162,11 @@ def test_numbers_are_stored_before_they_are_published(
     monkeypatch: pytest.MonkeyPatch,
 ) -> None:
     path = stored_life(life_of(11), tmp_path / "project.db")
-    replace_file = exports.replace_file
 
     def full_at_the_end(path: Path, *args: Any) -> None:
         if path.name == "tables.xml":
             raise Fault("tables.xml: No space left on device")
-        replace_file(path, *args)
+        files.replace_file(path, *args)
 
     monkeypatch.setattr(exports, "replace_file", full_at_the_end)
     with pytest.raises(Fault, match="tables.xml"):

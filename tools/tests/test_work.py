@@ -22,7 +22,7 @@ from bsched_tools.bars import Bar
 from bsched_tools.catalogue_file import CatalogueFile
 from bsched_tools.faults import Fault
 from bsched_tools.import_files import KINDS, ImportFile, Row
-from bsched_tools.imports import import_file
+from bsched_tools.imports import Sender, import_file
 
 NAME = f"count_1_{PLATFORM}.py"
 
@@ -134,7 +134,7 @@ def test_further_files(bare: WorkProject, tmp_path: Path) -> None:
 
 
 def test_a_signature_from_another_machine(bare: WorkProject) -> None:
-    """The private key is elsewhere. A signature of another file is refused, and the right one completes it."""
+    """The private key is elsewhere. The signature of another file is refused, and the right one is taken."""
     words = "app", "count", "--program", bare.program
     for _ in range(2):
         status, output, fault = bare.tools(*words)
@@ -186,13 +186,13 @@ def test_other_faults_of_an_application(work: WorkProject, tmp_path: Path) -> No
     write_new_keys(other, tmp_path / "public")
     before = work.state()
     work.program.write_text("#!/usr/bin/python3\nprint(3)\n")
-    for words, fault in (
-        (["--key", other], "is not the signature of"),
-        (["--key", work.program], "count.py"),
-        (["--agreement", "within:3"], "it exists with the agreement exact, which can't be changed"),
-        (["--output", "out:2M"], "count is there with another output_files: edit it there"),
+    for option, value, fault in (
+        ("--key", other, "is not the signature of"),
+        ("--key", work.program, "count.py"),
+        ("--agreement", "within:3", "it exists with the agreement exact, which can't be changed"),
+        ("--output", "out:2M", "count is there with another output_files: edit it there"),
     ):
-        status, output, line = work.app(*words)
+        status, output, line = work.app(option, value)
         assert (status, output) == (1, "") and fault in line and line.count("\n") == 1
         assert work.state() == before
     (work.bridge / "code_sign_public").unlink()
@@ -519,7 +519,7 @@ def test_a_stop_at_each_step(
         monkeypatch.setattr(submitting, name, steps_before(getattr(submitting, name)))
     for name in ("rename", "link", "sync", "replace"):
         monkeypatch.setattr(os, name, steps_before(getattr(os, name)))
-    monkeypatch.setattr(submitting.Sender, "answer", steps_before(submitting.Sender.answer))
+    monkeypatch.setattr(Sender, "answer", steps_before(Sender.answer))
     stopped = 0
     for number in range(100):
         words = [
