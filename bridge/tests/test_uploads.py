@@ -245,7 +245,7 @@ def test_without_output_files_nothing_is_uploaded(bridge: Bridge) -> None:
 
 def test_thirty_uploads_under_one_name_leave_one_file(file_bridge: Bridge) -> None:
     tokens, answers = given(file_bridge), []
-    file_bridge.application._handlers[uploads.PATH].__self__.places = uploads.Places(30)
+    file_bridge.application.uploads.places = uploads.Places(30)
 
     def send(number: int) -> None:
         data = b"content %d" % (number % 3)
@@ -265,7 +265,7 @@ def test_thirty_uploads_under_one_name_leave_one_file(file_bridge: Bridge) -> No
 def test_an_upload_waits_for_a_place(file_bridge: Bridge, monkeypatch: pytest.MonkeyPatch) -> None:
     monkeypatch.setattr(uploads, "PLACE_SECONDS", 0.01)
     tokens = given(file_bridge)
-    places = file_bridge.application._handlers[uploads.PATH].__self__.places
+    places = file_bridge.application.uploads.places
     message = upload("u1_0_0", DATA, tokens["u1_0_0"])
     with places.taken(), places.taken(), places.taken(), places.taken():
         assert sent(file_bridge, message) == AGAIN
