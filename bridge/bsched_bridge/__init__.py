@@ -42,9 +42,17 @@ report_checks    whether a reported result has its files
 digest_programs  what is compared if equal files are too much to ask for
 upload_sweep     what the daily sweep deletes (sweep_command)
 
-Requests and accounts keep their rows in the state_file, in SQLite. The modules of the pages for people
-are pages, account_pages, statements, templates (Jinja2's, in the folder templates/, with one style sheet) and
-texts; downloads sends files. The other modules are settings, host_rules (settings that are read again),
-limits, operator_files (TOML with the lines of its faults), http_messages (by Werkzeug), code_signing,
-recent_credit, operator_orders (the operator's commands on accounts), key_locks and words.
+Pages for people go through these:
+
+pages            the project's page and the status page
+account_pages    an account, for its owner
+statements       the status of hosts and users, by bsched's statements
+templates        Jinja2's templates, in the folder templates/, with one style sheet
+pictures         the project's picture, and plots of the last month
+texts            numbers and moments as people read them
+
+Requests and accounts keep their rows in the state_file, in SQLite. downloads sends files. The other modules
+are settings, host_rules (settings that are read again), limits, operator_files (TOML with the lines of its
+faults), http_messages (by Werkzeug), code_signing, recent_credit, operator_orders (the operator's commands on
+accounts), key_locks and words.
 """

@@ -27,6 +27,7 @@ from .limits import Places
 from .members import Members
 from .pages import Pages
 from .passwords import Passwords
+from .pictures import Pictures
 from .recent_credit import RecentCredit
 from .report_checks import ReportChecks
 from .routes import FORMS, Route, Routes
@@ -99,7 +100,8 @@ class Application:
         )
         self.statements = Statements(hosts, self.members, scheduler, key, settings.counts, archives, recent)
         self.templates = Templates(settings)
-        self.pages = Pages(settings, self.templates, self.statements)
+        self.pictures = Pictures(settings)
+        self.pages = Pages(settings, self.templates, self.statements, self.pictures)
         self.routes = Routes(settings.path, [*self._routes(), *self._account_routes()])
 
     @property
@@ -119,6 +121,7 @@ class Application:
             Route("status", self.pages.status),
             Route("download/<path:name>", self.downloads.send),
             Route(self.templates.style_name, self.templates.style),
+            Route("picture/<name>", self.pictures.answer),
         ]
         if self.uploads is not None:
             routes.append(Route(UPLOAD_PATH, self.uploads.answer, ("POST",)))

@@ -1,11 +1,13 @@
 """The project's pages for people: the master page and the status page."""
 import re
+from dataclasses import dataclass
 
 from werkzeug.wrappers import Request, Response
 
 from .http_messages import query_of
+from .pictures import Pictures
 from .settings import Settings
-from .statements import Statements
+from .statements import Statements, UnitCounts, read_unit_counts
 from .templates import Templates
 from .texts import RESULT_WORDS
 
@@ -17,6 +19,58 @@ FAILED = {
     "failed by the total": "failed: too many results in all",
 }
 PAGE_NUMBER = re.compile("[1-9][0-9]{0,5}")
+BAR = 1000  # the width of the bar in its own units
+
+
+@dataclass(frozen=True, slots=True)
+class Part:
+    """A part of the bar that shows how far the work is."""
+
+    name: str  # also that of its colour
+    count: int
+    first: float
+    width: float
+
+
+@dataclass(frozen=True, slots=True)
+class Progress:
+    """How far the work is."""
+
+    parts: list[Part]
+    total: int
+    counted_at: float
+
+    @property
+    def percent(self) -> str:
+        """How many of a hundred workunits are done. It is 100 only if all are."""
+        done = self.parts[0].count
+        return f"{min(1000 * done // self.total, 1000) / 10:.1f}"
+
+    @property
+    def text(self) -> str:
+        """The same for those who do not see the bar."""
+        counts = ", ".join(f"{part.count:,} {part.name}" for part in self.parts)
+        return f"{self.percent} % of {self.total:,} workunits are done: {counts}."
+
+
+def progress_of(units: UnitCounts | None) -> Progress | None:
+    """Returns how far the work is, or None if it is not known or there is no work."""
+    if units is None or not (total := sum(units.by_status.values())):
+        return None
+    counts = {"done": units.by_status.get("done", 0)}
+    opened = units.by_status.get("open", 0)
+    if units.out is None:
+        counts["waiting"] = opened
+    else:
+        counts |= {"out": units.out, "waiting": opened - units.out}
+    if failed := total - counts["done"] - opened:
+        counts["failed"] = failed
+    parts, first = [], 0.0
+    for name, count in counts.items():
+        width = BAR * count / total
+        parts.append(Part(name, count, round(first, 2), round(width, 2)))
+        first += width
+    return Progress(parts, total, units.counted_at)
 
 
 def page_number(message: Request, pages: int) -> int:
@@ -28,8 +82,11 @@ def page_number(message: Request, pages: int) -> int:
 class Pages:
     """Answers people who ask about the project."""
 
-    def __init__(self, settings: Settings, templates: Templates, statements: Statements) -> None:
+    def __init__(
+        self, settings: Settings, templates: Templates, statements: Statements, pictures: Pictures
+    ) -> None:
         self.settings, self.templates, self.statements = settings, templates, statements
+        self.pictures = pictures
 
     def project(self, _message: Request) -> Response:
         """Returns the page at the master URL. The client reads the scheduler's URL there, in one of two
@@ -41,6 +98,10 @@ class Pages:
             url=self.settings.url,
             welcome=self.settings.welcome,
             contact=self.settings.contact,
+            picture=self.pictures.own,
+            plots=self.pictures.plots(),
+            progress=progress_of(read_unit_counts(self.settings.counts)),
+            silent_since=self.statements.scheduler.silent_since,
         )
 
     def status(self, message: Request) -> Response:

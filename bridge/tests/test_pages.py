@@ -14,6 +14,7 @@ from joining import CLIENT, create, look_up
 from messages import request
 from twin import Twin
 
+from bsched_bridge.operator_files import OperatorFault
 from bsched_bridge.templates import FOLDER, linked, paragraphs
 
 EMPTY = {"meta", "link", "input", "br", "img"}
@@ -160,6 +161,133 @@ def test_what_an_operator_writes() -> None:
         "https://sums.example/a?b=1&amp;c=2</a>.</p><p>javascript:alert(1)</p>"
     )
     assert linked("no https:// here") == "no https:// here"
+
+
+# ---- The project's page
+
+
+def test_how_far_the_work_is(project: Path, bridge: Bridge) -> None:
+    (project / "bridge.toml").write_text('counts = "counts.json"\n' + (project / "bridge.toml").read_text())
+    bridge.restart()
+    counts = {"open": 1200, "done": 2999, "failed by errors": 1}
+
+    def page(**more: Any) -> Page:
+        text = json.dumps({"workunits": counts, "moment": 86400, **more})
+        (project / "counts.json").write_text(text)
+        return page_of(bridge.got("/p/"))
+
+    known = page(open_workunits={"out": 200, "waiting": 1000})
+    assert "71.4 % of 4,200 workunits are done." in known.text
+    assert "Counted at 1970-01-02 00:00:00 UTC." in known.text
+    words = "71.4 % of 4,200 workunits are done: 2,999 done, 200 out, 1,000 waiting, 1 failed."
+    assert [
+        fields["aria-label"] for tag, fields in known.tags if "aria-label" in fields and tag == "svg"
+    ] == [words]
+    bars = [fields for tag, fields in known.tags if tag == "rect" and "x" in fields]
+    assert [one["class"] for one in bars] == ["is-done", "is-out", "is-waiting", "is-failed"]
+    assert abs(sum(float(one["width"]) for one in bars) - 1000) < 0.1
+    for odd in (
+        {},
+        {"open_workunits": 1},
+        {"open_workunits": {"out": 1201}},
+        {"open_workunits": {"out": -1}},
+    ):
+        text = page(**odd).text
+        assert "1,200 waiting" in text or "open_workunits" in odd and odd["open_workunits"] == 1
+        assert "out" not in text.partition("workunits are done")[2].partition("Counted")[0]
+    counts.update({"open": 0, "done": 4199})
+    assert "99.9 % of 4,200 workunits are done." in page().text
+    counts.clear()
+    assert "workunits are done" not in page().text
+
+
+def with_key(project: Path, bridge: Bridge, text: str) -> None:
+    """Adds a line to the settings, and starts the bridge again."""
+    (project / "bridge.toml").write_text(f"{text}\n" + (project / "bridge.toml").read_text())
+    bridge.restart()
+
+
+def test_the_picture_of_the_project(project: Path, bridge: Bridge) -> None:
+    (project / "sky.PNG").write_bytes(b"a picture")
+    with_key(project, bridge, 'picture = "sky.PNG"\npicture_text = "The <sky>"')
+    page = page_of(bridge.got("/p/"))
+    (image,) = [fields for tag, fields in page.tags if tag == "img"]
+    assert image["alt"] == "The <sky>"
+    status, fields, body = bridge.got(image["src"])
+    assert (status, fields["Content-Type"], body) == ("200 OK", "image/png", b"a picture")
+    assert fields["Cache-Control"] == "public, max-age=31536000, immutable"
+    assert "sandbox" in fields["Content-Security-Policy"]
+    assert bridge.got("/p/picture/sky.PNG")[0] == bridge.got("/p/picture/")[0] == "404 Not Found"
+
+
+@pytest.mark.parametrize(
+    "lines, why",
+    [
+        ('picture = "none.png"', "does not exist"),
+        ('picture = "key"', "does not end with .png"),
+        ('picture = "large.png"', "more than 2,097,152 bytes"),
+        ('picture = "folder.png"', "is no file"),
+        ('picture_text = "a\\nb"', "is not one line"),
+    ],
+)
+def test_a_picture_that_can_not_be(project: Path, bridge: Bridge, lines: str, why: str) -> None:
+    (project / "large.png").write_bytes(bytes(2 * 1024 * 1024 + 1))
+    (project / "folder.png").mkdir()
+    with pytest.raises(OperatorFault, match=why):
+        with_key(project, bridge, lines)
+
+
+def plots_of(project: Path, *names: str) -> None:
+    """Writes plots as `bsched-tools report` does."""
+    (project / "plots").mkdir(exist_ok=True)
+    for name in names:
+        (project / "plots" / f"{name}.svg").write_text(f"<svg>{name}</svg>")
+    listed = [
+        {"file": f"{name}.svg", "title": f"Title of {name}", "text": f"{name} & text"} for name in names
+    ]
+    path = project / "plots" / "new"
+    path.write_text(json.dumps({"format": 1, "plots": listed}))
+    path.rename(project / "plots" / "plots.json")
+
+
+def images(bridge: Bridge) -> list[dict[str, str]]:
+    """Returns the pictures on the project's page."""
+    return [fields for tag, fields in page_of(bridge.got("/p/")).tags if tag == "img"]
+
+
+def test_the_plots_of_the_last_month(project: Path, bridge: Bridge) -> None:
+    with_key(project, bridge, 'plots = "plots"')
+    assert images(bridge) == []  # the folder is not there yet
+    plots_of(project, "results", "credit")
+    first = images(bridge)
+    assert [image["alt"] for image in first] == ["results & text", "credit & text"]
+    status, fields, body = bridge.got(first[0]["src"])
+    assert (status, fields["Content-Type"], body) == ("200 OK", "image/svg+xml", b"<svg>results</svg>")
+    plots_of(project, "results")
+    assert len(images(bridge)) == 1 and images(bridge)[0]["src"] == first[0]["src"]
+    assert bridge.got(first[1]["src"])[0] == "404 Not Found"
+
+
+@pytest.mark.parametrize(
+    "text",
+    [
+        "{",
+        "[]",
+        '{"format": 2, "plots": []}',
+        '{"format": 1, "plots": 1}',
+        '{"format": 1, "plots": [1]}',
+        '{"format": 1, "plots": [{"file": "../key", "title": "", "text": ""}]}',
+        '{"format": 1, "plots": [{"file": "none.svg", "title": "", "text": ""}]}',
+        '{"format": 1, "plots": [{"file": "large.svg", "title": "", "text": ""}]}',
+    ],
+)
+def test_plots_that_cant_be_read_leave_those_before(project: Path, bridge: Bridge, text: str) -> None:
+    with_key(project, bridge, 'plots = "plots"')
+    plots_of(project, "results")
+    assert len(images(bridge)) == 1
+    (project / "plots" / "large.svg").write_bytes(bytes(524_289))
+    (project / "plots" / "plots.json").write_text(text)
+    assert len(images(bridge)) == 1
 
 
 # ---- How to join
