@@ -5,7 +5,8 @@ element. `bridge/README.md` says how to run the bridge and how to write an appli
 
 A request goes through these modules, in this order:
 
-application      the WSGI application: it makes the parts, and chooses the handler for each URL
+application      the WSGI application: it makes the parts, and says what answers at each URL
+routes           the URLs, which Werkzeug compares
 scheduler_messages  a scheduler_request from its bytes to those of its reply
 request_parts    the parts of a request as it arrives: XML, and what programs wrote
 client_requests  what a client's XML says
@@ -41,9 +42,17 @@ report_checks    whether a reported result has its files
 digest_programs  what is compared if equal files are too much to ask for
 upload_sweep     what the daily sweep deletes (sweep_command)
 
-Requests and accounts keep their rows in the state_file, in SQLite. The modules of the pages for people
-are pages, account_pages, statements, markup (HTML, with escaping) and texts; downloads sends files. The
-other modules are settings, host_rules (settings that are read again), limits, operator_files (TOML with the
-lines of its faults), http_messages, code_signing, recent_credit, operator_orders (the operator's commands on
+Pages for people go through these:
+
+pages            the project's page and the status page
+account_pages    an account, for its owner
+statements       the status of hosts and users, by bsched's statements
+templates        Jinja2's templates, in the folder templates/, with one style sheet
+pictures         the project's picture, and plots of the last month
+texts            numbers and moments as people read them
+
+Requests and accounts keep their rows in the state_file, in SQLite. downloads sends files. The other modules
+are settings, host_rules (settings that are read again), limits, operator_files (TOML with the lines of its
+faults), http_messages (by Werkzeug), code_signing, recent_credit, operator_orders (the operator's commands on
 accounts), key_locks and words.
 """

@@ -8,20 +8,13 @@ import logging
 from collections.abc import Callable
 from xml.etree.ElementTree import Element, SubElement
 
+from werkzeug.exceptions import HTTPException
+from werkzeug.wrappers import Request, Response
+
 from .accounts import AccountFault, AccountPlaces, Accounts, Fault
 from .catalogue import Catalogue
 from .client_replies import add, written
-from .http_messages import (
-    NO_STORE,
-    XML,
-    Answer,
-    Environ,
-    HttpFault,
-    require_method,
-    refuse_browsers,
-    log_fault,
-    query_of,
-)
+from .http_messages import NO_STORE, XML, answer, log_fault, query_of, refuse_browsers
 from .limits import is_loopback, network_of
 from .plan_classes import split
 from .scheduler import NoAnswer, Scheduler
@@ -34,14 +27,14 @@ LEAST_PASSWORD = 6
 log = logging.getLogger(__name__)
 
 
-def client_of(environ: Environ, address_field: str | None) -> str:
+def client_of(message: Request, address_field: str | None) -> str:
     """Returns the client for whom the limits count a message.
 
     The address is the peer's. Only a proxy on this machine may name another one.
     """
-    peer: str = environ.get("REMOTE_ADDR") or ""
+    peer = message.remote_addr or ""
     if address_field is not None and is_loopback(peer):
-        address: str = environ.get("HTTP_" + address_field.upper().replace("-", "_"), "")
+        address = message.headers.get(address_field, "")
         return network_of(address.strip()) or network_of(peer)
     return network_of(peer)
 
@@ -97,50 +90,48 @@ class AccountMessages:
         self.accounts, self.scheduler, self.places = accounts, scheduler, places
         self._address_field = settings.accounts.address_field if settings.accounts else None
 
-    def create(self, environ: Environ) -> Answer:
-        """Answers create_account.php. It writes, so HEAD and browsers are refused."""
-        require_method(environ, "GET")
-        refuse_browsers(environ)
-        return self._answer(self._create, environ)
+    def create(self, message: Request) -> Response:
+        """Answers create_account.php. It writes, so browsers are refused."""
+        refuse_browsers(message)
+        return self._answer(self._create, message)
 
-    def look_up(self, environ: Environ) -> Answer:
-        """Answers lookup_account.php. Wrong passwords are counted, so HEAD and browsers are refused."""
-        require_method(environ, "GET")
-        refuse_browsers(environ)
-        return self._answer(self._find, environ)
+    def look_up(self, message: Request) -> Response:
+        """Answers lookup_account.php. Wrong passwords are counted, so browsers are refused."""
+        refuse_browsers(message)
+        return self._answer(self._find, message)
 
-    def client(self, environ: Environ) -> str:
+    def client(self, message: Request) -> str:
         """Returns the client for whom the limits count a message."""
-        return client_of(environ, self._address_field)
+        return client_of(message, self._address_field)
 
-    def _answer(self, find: Callable[[Environ, dict[str, str]], str], environ: Environ) -> Answer:
+    def _answer(self, find: Callable[[Request, dict[str, str]], str], message: Request) -> Response:
         """Returns the answer with the key that is found. If the bridge itself fails, for example on a full
         disk, the client is asked to try again.
         """
         try:
-            client = None if self.accounts is None else self.client(environ)
+            client = None if self.accounts is None else self.client(message)
             with self.places.taken(client):
-                return Answer(XML, account_out(find(environ, query_of(environ))), NO_STORE)
+                return answer(XML, account_out(find(message, query_of(message))), NO_STORE)
         except AccountFault as failure:
             fault = failure.fault
-        except HttpFault:
+        except HTTPException:
             raise
         except Exception as error:
             log_fault(error)
             fault = Fault.NO_ANSWER
-        return Answer(XML, account_error(fault), NO_STORE)
+        return answer(XML, account_error(fault), NO_STORE)
 
-    def _create(self, environ: Environ, fields: dict[str, str]) -> str:
+    def _create(self, message: Request, fields: dict[str, str]) -> str:
         """Makes an account and returns its key."""
         if self.accounts is None:
             raise AccountFault(Fault.NO_CREATION)
         email, secret = in_small_letters(fields.get("email_addr", "")), fields.get("passwd_hash", "").lower()
         has_consent = fields.get("consent_flag") == "1"
         return self.accounts.create(
-            email, secret, fields.get("user_name", ""), has_consent, self.client(environ)
+            email, secret, fields.get("user_name", ""), has_consent, self.client(message)
         ).authenticator
 
-    def _find(self, environ: Environ, fields: dict[str, str]) -> str:
+    def _find(self, message: Request, fields: dict[str, str]) -> str:
         """Returns the key of an account. The client gives an address and a password, or the key itself, which
         a volunteer types as the user name.
         """
@@ -148,10 +139,10 @@ class AccountMessages:
         if self.accounts is None:
             return self._known_key(name)
         if is_word(name):
-            with self.accounts.wrong_keys_counted(self.client(environ)):
+            with self.accounts.wrong_keys_counted(self.client(message)):
                 return self._known_key(name)
         return self.accounts.look_up(
-            in_small_letters(name), fields.get("passwd_hash", "").lower(), self.client(environ)
+            in_small_letters(name), fields.get("passwd_hash", "").lower(), self.client(message)
         ).authenticator
 
     def _known_key(self, authenticator: str) -> str:

@@ -1,9 +1,12 @@
-"""The WSGI application: it makes what answers messages, and chooses the handler for each URL."""
+"""The WSGI application: it makes what answers messages, and what answers at each URL."""
 import logging
 from collections.abc import Callable, Iterable
 from pathlib import Path
+from wsgiref.types import StartResponse, WSGIEnvironment
 
-from . import pages, uploads
+from werkzeug.exceptions import HTTPException
+from werkzeug.wrappers import Request, Response
+
 from .account_messages import AccountMessages, project_config
 from .account_pages import AccountPages
 from .accounts import AccountPlaces, Accounts
@@ -13,30 +16,35 @@ from .call_numbers import CallNumbers
 from .catalogue import Catalogue
 from .client_replies import ReplyWriter
 from .current_catalogue import CatalogueReader
-from .downloads import Downloads, StartResponse
+from .downloads import Downloads
 from .exchange import Exchange, Resending
 from .handed_out import HandedOut
 from .host_rules import HostRuleReader
 from .host_search import HostSearch
 from .hosts import Hosts
-from .http_messages import PHRASES, TEXT, XML, Answer, Environ, HttpFault, log_fault, require_method
+from .http_messages import TEXT, XML, Message, answer, log_fault, plain_answer
 from .limits import Places
 from .members import Members
+from .pages import Pages
 from .passwords import Passwords
+from .pictures import Pictures
 from .recent_credit import RecentCredit
 from .report_checks import ReportChecks
+from .routes import FORMS, Route, Routes
 from .scheduler import Scheduler
 from .scheduler_messages import SchedulerMessages
 from .settings import HostRules, Settings, read_settings
 from .state_file import StateFile
 from .statements import Statements
+from .templates import Templates
 from .upload_store import UploadStore, open_store
 from .upload_tokens import UploadTokens
+from .uploads import PATH as UPLOAD_PATH
+from .uploads import Uploads
 
 KEPT_THREADS = 2  # for pages and files, which need nothing of bsched
 
 log = logging.getLogger(__name__)
-Handler = Callable[[Environ], Answer]
 
 
 class Application:
@@ -60,6 +68,7 @@ class Application:
         self.places = Places(max(1, settings.threads - KEPT_THREADS))
         self.account_places = AccountPlaces(Places(half, self.places))
         self.upload_places = Places(half, self.places)
+        self.uploads = None if store is None else Uploads(store, self.upload_places)
         self.downloads = Downloads(current, Places(half, self.places), settings.retry_delay)
         self.accounts: Accounts | None = None
         if settings.accounts is not None and key is not None:
@@ -90,84 +99,68 @@ class Application:
             self.exchange, current, self.writer, self.members, recent, self.places
         )
         self.statements = Statements(hosts, self.members, scheduler, key, settings.counts, archives, recent)
-        self._handlers = self._new_handlers()
+        self.templates = Templates(settings)
+        self.pictures = Pictures(settings)
+        self.pages = Pages(settings, self.templates, self.statements, self.pictures)
+        self.routes = Routes(settings.path, [*self._routes(), *self._account_routes()])
 
     @property
     def catalogue(self) -> Catalogue:
         """The catalogue as it is now."""
         return self.current()
 
-    def _new_handlers(self) -> dict[str, Handler]:
-        """Returns the handler for each path below the master URL."""
+    def _routes(self) -> list[Route]:
+        """Returns what answers at the URLs that each project has."""
         messages = AccountMessages(self.settings, self.accounts, self.scheduler, self.account_places)
-        handlers: dict[str, Handler] = {
-            "": self._master_page,
-            "cgi": self.requests.answer,
-            "get_project_config.php": self._project_config,
-            "lookup_account.php": messages.look_up,
-            "create_account.php": messages.create,
-            "status": self._status,
-            "get_passwd.php": self._no_passwords,
-        }
-        if self.store is not None:
-            handlers[uploads.PATH] = uploads.Uploads(self.store, self.upload_places).answer
-        if self.accounts is not None:
-            people = AccountPages(self.settings, self.accounts, self.statements, self.account_places)
-            handlers |= {
-                "account": people.account,
-                "account_finish.php": people.finish,
-                "get_passwd.php": people.password,
-                "delete_account.php": people.delete,
-                "terms": people.terms,
-            }
-        return handlers
+        routes = [
+            Route("", self.pages.project),
+            Route("cgi", self.requests.answer, ("POST",)),
+            Route("get_project_config.php", self._project_config),
+            Route("lookup_account.php", messages.look_up, ("GET",)),
+            Route("create_account.php", messages.create, ("GET",)),
+            Route("status", self.pages.status),
+            Route("download/<path:name>", self.downloads.send),
+            Route(self.templates.style_name, self.templates.style),
+            Route("picture/<name>", self.pictures.answer),
+        ]
+        if self.uploads is not None:
+            routes.append(Route(UPLOAD_PATH, self.uploads.answer, ("POST",)))
+        return routes
 
-    def __call__(self, environ: Environ, start_response: StartResponse) -> Iterable[bytes]:
+    def _account_routes(self) -> list[Route]:
+        """Returns what answers at the URLs of accounts."""
+        if self.accounts is None:
+            return [Route("get_passwd.php", self.pages.no_passwords)]
+        people = AccountPages(
+            self.settings, self.templates, self.accounts, self.statements, self.account_places
+        )
+        return [
+            Route("account", people.account, FORMS),
+            Route("account_finish.php", people.finish, FORMS),
+            Route("get_passwd.php", people.password, FORMS),
+            Route("delete_account.php", people.delete, FORMS),
+            Route("terms", people.terms),
+        ]
+
+    def __call__(self, environ: WSGIEnvironment, start_response: StartResponse) -> Iterable[bytes]:
         """Answers a message (PEP 3333)."""
+        return self._answer(environ)(environ, start_response)
+
+    def _answer(self, environ: WSGIEnvironment) -> Response:
+        """Returns the answer to a message."""
         try:
-            path: str = environ.get("SCRIPT_NAME", "") + environ.get("PATH_INFO", "")
-            if not path.startswith(self.settings.path):
-                raise HttpFault(404)
-            name = path.removeprefix(self.settings.path)
-            if name.startswith("download/"):
-                return self.downloads.send(environ, start_response, name.removeprefix("download/"))
-            answer = self._handlers.get(name, self._not_found)(environ)
-        except HttpFault as fault:
-            answer = Answer(TEXT, f"{fault}\n".encode(), fault.fields, fault.status)
+            message = Message(environ, populate_request=False)
+            handler, values = self.routes.matched(message)
+            return self.pages.not_found() if handler is None else handler(message, **values)
+        except HTTPException as fault:
+            return plain_answer(fault)
         except Exception as error:
             log_fault(error)
-            answer = Answer(TEXT, b"Internal Server Error\n", {}, 500)
-        head = {"Content-Type": answer.kind, "Content-Length": str(len(answer.body)), **answer.fields}
-        start_response(f"{answer.status} {PHRASES[answer.status]}", list(head.items()))
-        return [] if environ["REQUEST_METHOD"] == "HEAD" else [answer.body]
+            return answer(TEXT, b"Internal Server Error\n", status=500)
 
-    # ---- Pages that need nothing but the settings
-
-    def _not_found(self, _environ: Environ) -> Answer:
-        """Returns the page for a URL of the project that does not exist."""
-        return pages.not_found_page(self.settings)
-
-    def _master_page(self, environ: Environ) -> Answer:
-        """Returns the page at the master URL."""
-        require_method(environ, "GET", "HEAD")
-        return pages.master_page(self.settings)
-
-    def _project_config(self, environ: Environ) -> Answer:
+    def _project_config(self, _message: Request) -> Response:
         """Returns what a client asks for before it attaches."""
-        require_method(environ, "GET", "HEAD")
-        return Answer(XML, project_config(self.settings, self.catalogue))
-
-    def _status(self, environ: Environ) -> Answer:
-        """Returns the page with the project's status."""
-        require_method(environ, "GET", "HEAD")
-        return pages.status_page(self.settings, self.statements.status(), environ)
-
-    def _no_passwords(self, environ: Environ) -> Answer:
-        """Returns the page that the Manager's "Forgot your password?" opens, if only the operator makes
-        accounts.
-        """
-        require_method(environ, "GET", "HEAD")
-        return pages.no_passwords_page(self.settings)
+        return answer(XML, project_config(self.settings, self.catalogue))
 
 
 def new_application(path: Path) -> Application:

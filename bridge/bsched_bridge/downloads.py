@@ -1,26 +1,27 @@
-"""Sends the files of the catalogue, or the rest of a file from a byte on.
+"""Sends the files of the catalogue, or a part of a file. Werkzeug compares what the client has, and finds the
+part.
 
 By the lines of `bsched-project nginx` nginx keeps a copy of each file and sends that. From time to time it
 asks whether the file has changed since a time.
 """
 import os
-import re
-from collections.abc import Callable, Iterable
+from collections.abc import Callable
 from contextlib import ExitStack
-from email.utils import formatdate
 from typing import Any, BinaryIO, cast
-from wsgiref.util import FileWrapper
+from wsgiref.types import WSGIEnvironment
+
+from werkzeug.exceptions import NotFound, ServiceUnavailable
+from werkzeug.http import http_date
+from werkzeug.wrappers import Request, Response
+from werkzeug.wsgi import FileWrapper, wrap_file
 
 from .catalogue import Catalogue, MissingFile
-from .http_messages import BLOCK, BYTES, PHRASES, Environ, HttpFault, require_method
+from .http_messages import BLOCK, BYTES, status_line
 from .limits import NoPlace, Places
 
-# from a byte to the end of the file: a client asks so when it resumes a download
-REST_OF_FILE = re.compile(r"bytes=([0-9]{1,18})-")
 # gunicorn keeps a thread for each file that it sends, until the client has read it; waitress does not
 ONE_THREAD_FOR_A_FILE = "gunicorn"
-
-StartResponse = Callable[[str, list[tuple[str, str]]], Any]
+MOST_RANGE = 100  # characters of a field that asks for a part
 
 
 class SentFile:
@@ -39,55 +40,68 @@ class SentFile:
         self._on_close()
 
 
+def conditions_of(message: Request, changed: str) -> WSGIEnvironment:
+    """Returns a message with the conditions that the bridge takes. A file that is older than the client's is
+    another one, too, so only an equal time counts. Of several parts, or of other ones than bytes, the whole
+    file is sent.
+    """
+    environ = dict(message.environ)
+    asked = message.range if len(environ.get("HTTP_RANGE", "")) <= MOST_RANGE else None
+    if asked is None or asked.units != "bytes" or len(asked.ranges) != 1:
+        environ.pop("HTTP_RANGE", None)
+    if environ.get("HTTP_IF_MODIFIED_SINCE") != changed:
+        environ.pop("HTTP_IF_MODIFIED_SINCE", None)
+    return environ
+
+
 class Downloads:
     """Sends files."""
 
     def __init__(self, catalogue: Callable[[], Catalogue], places: Places, retry_delay: int) -> None:
         self.catalogue, self.places, self.retry_delay = catalogue, places, retry_delay
 
-    def send(self, environ: Environ, start_response: StartResponse, name: str) -> Iterable[bytes]:
+    def send(self, message: Request, name: str) -> Response:
         """Sends a file. Clients ask later again if too many read slowly."""
-        require_method(environ, "GET", "HEAD")
-        if not environ.get("SERVER_SOFTWARE", "").startswith(ONE_THREAD_FOR_A_FILE):
-            return self._send(environ, start_response, name, lambda: None)
+        if not message.environ.get("SERVER_SOFTWARE", "").startswith(ONE_THREAD_FOR_A_FILE):
+            return self._send(message, name, lambda: None)
         place = ExitStack()
         try:
             place.enter_context(self.places.taken())
-            return self._send(environ, start_response, name, place.close)
+            return self._send(message, name, place.close)
         except NoPlace:
-            raise HttpFault(503, **{"Retry-After": str(self.retry_delay)}) from None
+            raise ServiceUnavailable(retry_after=self.retry_delay) from None
         except BaseException:
             place.close()
             raise
 
-    def _send(
-        self, environ: Environ, start_response: StartResponse, name: str, on_close: Callable[[], None]
-    ) -> Iterable[bytes]:
+    def _send(self, message: Request, name: str, on_close: Callable[[], None]) -> Response:
         """Sends a file, and calls a function when the server has closed it, or if no file is sent."""
         try:
             file = self.catalogue().folder.path_of(name).open("rb")
         except (MissingFile, OSError):
-            raise HttpFault(404) from None
-        status = os.stat(file.fileno())
-        size, changed = status.st_size, formatdate(status.st_mtime, usegmt=True)
-        if environ.get("HTTP_IF_MODIFIED_SINCE") == changed:
-            SentFile(file, on_close).close()
-            start_response(f"304 {PHRASES[304]}", [("Last-Modified", changed)])
-            return []
-        asked = REST_OF_FILE.fullmatch(environ.get("HTTP_RANGE", ""))
-        start = int(asked[1]) if asked else 0
-        if asked and start >= size:
+            raise NotFound from None
+        try:
+            return file_answer(message, cast(BinaryIO, SentFile(file, on_close)))
+        except BaseException:
             file.close()
-            raise HttpFault(416, **{"Content-Range": f"bytes */{size}"})
-        file.seek(start)
-        fields = [("Content-Type", BYTES), ("Content-Length", str(size - start)), ("Accept-Ranges", "bytes")]
-        fields.append(("Last-Modified", changed))
-        if asked:
-            fields.append(("Content-Range", f"bytes {start}-{size - 1}/{size}"))
-        code = 206 if asked else 200
-        start_response(f"{code} {PHRASES[code]}", fields)
-        sent = SentFile(file, on_close)
-        if environ["REQUEST_METHOD"] == "HEAD":
-            sent.close()
-            return []
-        return cast(Iterable[bytes], environ.get("wsgi.file_wrapper", FileWrapper)(sent, BLOCK))
+            raise
+
+
+def file_answer(message: Request, file: BinaryIO) -> Response:
+    """Returns the answer with a file or with a part of it, or that it has not changed. Raises
+    RequestedRangeNotSatisfiable if the file has no such part.
+    """
+    status = os.stat(file.fileno())
+    changed = http_date(status.st_mtime)
+    environ = conditions_of(message, changed)
+    fields = {"Last-Modified": changed, "Accept-Ranges": "bytes", "Content-Length": str(status.st_size)}
+    # the server sends a whole file by itself; Werkzeug goes to the first byte of a part
+    whole = FileWrapper(file, BLOCK) if "HTTP_RANGE" in environ else wrap_file(environ, file, BLOCK)
+    response = Response(whole, 200, fields, content_type=BYTES, direct_passthrough=True)
+    response.make_conditional(environ, accept_ranges=True, complete_length=status.st_size)
+    del response.headers["Date"]  # the server has one
+    response.status = status_line(response.status_code)
+    if response.status_code == 304 or message.method == "HEAD":
+        response.close()
+        response.response = []
+    return response

@@ -1,17 +1,35 @@
-"""Messages of HTTP: what a browser or a client sends, and what it gets."""
+"""Messages of HTTP: what a browser or a client sends, and what it gets. Werkzeug reads and writes them.
+
+What a stranger sends is hostile. So a body is read only after its length was allowed, Werkzeug gets a form
+only as a whole and within the limits, and no form has files.
+"""
+import io
 import logging
 import re
 import traceback
-from collections.abc import Iterator
-from dataclasses import dataclass, field
-from typing import Any
-from urllib.parse import parse_qs, urlsplit
+from collections.abc import Iterator, Mapping
+from urllib.parse import urlsplit
+
+from werkzeug.datastructures import MultiDict
+from werkzeug.exceptions import (
+    BadRequest,
+    Forbidden,
+    HTTPException,
+    LengthRequired,
+    MethodNotAllowed,
+    RequestEntityTooLarge,
+    UnsupportedMediaType,
+)
+from werkzeug.formparser import FormDataParser
+from werkzeug.wrappers import Request, Response
 
 XML, HTML, TEXT = "text/xml; charset=utf-8", "text/html; charset=utf-8", "text/plain; charset=utf-8"
+CSS = "text/css; charset=utf-8"
 BYTES = "application/octet-stream"
 PHRASES = {
     200: "OK",
     206: "Partial Content",
+    303: "See Other",
     304: "Not Modified",
     400: "Bad Request",
     403: "Forbidden",
@@ -29,29 +47,38 @@ BLOCK = 65536  # bytes that are read or sent at once
 FORM = "application/x-www-form-urlencoded"
 MOST_FORM, MOST_FIELDS = 16_384, 32  # bytes of a form, fields of a form or a query
 NO_STORE = {"Cache-Control": "no-store"}
+# for what has a hash of its content in its URL
+FOR_GOOD = {"Cache-Control": "public, max-age=31536000, immutable"}
 # fields that browsers add to a message, and BOINC's client does not
-BROWSER_FIELDS = ("HTTP_ORIGIN", "HTTP_REFERER", "HTTP_SEC_FETCH_SITE")
+BROWSER_FIELDS = ("Origin", "Referer", "Sec-Fetch-Site")
 
-Environ = dict[str, Any]
 log = logging.getLogger(__name__)
 
 
-class HttpFault(Exception):
-    """Raised for an HTTP message that the application refuses."""
+class Message(Request):
+    """A message. Nothing of its body is read yet: see body_of, blocks_of and form_of."""
 
-    def __init__(self, status: int, **fields: str) -> None:
-        super().__init__(PHRASES[status])
-        self.status, self.fields = status, fields
+    max_content_length = MOST_FORM
+    max_form_memory_size = MOST_FORM
 
 
-@dataclass(frozen=True, slots=True)
-class Answer:
-    """The answer to a message."""
+def status_line(status: int) -> str:
+    """Returns a status with its phrase."""
+    return f"{status} {PHRASES[status]}"
 
-    kind: str  # the media type of the body
-    body: bytes
-    fields: dict[str, str] = field(default_factory=dict)
-    status: int = 200
+
+def answer(kind: str, body: bytes, fields: Mapping[str, str] | None = None, status: int = 200) -> Response:
+    """Returns an answer whose body has a media type."""
+    return Response(body, status_line(status), fields, content_type=kind)
+
+
+def plain_answer(fault: HTTPException) -> Response:
+    """Returns the answer to a message that is refused: a line that says so."""
+    status = fault.code if fault.code in PHRASES else 500
+    fields = {name: value for name, value in fault.get_headers() if name.lower() != "content-type"}
+    if isinstance(fault, MethodNotAllowed):
+        fields["Allow"] = ", ".join(sorted(fault.valid_methods or ()))
+    return answer(TEXT, f"{PHRASES[status]}\n".encode(), fields, status)
 
 
 def log_fault(error: Exception) -> None:
@@ -60,78 +87,76 @@ def log_fault(error: Exception) -> None:
     log.error("a message could not be answered: %s\n%s", type(error).__name__, where)
 
 
-def require_method(environ: Environ, *methods: str) -> None:
-    """Raises HttpFault 405 unless the message has one of these methods."""
-    if environ["REQUEST_METHOD"] not in methods:
-        raise HttpFault(405, Allow=", ".join(methods))
-
-
-def refuse_browsers(environ: Environ) -> None:
-    """Raises HttpFault 403 if a web page may have made its visitor send the message. Such a page can't leave
-    out all of these fields.
+def refuse_browsers(message: Request) -> None:
+    """Raises Forbidden if a web page may have made its visitor send the message. Such a page can't leave out
+    all of these fields.
     """
-    if any(name in environ for name in BROWSER_FIELDS):
-        raise HttpFault(403)
+    if any(name in message.headers for name in BROWSER_FIELDS):
+        raise Forbidden
 
 
-def refuse_other_sites(environ: Environ, url: str) -> None:
-    """Raises HttpFault 403 if a page of another site made its visitor send the message. A browser says so by
+def refuse_other_sites(message: Request, url: str) -> None:
+    """Raises Forbidden if a page of another site made its visitor send the message. A browser says so by
     Sec-Fetch-Site, and an older one by Origin. It may send `null` as the origin of a page at the master URL,
     since the pages have no referrer.
     """
-    site = environ.get("HTTP_SEC_FETCH_SITE")
+    site = message.headers.get("Sec-Fetch-Site")
     if site is None:
         parts = urlsplit(url)
-        is_own = environ.get("HTTP_ORIGIN", "null") in ("null", f"{parts.scheme}://{parts.netloc}")
+        is_own = message.headers.get("Origin", "null") in ("null", f"{parts.scheme}://{parts.netloc}")
     else:
         is_own = site in ("same-origin", "none")
     if not is_own:
-        raise HttpFault(403)
+        raise Forbidden
 
 
-def length_of(environ: Environ, most: int) -> int:
-    """Returns the length of the body of a POST."""
-    length = environ.get("CONTENT_LENGTH") or ""
+def length_of(message: Request, most: int | None = None) -> int:
+    """Returns the length of the body of a POST, which may be limited."""
+    length = message.environ.get("CONTENT_LENGTH") or ""
     if not LENGTH.fullmatch(length):
-        raise HttpFault(411)
-    if int(length) > most:
-        raise HttpFault(413)
+        raise LengthRequired
+    if most is not None and int(length) > most:
+        raise RequestEntityTooLarge
     return int(length)
 
 
-def body_of(environ: Environ, most: int) -> bytes:
+def body_of(message: Request, most: int) -> bytes:
     """Returns the body of a POST."""
-    return b"".join(blocks_of(environ, length_of(environ, most)))
+    return b"".join(blocks_of(message, length_of(message, most)))
 
 
-def blocks_of(environ: Environ, length: int) -> Iterator[bytes]:
+def blocks_of(message: Request, length: int) -> Iterator[bytes]:
     """Yields the body of a POST in blocks, so that a long one is never in memory as a whole."""
     while length > 0:
-        block: bytes = environ["wsgi.input"].read(min(BLOCK, length))
+        block: bytes = message.environ["wsgi.input"].read(min(BLOCK, length))
         if not block:
-            raise HttpFault(400)
+            raise BadRequest
         length -= len(block)
         yield block
 
 
-def fields_of(text: str) -> dict[str, str]:
-    """Returns the fields of a query or a form. If a field comes twice, the last one counts. Bytes that are
-    not UTF-8 become U+FFFD.
-    """
-    try:
-        fields = parse_qs(text, keep_blank_values=True, errors="replace", max_num_fields=MOST_FIELDS)
-    except ValueError:
-        raise HttpFault(400) from None
-    return {name: values[-1] for name, values in fields.items()}
+def refuse_many_fields(text: bytes) -> None:
+    """Raises BadRequest if a query or a form has too many fields. They are counted before they are read."""
+    if text.count(b"&") >= MOST_FIELDS:
+        raise BadRequest
 
 
-def query_of(environ: Environ) -> dict[str, str]:
-    """Returns the fields of the query."""
-    return fields_of(environ.get("QUERY_STRING", ""))
+def last_values(fields: MultiDict[str, str]) -> dict[str, str]:
+    """Returns fields by their names. If a field comes twice, the last one counts."""
+    return {name: values[-1] for name, values in fields.lists()}
 
 
-def form_of(environ: Environ) -> dict[str, str]:
-    """Returns the fields of a form that was posted."""
-    if environ.get("CONTENT_TYPE", "").partition(";")[0].strip().lower() != FORM:
-        raise HttpFault(415)
-    return fields_of(body_of(environ, MOST_FORM).decode("ascii", errors="replace"))
+def query_of(message: Request) -> dict[str, str]:
+    """Returns the fields of the query. Bytes that are not UTF-8 become U+FFFD."""
+    refuse_many_fields(message.query_string)
+    return last_values(message.args)
+
+
+def form_of(message: Request) -> dict[str, str]:
+    """Returns the fields of a form that was posted, in the one form that has no files."""
+    if message.environ.get("CONTENT_TYPE", "").partition(";")[0].strip().lower() != FORM:
+        raise UnsupportedMediaType
+    body = body_of(message, MOST_FORM)
+    refuse_many_fields(body)
+    parser = FormDataParser(max_form_memory_size=MOST_FORM, max_content_length=MOST_FORM, silent=False)
+    return last_values(parser.parse(io.BytesIO(body), FORM, len(body))[1])

@@ -1,12 +1,15 @@
 """The project's pages for people: the master page and the status page."""
 import re
-from html import escape
+from dataclasses import dataclass
 
-from .http_messages import Answer, Environ, query_of
-from .markup import Markup, Number, element, joined, linked, page, paragraphs, table
+from werkzeug.wrappers import Request, Response
+
+from .http_messages import query_of
+from .pictures import Pictures
 from .settings import Settings
-from .statements import Status, UnitCounts
-from .texts import RESULT_WORDS, credits_text, moment_text
+from .statements import Statements, UnitCounts, read_unit_counts
+from .templates import Templates
+from .texts import RESULT_WORDS
 
 USERS_ON_A_PAGE = 100
 # how volunteers read why workunits failed, by the names of `bsched-tools counts`
@@ -16,173 +19,113 @@ FAILED = {
     "failed by the total": "failed: too many results in all",
 }
 PAGE_NUMBER = re.compile("[1-9][0-9]{0,5}")
+BAR = 1000  # the width of the bar in its own units
 
 
-def master_page(settings: Settings) -> Answer:
-    """Returns the page at the master URL. The client reads the scheduler's URL there, in one of two forms.
-    Each is on a line of its own.
-    """
-    scheduler = escape(f"{settings.url}cgi")
-    head = Markup(
-        f'<link rel="boinc_scheduler" href="{scheduler}">\n<!--\n<scheduler>{scheduler}</scheduler>\n-->\n'
-    )
-    links = [("status", "Status of the project")]
-    if settings.accounts is None:
-        joining = joining_by_key(settings)
+@dataclass(frozen=True, slots=True)
+class Part:
+    """A part of the bar that shows how far the work is."""
+
+    name: str  # also that of its colour
+    count: int
+    first: float
+    width: float
+
+
+@dataclass(frozen=True, slots=True)
+class Progress:
+    """How far the work is."""
+
+    parts: list[Part]
+    total: int
+    counted_at: float
+
+    @property
+    def percent(self) -> str:
+        """How many of a hundred workunits are done. It is 100 only if all are."""
+        done = self.parts[0].count
+        return f"{min(1000 * done // self.total, 1000) / 10:.1f}"
+
+    @property
+    def text(self) -> str:
+        """The same for those who do not see the bar."""
+        counts = ", ".join(f"{part.count:,} {part.name}" for part in self.parts)
+        return f"{self.percent} % of {self.total:,} workunits are done: {counts}."
+
+
+def progress_of(units: UnitCounts | None) -> Progress | None:
+    """Returns how far the work is, or None if it is not known or there is no work."""
+    if units is None or not (total := sum(units.by_status.values())):
+        return None
+    counts = {"done": units.by_status.get("done", 0)}
+    opened = units.by_status.get("open", 0)
+    if units.out is None:
+        counts["waiting"] = opened
     else:
-        has_terms = settings.accounts.terms is not None
-        joining = joining_by_oneself(settings, has_terms)
-        links += [("account", "Your account"), *([("terms", "Terms of use")] if has_terms else [])]
-    welcome = paragraphs(settings.welcome) if settings.welcome else ""
-    contact = element("p", "Contact: ", linked(settings.contact)) if settings.contact else ""
-    return page(
-        settings.name, welcome, element("h2", "How to join"), *joining, contact, head=head, links=tuple(links)
-    )
+        counts |= {"out": units.out, "waiting": opened - units.out}
+    if failed := total - counts["done"] - opened:
+        counts["failed"] = failed
+    parts, first = [], 0.0
+    for name, count in counts.items():
+        width = BAR * count / total
+        parts.append(Part(name, count, round(first, 2), round(width, 2)))
+        first += width
+    return Progress(parts, total, units.counted_at)
 
 
-def steps(settings: Settings, *last: Markup) -> Markup:
-    """Returns what a volunteer does in the Manager: the first steps, and some more."""
-    anyway = "If it says that the project may not have work for your type of computer, answer “Yes”."
-    url = element("code", settings.url)
-    first = element("li", "Choose “Add project”, and enter ", url, " as the project URL.")
-    return element("ol", first, element("li", anyway), *last)
+def page_number(message: Request, pages: int) -> int:
+    """Returns the number of the page that a message asks for: one of those that exist."""
+    text = query_of(message).get("page", "")
+    return min(int(text), max(1, pages)) if PAGE_NUMBER.fullmatch(text) else 1
 
 
-def joining_by_key(settings: Settings) -> list[Markup]:
-    """Returns how a volunteer joins if only the operator makes accounts."""
-    return [
-        element("p", "The project's operator gives you an account key. Then, in the BOINC Manager:"),
-        steps(settings, element("li", "Enter the account key as user name, and anything as password.")),
-    ]
+class Pages:
+    """Answers people who ask about the project."""
 
+    def __init__(
+        self, settings: Settings, templates: Templates, statements: Statements, pictures: Pictures
+    ) -> None:
+        self.settings, self.templates, self.statements = settings, templates, statements
+        self.pictures = pictures
 
-def joining_by_oneself(settings: Settings, has_terms: bool) -> list[Markup]:
-    """Returns how a volunteer joins without the operator."""
-    boinc = element("a", "boinc.berkeley.edu", href="https://boinc.berkeley.edu/download.php")
-    terms = element("a", "terms of use", href="terms")
-    agree = [element("li", "Read the ", terms, " and agree to them.")] if has_terms else []
-    new = "Choose “No, new user”, and enter an e-mail address and a password of your choice."
-    more = "On another computer choose “Yes, existing user”, and enter the same address and password."
-    kept = (
-        "The project keeps your address to find your account, and sends no e-mail. It does not keep your "
-        "password."
-    )
-    return [
-        element(
-            "p", "Install BOINC from ", boinc, " or from your system's packages. Then, in the BOINC Manager:"
-        ),
-        steps(settings, *agree, element("li", new)),
-        element("p", more),
-        element("p", kept, class_="note"),
-    ]
-
-
-def not_found_page(settings: Settings) -> Answer:
-    """Returns the page for a URL of the project that does not exist."""
-    text = "There is no such page here."
-    return page(
-        f"{settings.name}: not found", element("p", text), links=((settings.url, "The project"),), status=404
-    )
-
-
-def no_passwords_page(settings: Settings) -> Answer:
-    """Returns the page for a volunteer without a key, if only the operator makes accounts."""
-    return page(
-        f"{settings.name}: no passwords",
-        element(
-            "p", "This project has no passwords: in the BOINC Manager, enter your account key as user name."
-        ),
-        element(
-            "p",
-            "A computer that has the project keeps the key in a file account_*.xml in BOINC's data folder, "
-            "as “authenticator”. Otherwise ask the project's operator.",
-        ),
-        links=((".", "The project"),),
-    )
-
-
-def status_page(settings: Settings, status: Status, environ: Environ) -> Answer:
-    """Returns the status page: workunits, credit by user, and hosts with their results."""
-    recent = status.recent
-    parts: list[object] = []
-    if status.silent_since is not None:
-        parts.append(
-            element(
-                "p",
-                f"The scheduler has given no answer since {moment_text(status.silent_since)} UTC. "
-                "Computers keep their work, and report it later.",
-                class_="fault",
-            )
+    def project(self, _message: Request) -> Response:
+        """Returns the page at the master URL. The client reads the scheduler's URL there, in one of two
+        forms. Each is on a line of its own.
+        """
+        return self.templates.page(
+            "project.html",
+            scheduler=f"{self.settings.url}cgi",
+            url=self.settings.url,
+            welcome=self.settings.welcome,
+            contact=self.settings.contact,
+            picture=self.pictures.own,
+            plots=self.pictures.plots(),
+            progress=progress_of(read_unit_counts(self.settings.counts)),
+            silent_since=self.statements.scheduler.silent_since,
         )
-    parts.append(element("p", f"As of {moment_text(recent.read_at)} UTC.", class_="note"))
-    if status.units is not None:
-        parts += units_markup(status.units)
-    parts += users_markup(status, environ)
-    parts += hosts_markup(status)
-    return page(f"{settings.name}: status", *parts, links=((".", "The project"),))
 
+    def status(self, message: Request) -> Response:
+        """Returns the status page: workunits, credit by user, and hosts with their results."""
+        status = self.statements.status()
+        pages = max(1, -(-len(status.ranking) // USERS_ON_A_PAGE))
+        number = page_number(message, pages)
+        first = (number - 1) * USERS_ON_A_PAGE
+        return self.templates.page(
+            "status.html",
+            status=status,
+            units=status.units,
+            failed=FAILED,
+            users=status.ranking[first : first + USERS_ON_A_PAGE],
+            first=first,
+            number=number,
+            pages=pages,
+            result_words=RESULT_WORDS,
+        )
 
-def units_markup(units: UnitCounts) -> list[Markup]:
-    """Returns the workunits by their status."""
-    rows: list[list[object]] = [[FAILED.get(name, name), count] for name, count in units.by_status.items()]
-    rows.append(["all", sum(units.by_status.values())])
-    return [
-        element("h2", "Workunits"),
-        table(["status", "workunits"], rows),
-        element("p", f"Counted at {moment_text(units.counted_at)} UTC.", class_="note"),
-    ]
+    def not_found(self) -> Response:
+        """Returns the page for a URL of the project that does not exist."""
+        return self.templates.page("not_found.html", http_status=404)
 
-
-def users_markup(status: Status, environ: Environ) -> list[Markup]:
-    """Returns one page of the users, by their credit."""
-    pages = max(1, -(-len(status.ranking) // USERS_ON_A_PAGE))
-    text = query_of(environ).get("page", "")
-    number = min(int(text), pages) if PAGE_NUMBER.fullmatch(text) else 1
-    first, last = (number - 1) * USERS_ON_A_PAGE, number * USERS_ON_A_PAGE
-    rows: list[list[object]] = [
-        [Number(place), name, Number(credits_text(credit)), *([Number(f"{recent:,.2f}")] * status.has_recent)]
-        for place, (name, credit, recent) in enumerate(status.ranking[first:last], first + 1)
-    ]
-    header = ["place", "user", "credit", *(["recent average credit"] * status.has_recent)]
-    turns = [
-        element("a", text, href=f"status?page={target}")
-        for text, target in (("earlier places", number - 1), ("later places", number + 1))
-        if 1 <= target <= pages
-    ]
-    return [
-        element("h2", "Users"),
-        element("p", f"Users with computers that called: {len(status.ranking)}."),
-        table(header, rows),
-        element("p", *(joined(turn, " ") for turn in turns)) if turns else Markup(""),
-    ]
-
-
-def hosts_markup(status: Status) -> list[Markup]:
-    """Returns the hosts that called last, with their results if these are known."""
-    recent = status.recent
-    header = ["computer", "user", "called last (UTC)", "credit"]
-    rows: list[list[object]] = [
-        [
-            Number(one.host.hostid or "–"),
-            one.host.user_name,
-            moment_text(one.host.heard_at),
-            Number(credits_text(one.credit)),
-        ]
-        for one in recent.hosts
-    ]
-    notes = ["A user's credit is the one in the latest reply to one of the user's computers."]
-    if recent.with_results:
-        header += ["out", "waiting", "done", "late", "failed"]
-        counts = [[one.out, one.waiting, one.done, one.late, one.failed] for one in recent.hosts]
-        rows = [[*row, *count] for row, count in zip(rows, counts)]
-        if counts:
-            rows.append(["all", "", "", "", *map(sum, zip(*counts))])
-        notes.append(RESULT_WORDS)
-    return [
-        element("h2", "Computers"),
-        element(
-            "p", f"Computers that called: {status.count_of_hosts}. The last {len(recent.hosts)} of them:"
-        ),
-        table(header, rows),
-        *(element("p", note, class_="note") for note in notes),
-    ]
+    def no_passwords(self, _message: Request) -> Response:
+        """Returns the page for a volunteer without a key, if only the operator makes accounts."""
+        return self.templates.page("no_passwords.html")

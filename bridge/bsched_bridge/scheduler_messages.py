@@ -2,11 +2,13 @@
 from collections.abc import Callable, Iterable
 from dataclasses import replace
 
+from werkzeug.wrappers import Request, Response
+
 from .catalogue import Catalogue
 from .client_replies import ReplyWriter
 from .client_requests import MOST_BYTES, ClientRequest, read_request
 from .exchange import HOUR, TOO_BUSY, Exchange, PutOff
-from .http_messages import XML, Answer, Environ, blocks_of, length_of, require_method
+from .http_messages import XML, answer, blocks_of, length_of
 from .key_locks import Busy, KeyLocks
 from .limits import NoPlace, Places
 from .members import Members
@@ -51,13 +53,12 @@ class SchedulerMessages:
         self.members, self.recent, self.places = members, recent, places
         self.reader = RequestReader()
 
-    def answer(self, environ: Environ) -> Answer:
+    def answer(self, message: Request) -> Response:
         """Answers a scheduler_request. The client always gets a scheduler_reply. Of a request that is refused
         the rest is read, too: a proxy may not read the answer before.
         """
-        require_method(environ, "POST")
-        length = length_of(environ, MOST_BYTES)
-        blocks = blocks_of(environ, length)
+        length = length_of(message, MOST_BYTES)
+        blocks = blocks_of(message, length)
         try:
             with self.places.taken(0.0 if self.exchange.scheduler.is_slow else PLACE_SECONDS):
                 request = self.catalogue().by_resource(self.reader.read(blocks, length))
@@ -69,12 +70,12 @@ class SchedulerMessages:
         for _ in blocks:
             pass
         if isinstance(answered, PutOff):
-            return Answer(XML, self.writer.put_off(answered))
+            return answer(XML, self.writer.put_off(answered))
         member = self.members.of_key(request.authenticator)  # the user may have chosen another name
         reply = answered.reply if member is None else replace(answered.reply, user_name=member.name)
         recent = self._recent(request.authenticator, reply.hostid)
         writer = self.writer.with_catalogue(self.catalogue())
-        return Answer(XML, writer.reply(request, reply, answered.hostid, answered.notice, recent))
+        return answer(XML, writer.reply(request, reply, answered.hostid, answered.notice, recent))
 
     def _recent(self, authenticator: str, scheduler_hostid: int) -> Recent | None:
         """Returns the recent average credit that a reply has; None if the operator has no file of it."""

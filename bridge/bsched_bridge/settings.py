@@ -10,6 +10,14 @@ from .operator_files import Entry, OperatorFile
 FIELD_NAME = re.compile("[A-Za-z][A-Za-z0-9-]{0,63}")
 LEAST_KEPT_DAYS = 7  # a client whose reply was lost reports a result again within this time
 MOST_CONTACT = 200  # characters
+PICTURE_KINDS = {
+    ".png": "image/png",
+    ".jpg": "image/jpeg",
+    ".jpeg": "image/jpeg",
+    ".webp": "image/webp",
+    ".svg": "image/svg+xml",
+}
+MOST_PICTURE = 2 * 1024 * 1024  # bytes
 LISTED_FIELDS = {"x-forwarded-for", "forwarded"}  # clients write here; a proxy only adds
 
 
@@ -74,6 +82,9 @@ class Settings:
     accounts: AccountSettings | None  # None if only the operator makes accounts
     archives: tuple[Path, ...] = ()  # earlier files of the project, whose credit is added
     uploads: UploadSettings | None = None  # None if no application has output files
+    picture: Path | None = None  # of the project, for its page
+    picture_text: str = ""  # the same for those who do not see it
+    plots: Path | None = None  # the folder of plots that `bsched-tools report` makes
 
     @property
     def path(self) -> str:
@@ -190,6 +201,21 @@ def read_contact(file: Entry) -> str | None:
     return contact or None
 
 
+def read_picture(file: Entry) -> tuple[Path | None, str]:
+    """Reads the path of the project's picture, and what it shows."""
+    text = file.text("picture_text", "").strip()
+    if len(text) > MOST_CONTACT or not text.isprintable():
+        file.fault(f"picture_text is not one line of at most {MOST_CONTACT} characters", "picture_text")
+    if "picture" not in file.members:
+        return None, text
+    path = file.existing("picture")
+    if path.suffix.lower() not in PICTURE_KINDS:
+        file.fault(f"picture: {path} does not end with {', '.join(PICTURE_KINDS)}", "picture")
+    if not path.is_file() or path.stat().st_size > MOST_PICTURE:
+        file.fault(f"picture: {path} is no file, or has more than {MOST_PICTURE:,} bytes", "picture")
+    return path, text
+
+
 def archive_paths(file: Entry) -> tuple[Path, ...]:
     """Reads the paths of the project's earlier files."""
     paths = []
@@ -207,6 +233,7 @@ def read_settings(path: Path) -> Settings:
     file = OperatorFile(path)
     url = master_url(file)
     key = file.word("operator_key") if "operator_key" in file.members else None
+    picture, picture_text = read_picture(file)
     settings = Settings(
         name=file.text("name"),
         url=url,
@@ -226,6 +253,9 @@ def read_settings(path: Path) -> Settings:
         accounts=read_accounts(file, url, key is not None),
         archives=archive_paths(file),
         uploads=read_uploads(file, key is not None),
+        picture=picture,
+        picture_text=picture_text,
+        plots=path.parent / file.text("plots") if "plots" in file.members else None,
     )
     if not settings.name.strip() or not settings.name.isprintable():
         file.fault("name is empty, or has a character that can't be printed", "name")

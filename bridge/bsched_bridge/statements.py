@@ -64,6 +64,7 @@ class UnitCounts:
 
     by_status: dict[str, int]
     counted_at: float
+    out: int | None = None  # of those that are open, how many a host has; None if that is not known
 
 
 @dataclass(frozen=True, slots=True)
@@ -116,7 +117,9 @@ def read_unit_counts(path: Path | None) -> UnitCounts | None:
         moment = fields.get("moment")
         is_known = type(moment) is int and 0 <= moment <= MOST_MOMENT
         counted_at = moment if is_known else path.stat().st_mtime
-        return UnitCounts(by_status, counted_at) if by_status else None
+        out = fields.get("open_workunits", {}).get("out")
+        is_out = type(out) is int and 0 <= out <= by_status.get("open", 0)
+        return UnitCounts(by_status, counted_at, out if is_out else None) if by_status else None
     except (OSError, ValueError, KeyError, TypeError, AttributeError):
         return None
 

@@ -14,7 +14,9 @@ from collections.abc import Iterator
 from dataclasses import dataclass
 from typing import BinaryIO
 
-from .http_messages import LENGTH, TEXT, Answer, Environ, HttpFault, require_method
+from werkzeug.wrappers import Request, Response
+
+from .http_messages import TEXT, answer, length_of
 from .limits import NoPlace, Places
 from .settings import UploadSettings
 from .upload_store import NotNow, SentFile, UploadStore
@@ -88,20 +90,12 @@ def is_question(begin: bytes) -> bool:
     return DATA not in begin and PATTERNS["get_file_size"].search(text) is not None
 
 
-def answer_of(status: int, message: str, file_size: int | None = None) -> Answer:
+def answer_of(status: int, message: str, file_size: int | None = None) -> Response:
     """Returns the answer with a status. The client writes what is said to its log, for the volunteer."""
     size = "" if file_size is None else f"<file_size>{file_size}</file_size>\n"
     message = f"<message>{message}</message>\n" if message else ""
     body = f"<data_server_reply>\n<status>{status}</status>\n{size}{message}</data_server_reply>\n"
-    return Answer(TEXT, body.encode())
-
-
-def length_of(environ: Environ) -> int:
-    """Returns how many bytes the body of a message has."""
-    length = environ.get("CONTENT_LENGTH") or ""
-    if not LENGTH.fullmatch(length):
-        raise HttpFault(411)
-    return int(length)
+    return answer(TEXT, body.encode())
 
 
 def blocks_of(begin: bytes, stream: BinaryIO, nbytes: int) -> Iterator[bytes]:
@@ -129,19 +123,18 @@ class Uploads:
     def __init__(self, store: UploadStore, places: Places) -> None:
         self.store, self.places, self.tokens = store, places, UploadTokens(store.secret)
 
-    def answer(self, environ: Environ) -> Answer:
+    def answer(self, message: Request) -> Response:
         """Answers a message. It never has a status of HTTP from 400 on for what a client sends: the client
         would try again, for 90 days.
         """
-        require_method(environ, "POST")
-        length = length_of(environ)
-        begin = environ["wsgi.input"].read(min(length, MOST_HEAD))
+        length, stream = length_of(message), message.environ["wsgi.input"]
+        begin = stream.read(min(length, MOST_HEAD))
         try:
             if is_question(begin):
                 return answer_of(DONE, "", file_size=0)
             if len(begin) < min(length, MOST_HEAD):
                 raise NotNow("the message is not complete")
-            return self._received(begin, environ["wsgi.input"], length)
+            return self._received(begin, stream, length)
         except BadMessage as fault:
             log.warning("an upload is refused for good: %s", fault)
             return answer_of(NEVER, "The project refuses this file.")
@@ -153,7 +146,7 @@ class Uploads:
             log.error("an upload is put off: %s", fault)
         return answer_of(AGAIN, "The project can't take this file at the moment.")
 
-    def _received(self, begin: bytes, stream: BinaryIO, length: int) -> Answer:
+    def _received(self, begin: bytes, stream: BinaryIO, length: int) -> Response:
         """Receives a file, and returns the answer. Before it reads the file it checks all that the head
         says.
         """

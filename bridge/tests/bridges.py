@@ -96,7 +96,8 @@ class Bridge:
         self, path: str, method: str = "GET", body: bytes = b"", **more: str
     ) -> tuple[str, dict[str, str], bytes]:
         """Sends a message, and returns the status, the fields and the body of the answer."""
-        path, _, query = path.partition("?")
+        # a character for each byte, as in WSGI
+        path, _, query = path.encode().decode("latin-1").partition("?")
         environ = {
             "REQUEST_METHOD": method,
             "PATH_INFO": path,
@@ -105,8 +106,12 @@ class Bridge:
             "CONTENT_LENGTH": str(len(body)) if method == "POST" else "",
             **more,
         }
-        started = []
-        blocks = self.application(environ, lambda status, fields: started.append((status, dict(fields))))
+        started: list[tuple[str, dict[str, str]]] = []
+
+        def start(status: str, fields: list[tuple[str, str]]) -> None:
+            started.append((status, dict(fields)))
+
+        blocks = self.application(environ, cast(Any, start))
         body = b"".join(blocks)
         return *started[0], body
 

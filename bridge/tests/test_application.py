@@ -1,6 +1,7 @@
 """The pages, the downloads, and messages that the bridge refuses."""
 import os
 import re
+import time
 import xml.etree.ElementTree as ElementTree
 from typing import Any
 
@@ -231,7 +232,12 @@ def test_downloads(bridge: Bridge) -> None:
     status, fields, body = bridge.got("/p/download/sum_1", HTTP_RANGE="bytes=2-")
     assert (status, fields["Content-Range"], body) == ("206 Partial Content", "bytes 2-9/10", b"/bin/sh\n")
     assert bridge.got("/p/download/sum_1", HTTP_RANGE="bytes=10-")[0] == "416 Range Not Satisfiable"
-    assert bridge.got("/p/download/sum_1", HTTP_RANGE="bytes=-1")[2] == b"#!/bin/sh\n"
+    for whole in ("bytes=0-1,3-4", "lines=1-", "bytes=x", "bytes=1-" + "9" * 5000, "bytes"):
+        assert bridge.got("/p/download/sum_1", HTTP_RANGE=whole)[::2] == ("200 OK", b"#!/bin/sh\n")
+    status, fields, body = bridge.got("/p/download/sum_1", HTTP_RANGE="bytes=-3")
+    assert (status, fields["Content-Range"], body) == ("206 Partial Content", "bytes 7-9/10", b"sh\n")
+    status, fields, body = bridge.got("/p/download/sum_1", HTTP_RANGE="bytes=2-4")
+    assert (fields["Content-Range"], fields["Content-Length"], body) == ("bytes 2-4/10", "3", b"/bi")
     assert bridge.got("/p/download/sum_1", "HEAD")[2] == b""
     changed = fields["Last-Modified"]  # nginx asks whether its copy is still good
     assert bridge.got("/p/download/sum_1", HTTP_IF_MODIFIED_SINCE=changed)[::2] == ("304 Not Modified", b"")
@@ -245,6 +251,67 @@ def test_downloads(bridge: Bridge) -> None:
 )
 def test_what_may_not_be_downloaded(bridge: Bridge, name: str) -> None:
     assert bridge.got(f"/p/download/{name}")[0] == "404 Not Found"
+
+
+TOO_MANY_FIELDS = "&".join(["page=1"] * 40)
+
+
+@pytest.mark.parametrize(
+    "status, fields",
+    [
+        ("200 OK", {"SCRIPT_NAME": "/p", "PATH_INFO": "/status"}),
+        ("200 OK", {"SCRIPT_NAME": "/p/sta", "PATH_INFO": "tus"}),
+        ("404 Not Found", {"SCRIPT_NAME": "/x", "PATH_INFO": "/p/status"}),
+        ("404 Not Found", {"SCRIPT_NAME": "/p/status", "PATH_INFO": "/p/status"}),
+        ("404 Not Found", {"PATH_INFO": "//p/status"}),
+        ("404 Not Found", {"PATH_INFO": "/p//status"}),
+        ("404 Not Found", {"PATH_INFO": "/p"}),
+        ("404 Not Found", {"PATH_INFO": "/p/status/"}),
+        ("404 Not Found", {"PATH_INFO": "/p/../p/status"}),
+        ("404 Not Found", {"PATH_INFO": "/p/\xff\xfe\x00"}),
+        ("404 Not Found", {"PATH_INFO": "/p/status|"}),
+        ("404 Not Found", {"PATH_INFO": "/p/" + "a/" * 50_000}),
+        ("404 Not Found", {"PATH_INFO": ""}),
+        ("200 OK", {"QUERY_STRING": "page=%ff%fe&\xff=\xfe&%&=&&"}),
+        ("200 OK", {"QUERY_STRING": "page=" + "9" * 200_000}),
+        ("200 OK", {"QUERY_STRING": "page=" + "%" * 200_000}),
+        ("400 Bad Request", {"QUERY_STRING": TOO_MANY_FIELDS}),
+        ("400 Bad Request", {"QUERY_STRING": "&" * 200_000}),
+        ("405 Method Not Allowed", {"REQUEST_METHOD": "get"}),
+        ("405 Method Not Allowed", {"REQUEST_METHOD": "PROPFIND"}),
+        ("405 Method Not Allowed", {"REQUEST_METHOD": ""}),
+        ("200 OK", {"HTTP_HOST": "\xff:x:y", "SERVER_PORT": "x", "HTTP_COOKIE": "=;" * 50_000}),
+        ("200 OK", {"CONTENT_TYPE": "multipart/form-data; boundary=" + "x" * 70_000}),
+        ("200 OK", {"HTTP_RANGE": "bytes=" + "0-0," * 20_000, "HTTP_IF_NONE_MATCH": '"' * 60_000}),
+    ],
+)
+def test_hostile_messages_have_the_status_that_they_had(
+    bridge: Bridge, status: str, fields: dict[str, str]
+) -> None:
+    began = time.monotonic()
+    assert bridge.got("/p/status", **fields)[0] == status
+    assert time.monotonic() - began < 2
+
+
+@pytest.mark.parametrize("length", ["", "-1", "x", "9" * 19, "١", "1 ", "0x1", "+1"])
+def test_a_body_whose_length_is_not_known_is_not_read(open_bridge: Bridge, length: str) -> None:
+    class Unread:
+        """A body that nobody reads."""
+
+    for path in ("cgi", "account"):
+        fields = {"CONTENT_LENGTH": length, "wsgi.input": Unread(), "wsgi.input_terminated": True}
+        kind = {"CONTENT_TYPE": "application/x-www-form-urlencoded", "HTTP_TRANSFER_ENCODING": "chunked"}
+        assert open_bridge.got(f"/p/{path}", "POST", **fields, **kind)[0] == "411 Length Required"
+        fields["CONTENT_LENGTH"] = "99999999999"
+        assert open_bridge.got(f"/p/{path}", "POST", **fields, **kind)[0] == "413 Content Too Large"
+
+
+def test_no_form_has_files(open_bridge: Bridge) -> None:
+    body = b'--b\r\nContent-Disposition: form-data; name="key"; filename="x"\r\n\r\nx\r\n--b--\r\n'
+    for kind in ("multipart/form-data; boundary=b", "application/x-url-encoded", "", "text/plain"):
+        assert (
+            open_bridge.got("/p/account", "POST", body, CONTENT_TYPE=kind)[0] == "415 Unsupported Media Type"
+        )
 
 
 def further_file(bridge: Bridge, key: Any, members: str) -> None:

@@ -1,4 +1,5 @@
 """The pages for people: what they show, their forms, and what a browser may do with them."""
+import hashlib
 import json
 import re
 import threading
@@ -13,19 +14,21 @@ from joining import CLIENT, create, look_up
 from messages import request
 from twin import Twin
 
-from bsched_bridge.markup import STYLE, Markup, element, joined, linked, paragraphs, table
+from bsched_bridge.operator_files import OperatorFault
+from bsched_bridge.templates import FOLDER, linked, paragraphs
 
-EMPTY = {"meta", "link", "input", "br"}
+EMPTY = {"meta", "link", "input", "br", "img"}
 FORM = "application/x-www-form-urlencoded"
 
 
 class Page(HTMLParser):
-    """A page as a browser reads it. Each element is closed, and there is no script, and no style but the
-    one."""
+    """A page as a browser reads it. Each element is closed, and there is no script, and no style but the one
+    sheet. Links within the project are kept without its path, those of the header apart from the others."""
 
     def __init__(self, text: str) -> None:
         super().__init__()
         self.open, self.tags, self.text, self.inputs, self.links, self.ids = [], [], "", {}, [], {}
+        self.header: list[str] = []
         self.feed(text)
         self.close()
         assert self.open == [], self.open
@@ -39,7 +42,8 @@ class Page(HTMLParser):
         if tag == "input":
             self.inputs[fields["name"]] = fields
         if tag == "a":
-            self.links.append(fields["href"])
+            links = self.header if "header" in self.open else self.links
+            links.append(fields["href"].removeprefix("/p/"))
         if "id" in fields:
             assert fields["id"] not in self.ids or tag == "input"
             self.ids[fields["id"]] = fields
@@ -52,21 +56,29 @@ class Page(HTMLParser):
             self.text += data
 
 
+def style_name() -> str:
+    """Returns the name of the style sheet: it follows from the content."""
+    return f"style-{hashlib.sha256((FOLDER / 'style.css').read_bytes()).hexdigest()[:16]}.css"
+
+
 def page_of(answer: tuple[str, dict[str, str], bytes], status: str = "200 OK", has_key: bool = False) -> Page:
     """Returns the page of an answer, and checks the answer's fields."""
     line, fields, body = answer
     assert (line, fields["Content-Type"]) == (status, "text/html; charset=utf-8")
     assert fields["Referrer-Policy"] == "no-referrer"
     policy = fields["Content-Security-Policy"]
-    assert (
-        policy.startswith("default-src 'none'; style-src 'sha256-")
-        and "unsafe" not in policy
-        and "script" not in policy
+    assert policy == (
+        "default-src 'none'; style-src 'self'; img-src 'self'; form-action 'self'; base-uri 'none'; "
+        "frame-ancestors 'none'"
     )
+    assert "Set-Cookie" not in fields
     assert (fields.get("Cache-Control") == "no-store") or not has_key
     text = body.decode()
-    assert text.count(f"<style>{STYLE}</style>") == 1 and "<script" not in text and "javascript:" not in text
+    assert "<style" not in text and "<script" not in text and "javascript:" not in text
     page = Page(text)
+    assert [
+        fields["href"] for tag, fields in page.tags if tag == "link" and fields["rel"] == "stylesheet"
+    ] == ["/p/" + style_name()]
     assert ("meta", {"name": "viewport", "content": "width=device-width, initial-scale=1"}) in page.tags
     for tag, attributes in page.tags:  # each field has a label, and its descriptions exist
         if tag == "input" and attributes["type"] not in ("hidden", "checkbox"):
@@ -89,24 +101,193 @@ def posted(
 # ---- Markup
 
 
-def test_texts_are_escaped() -> None:
-    assert element("p", "<b>&\"'", class_='a"b') == '<p class="a&quot;b">&lt;b&gt;&amp;&quot;&#x27;</p>'
-    assert element("p", element("b", "<"), Markup("<i></i>")) == "<p><b>&lt;</b><i></i></p>"
-    assert (
-        element("input", name="a", value="<", checked=True, disabled=False, title=None)
-        == '<input name="a" value="&lt;" checked>'
+def test_texts_are_escaped(project: Path, bridge: Bridge) -> None:
+    path = project / "bridge.toml"
+    path.write_text(path.read_text().replace('name = "Sums"', """name = '<b>&"'"""))
+    bridge.restart()
+    text = bridge.got("/p/")[2].decode()
+    assert "<title>&lt;b&gt;&amp;&#34;</title>" in text and "<b>" not in text
+    assert page_of(bridge.got("/p/nothing"), "404 Not Found").text.count('<b>&"') == 2
+
+
+def test_the_style_sheet(bridge: Bridge) -> None:
+    status, fields, body = bridge.got(f"/p/{style_name()}")
+    assert (status, body) == ("200 OK", (FOLDER / "style.css").read_bytes())
+    assert fields["Content-Type"] == "text/css; charset=utf-8"
+    assert fields["Cache-Control"] == "public, max-age=31536000, immutable"
+    assert fields["X-Content-Type-Options"] == "nosniff"
+    assert bridge.got("/p/style.css")[0] == bridge.got("/p/templates/style.css")[0] == "404 Not Found"
+    assert bridge.got(f"/p/{style_name()}", "POST")[0] == "405 Method Not Allowed"
+
+
+def colours(scheme: int) -> dict[str, tuple[int, int, int]]:
+    """Returns the colours of the light scheme (0) or the dark one (1), by their names."""
+    blocks = re.findall(r":root \{(.*?)\}", (FOLDER / "style.css").read_text(), re.DOTALL)
+    found = re.findall(r"--([a-z-]+): #([0-9a-f]{2})([0-9a-f]{2})([0-9a-f]{2})", blocks[scheme])
+    return {name: (int(red, 16), int(green, 16), int(blue, 16)) for name, red, green, blue in found}
+
+
+def luminance(colour: tuple[int, int, int]) -> float:
+    """Returns the relative luminance of a colour (WCAG 2.1)."""
+    parts = [part / 255 for part in colour]
+    red, green, blue = (
+        part / 12.92 if part <= 0.04045 else ((part + 0.055) / 1.055) ** 2.4 for part in parts
     )
-    assert joined("<", 1) == "&lt;1"
-    assert table(["<"], [["<"], [5]]).count("&lt;") == 2
+    return 0.2126 * red + 0.7152 * green + 0.0722 * blue
+
+
+def contrast(one: tuple[int, int, int], other: tuple[int, int, int]) -> float:
+    """Returns the contrast of two colours (WCAG 2.1)."""
+    low, high = sorted((luminance(one), luminance(other)))
+    return (high + 0.05) / (low + 0.05)
+
+
+@pytest.mark.parametrize("scheme", [0, 1])
+def test_texts_have_enough_contrast(scheme: int) -> None:
+    found = colours(scheme)
+    assert set(found) == set(colours(0))
+    for name in ("text", "soft", "link", "fault", "good"):
+        for behind in ("back", "panel"):
+            assert contrast(found[name], found[behind]) >= 4.5, (name, behind)
+    assert contrast(found["on-accent"], found["accent"]) >= 4.5
+    for name in ("done", "out", "failed"):  # of plots
+        assert contrast(found[name], found["back"]) >= 3, name
 
 
 def test_what_an_operator_writes() -> None:
     text = "One <b>\r\nline\n\n\n see https://sums.example/a?b=1&c=2. \n\njavascript:alert(1)"
     assert paragraphs(text) == (
-        '<div class="text"><p>One &lt;b&gt;\nline</p><p>see <a href="https://sums.example/a?b=1&amp;c=2">'
-        "https://sums.example/a?b=1&amp;c=2</a>.</p><p>javascript:alert(1)</p></div>"
+        '<p>One &lt;b&gt;\nline</p><p>see <a href="https://sums.example/a?b=1&amp;c=2">'
+        "https://sums.example/a?b=1&amp;c=2</a>.</p><p>javascript:alert(1)</p>"
     )
     assert linked("no https:// here") == "no https:// here"
+
+
+# ---- The project's page
+
+
+def test_how_far_the_work_is(project: Path, bridge: Bridge) -> None:
+    (project / "bridge.toml").write_text('counts = "counts.json"\n' + (project / "bridge.toml").read_text())
+    bridge.restart()
+    counts = {"open": 1200, "done": 2999, "failed by errors": 1}
+
+    def page(**more: Any) -> Page:
+        text = json.dumps({"workunits": counts, "moment": 86400, **more})
+        (project / "counts.json").write_text(text)
+        return page_of(bridge.got("/p/"))
+
+    known = page(open_workunits={"out": 200, "waiting": 1000})
+    assert "71.4 % of 4,200 workunits are done." in known.text
+    assert "Counted at 1970-01-02 00:00:00 UTC." in known.text
+    words = "71.4 % of 4,200 workunits are done: 2,999 done, 200 out, 1,000 waiting, 1 failed."
+    assert [
+        fields["aria-label"] for tag, fields in known.tags if "aria-label" in fields and tag == "svg"
+    ] == [words]
+    bars = [fields for tag, fields in known.tags if tag == "rect" and "x" in fields]
+    assert [one["class"] for one in bars] == ["is-done", "is-out", "is-waiting", "is-failed"]
+    assert abs(sum(float(one["width"]) for one in bars) - 1000) < 0.1
+    for odd in (
+        {},
+        {"open_workunits": 1},
+        {"open_workunits": {"out": 1201}},
+        {"open_workunits": {"out": -1}},
+    ):
+        text = page(**odd).text
+        assert "1,200 waiting" in text or "open_workunits" in odd and odd["open_workunits"] == 1
+        assert "out" not in text.partition("workunits are done")[2].partition("Counted")[0]
+    counts.update({"open": 0, "done": 4199})
+    assert "99.9 % of 4,200 workunits are done." in page().text
+    counts.clear()
+    assert "workunits are done" not in page().text
+
+
+def with_key(project: Path, bridge: Bridge, text: str) -> None:
+    """Adds a line to the settings, and starts the bridge again."""
+    (project / "bridge.toml").write_text(f"{text}\n" + (project / "bridge.toml").read_text())
+    bridge.restart()
+
+
+def test_the_picture_of_the_project(project: Path, bridge: Bridge) -> None:
+    (project / "sky.PNG").write_bytes(b"a picture")
+    with_key(project, bridge, 'picture = "sky.PNG"\npicture_text = "The <sky>"')
+    page = page_of(bridge.got("/p/"))
+    (image,) = [fields for tag, fields in page.tags if tag == "img"]
+    assert image["alt"] == "The <sky>"
+    status, fields, body = bridge.got(image["src"])
+    assert (status, fields["Content-Type"], body) == ("200 OK", "image/png", b"a picture")
+    assert fields["Cache-Control"] == "public, max-age=31536000, immutable"
+    assert "sandbox" in fields["Content-Security-Policy"]
+    assert bridge.got("/p/picture/sky.PNG")[0] == bridge.got("/p/picture/")[0] == "404 Not Found"
+
+
+@pytest.mark.parametrize(
+    "lines, why",
+    [
+        ('picture = "none.png"', "does not exist"),
+        ('picture = "key"', "does not end with .png"),
+        ('picture = "large.png"', "more than 2,097,152 bytes"),
+        ('picture = "folder.png"', "is no file"),
+        ('picture_text = "a\\nb"', "is not one line"),
+    ],
+)
+def test_a_picture_that_can_not_be(project: Path, bridge: Bridge, lines: str, why: str) -> None:
+    (project / "large.png").write_bytes(bytes(2 * 1024 * 1024 + 1))
+    (project / "folder.png").mkdir()
+    with pytest.raises(OperatorFault, match=why):
+        with_key(project, bridge, lines)
+
+
+def plots_of(project: Path, *names: str) -> None:
+    """Writes plots as `bsched-tools report` does."""
+    (project / "plots").mkdir(exist_ok=True)
+    for name in names:
+        (project / "plots" / f"{name}.svg").write_text(f"<svg>{name}</svg>")
+    listed = [
+        {"file": f"{name}.svg", "title": f"Title of {name}", "text": f"{name} & text"} for name in names
+    ]
+    path = project / "plots" / "new"
+    path.write_text(json.dumps({"format": 1, "plots": listed}))
+    path.rename(project / "plots" / "plots.json")
+
+
+def images(bridge: Bridge) -> list[dict[str, str]]:
+    """Returns the pictures on the project's page."""
+    return [fields for tag, fields in page_of(bridge.got("/p/")).tags if tag == "img"]
+
+
+def test_the_plots_of_the_last_month(project: Path, bridge: Bridge) -> None:
+    with_key(project, bridge, 'plots = "plots"')
+    assert images(bridge) == []  # the folder is not there yet
+    plots_of(project, "results", "credit")
+    first = images(bridge)
+    assert [image["alt"] for image in first] == ["results & text", "credit & text"]
+    status, fields, body = bridge.got(first[0]["src"])
+    assert (status, fields["Content-Type"], body) == ("200 OK", "image/svg+xml", b"<svg>results</svg>")
+    plots_of(project, "results")
+    assert len(images(bridge)) == 1 and images(bridge)[0]["src"] == first[0]["src"]
+    assert bridge.got(first[1]["src"])[0] == "404 Not Found"
+
+
+@pytest.mark.parametrize(
+    "text",
+    [
+        "{",
+        "[]",
+        '{"format": 2, "plots": []}',
+        '{"format": 1, "plots": 1}',
+        '{"format": 1, "plots": [1]}',
+        '{"format": 1, "plots": [{"file": "../key", "title": "", "text": ""}]}',
+        '{"format": 1, "plots": [{"file": "none.svg", "title": "", "text": ""}]}',
+        '{"format": 1, "plots": [{"file": "large.svg", "title": "", "text": ""}]}',
+    ],
+)
+def test_plots_that_cant_be_read_leave_those_before(project: Path, bridge: Bridge, text: str) -> None:
+    with_key(project, bridge, 'plots = "plots"')
+    plots_of(project, "results")
+    assert len(images(bridge)) == 1
+    (project / "plots" / "large.svg").write_bytes(bytes(524_289))
+    (project / "plots" / "plots.json").write_text(text)
+    assert len(images(bridge)) == 1
 
 
 # ---- How to join
@@ -118,7 +299,7 @@ def test_the_operators_own_words(project: Path, bridge: Bridge) -> None:
     bridge.restart()
     page = page_of(bridge.got("/p/"))
     assert "We add <numbers>." in page.text and "account key" in page.text
-    assert page.links == ["status"]
+    assert (page.header, page.links) == (["", "status"], [])
     lines = bridge.got("/p/")[2].decode().split("\n")
     assert "<scheduler>http://127.0.0.1:8081/p/cgi</scheduler>" in lines
     assert '<link rel="boinc_scheduler" href="http://127.0.0.1:8081/p/cgi">' in lines
@@ -127,12 +308,14 @@ def test_the_operators_own_words(project: Path, bridge: Bridge) -> None:
 def test_how_to_join(project: Path, open_bridge: Bridge) -> None:
     page = page_of(open_bridge.got("/p/"))
     assert "No, new user" in page.text and "http://127.0.0.1:8081/p/" in page.text
-    assert page.links == ["https://boinc.berkeley.edu/download.php", "status", "account"]
+    assert page.links == ["https://boinc.berkeley.edu/download.php"]
+    assert page.header == ["", "status", "account"]
     (project / "terms.txt").write_text("Be kind.\n")
     with (project / "bridge.toml").open("a") as file:
         file.write('terms = "terms.txt"\n')
     open_bridge.restart()
-    assert page_of(open_bridge.got("/p/")).links[-1] == "terms"
+    page = page_of(open_bridge.got("/p/"))
+    assert page.links[-1] == page.header[-1] == "terms"
     assert "Be kind." in page_of(open_bridge.got("/p/terms")).text
 
 
@@ -342,11 +525,14 @@ def test_a_ranking_of_all_users(open_bridge: Bridge, twin: Twin) -> None:
         and "Computers that called: 130. The last 50 of them:" in page.text
     )
     assert "User 129" in page.text and "User 030" in page.text and "User 029" not in page.text
-    assert page.links == ["status?page=2", "."]
+    assert page.links == ["status?page=2"]
     page = page_of(open_bridge.got("/p/status?page=2"))
-    assert "User 029" in page.text and "101User 029" in page.text and page.links == ["status?page=1", "."]
+    assert "User 029" in page.text and "101User 029" in page.text and page.links == ["status?page=1"]
     for text in ("0", "-1", "x", "99999999", "", "٣", "3"):
-        assert page_of(open_bridge.got(f"/p/status?page={text}")).links[-1] == "."
+        assert page_of(open_bridge.got(f"/p/status?page={text}")).links in (
+            ["status?page=1"],
+            ["status?page=2"],
+        )
 
 
 def test_a_scheduler_that_is_silent(open_bridge: Bridge, twin: Twin) -> None:

@@ -80,7 +80,7 @@ def test_without_a_file_nothing_is_said(bridge: Bridge) -> None:
 def test_a_page_that_does_not_exist(bridge: Bridge) -> None:
     status, fields, body = bridge.got("/p/nope")
     assert status == "404 Not Found" and fields["Content-Type"].startswith("text/html")
-    assert b"There is no such page here." in body and b'href="http://127.0.0.1:8081/p/"' in body
+    assert b"There is no such page here." in body and b'href="/p/"' in body
 
 
 def test_how_to_reach_the_operator(project: Path, bridge: Bridge) -> None:

@@ -247,8 +247,9 @@ def test_without_output_files_nothing_is_uploaded(bridge: Bridge) -> None:
 def test_thirty_uploads_under_one_name_leave_one_file(file_bridge: Bridge) -> None:
     tokens = given(file_bridge)
     answers: list[int] = []
-    handler: Any = file_bridge.application._handlers[uploads.PATH]
-    handler.__self__.places = Places(30)
+    store = file_bridge.application.uploads
+    assert store is not None
+    store.places = Places(30)
 
     def send(number: int) -> None:
         data = b"content %d" % (number % 3)
@@ -268,8 +269,8 @@ def test_thirty_uploads_under_one_name_leave_one_file(file_bridge: Bridge) -> No
 def test_an_upload_waits_for_a_place(file_bridge: Bridge, monkeypatch: pytest.MonkeyPatch) -> None:
     monkeypatch.setattr(uploads, "PLACE_SECONDS", 0.01)
     tokens = given(file_bridge)
-    handler: Any = file_bridge.application._handlers[uploads.PATH]
-    places = handler.__self__.places
+    assert file_bridge.application.uploads is not None
+    places = file_bridge.application.uploads.places
     message = upload("u1_0_0", DATA, tokens["u1_0_0"])
     with places.taken(), places.taken(), places.taken(), places.taken():
         assert sent(file_bridge, message) == AGAIN

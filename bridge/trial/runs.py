@@ -22,6 +22,8 @@ MODULES = {
     "waitress": "python3-waitress",
     "defusedxml": "python3-defusedxml",
     "cryptography": "python3-cryptography",
+    "werkzeug": "python3-werkzeug",
+    "jinja2": "python3-jinja2",
 }
 INSIDE, KEEP = "--inside", "--keep"
 began = time.monotonic()

@@ -15,6 +15,7 @@ jobs                  what happened to one workunit, and what one computer did
 counts                how many there are of each thing
 members, averages, exports      users over several files, and the files that statistics sites read
 history, findings, plots, page  the page: what earlier reports counted, what it says, and how it is drawn
+month                 the plots of the last month for the bridge
 checks, settings_file, doctor   why bsched refuses a file
 projects, volunteers  a project's folder, and which users agreed to be named, and how
 handing               new results for a program of the operator

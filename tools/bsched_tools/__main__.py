@@ -18,6 +18,7 @@ from .faults import Fault
 from .files import replace_file
 from .handing import hand_on
 from .health import findings_of, mail_changes, worst_of
+from .history import History
 from .import_files import KINDS, ImportFile, checked
 from .imports import import_file
 from .jobs import host_lines, workunit_lines
@@ -183,7 +184,8 @@ def statistics(args: Arguments) -> None:
 
 
 def report(args: Arguments) -> None:
-    """Writes the page. For a project it first writes the counts that the bridge shows on its own page."""
+    """Writes the page. For a project it also writes the counts and the plots that the bridge shows on its own
+    pages."""
     project = project_named(args)
     to, title, kept, copies = args.to, args.title, None, copies_of(args, project, False)
     if project is not None:
@@ -191,10 +193,15 @@ def report(args: Arguments) -> None:
         title, all_copies = title or project.title, copies_of(args, project)
         replace_file(kept / "counts.json", (f"{line}\n".encode() for line in as_json(counted(all_copies))))
     try:
+        from .month import write_plots
         from .page import write_report
     except ModuleNotFoundError:
         raise Fault("report: it needs Debian's python3-matplotlib: install that") from None
-    print(write_report(copies[0], needed(args, "to", to), title, chosen(project).names, kept))
+    written = write_report(copies[0], needed(args, "to", to), title, chosen(project).names, kept)
+    if project is not None and kept is not None:
+        entries = History(kept).entries
+        write_plots(project.made(kept / "plots", 0o700), entries, entries[-1].moment)
+    print(written)
 
 
 def health(args: Arguments) -> int:

@@ -23,6 +23,10 @@ FROM instance
 """
 STATES = ("all", "waiting", "held", "late", "reported", "lapsed")
 OWNERS = "SELECT auth, cpid FROM host JOIN account ON account.id = account_id"
+OUT = f"""
+SELECT count(*) FROM unit
+WHERE status = 0 AND EXISTS (SELECT 1 FROM instance WHERE unit_id = unit.id AND {IS_HELD})
+"""
 GIVEN = f"{OWNERS} WHERE EXISTS (SELECT 1 FROM instance WHERE host_id = host.id AND sent >= ?1)"
 LAST_CALLS = f"""
 SELECT auth, cpid, max(seqno)
@@ -45,6 +49,7 @@ class Counts:
 
     moment: int = 0
     workunits: Counter[str] = field(default_factory=Counter)
+    out: int = 0  # open workunits of which a host has an instance
     instances: Counter[str] = field(default_factory=Counter)
     people: dict[str, int] = field(default_factory=dict)
     calls_unknown: str = ""  # why it is not known who called in the last day; empty if it is known
@@ -60,6 +65,7 @@ class Counts:
             "bytes": self.bytes,
             "millicredits": self.millicredits,
             "workunits": dict(self.workunits),
+            "open_workunits": {"out": self.out, "waiting": self.workunits["open"] - self.out},
             "instances": dict(self.instances),
             "people": self.people,
             "limits": {name: {"used": limit.used, "most": limit.most} for name, limit in self.limits.items()},
@@ -131,6 +137,7 @@ def count_rows(tables: Tables, counts: Counts) -> None:
     """Counts the rows of one file."""
     for status, number in tables.rows("SELECT status, count(*) FROM unit GROUP BY status"):
         counts.workunits[STATUSES.get(status, "of no status")] += number
+    counts.out += tables.number(OUT)
     numbers = next(tables.rows(INSTANCES, tables.moment))
     counts.instances.update({state: number or 0 for state, number in zip(STATES, numbers)})
     counts.millicredits += tables.number("SELECT sum(credit) FROM host")

@@ -66,6 +66,7 @@ def lines(name: str, text: str, moments: Sequence[int], series: Mapping[str, Seq
         locator = AutoDateLocator(maxticks=5)
         axes.xaxis.set_major_locator(locator)
         axes.xaxis.set_major_formatter(ConciseDateFormatter(locator))
+        axes.yaxis.set_major_locator(MaxNLocator(integer=True))
         axes.set_ylim(bottom=0)
         axes.grid(axis="y", color=TEXT, alpha=0.15)
         if len(series) > 1:

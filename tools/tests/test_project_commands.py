@@ -230,7 +230,9 @@ def test_page_and_statistics_of_a_project(project: MadeProject, tmp_path: Path) 
         "counts.json",
         "held.json",
         "history.jsonl",
+        "plots",
     ]
+    assert (project.folder / "units" / "plots" / "plots.json").read_text() == '{"format": 1, "plots": []}'
     assert (project.folder / "units").stat().st_mode & 0o777 == 0o700
     assert "<h1>sums: status</h1>" in (tmp_path / "report" / "index.html").read_text()
 

@@ -1,0 +1,65 @@
+"""The URLs of the project, each with what answers it. Werkzeug finds the one that a message asks for."""
+from collections.abc import Callable, Iterable
+from dataclasses import dataclass
+from typing import Any
+
+from werkzeug.exceptions import NotFound
+from werkzeug.routing import BaseConverter, Map, RequestRedirect, Rule
+from werkzeug.wrappers import Request, Response
+
+Handler = Callable[..., Response]
+READ = ("GET", "HEAD")
+FORMS = ("GET", "HEAD", "POST")
+
+
+class Number(BaseConverter):
+    """A number in a path, without zeros in front and of at most nine digits."""
+
+    regex = "[1-9][0-9]{0,8}"
+
+    def to_python(self, value: str) -> int:
+        """Returns the number."""
+        return int(value)
+
+
+@dataclass(frozen=True, slots=True)
+class Route:
+    """A path below the master URL, in Werkzeug's form, with what answers it."""
+
+    path: str
+    handler: Handler
+    methods: tuple[str, ...] = READ
+
+    def rule(self) -> Rule:
+        """Returns the rule. Werkzeug would allow HEAD with each GET, but some of them write."""
+        rule = Rule(f"/{self.path}", endpoint=self.path, methods=self.methods)
+        rule.methods = set(self.methods)
+        return rule
+
+
+class Routes:
+    """All URLs of a project."""
+
+    def __init__(self, path: str, routes: Iterable[Route]) -> None:
+        found = list(routes)
+        self._path, self._handlers = path, {route.path: route.handler for route in found}
+        rules = [route.rule() for route in found]
+        urls = Map(rules, converters={"number": Number}, merge_slashes=False, redirect_defaults=False)
+        self._urls = urls.bind("bridge")
+
+    def matched(self, message: Request) -> tuple[Handler | None, dict[str, Any]]:
+        """Returns what answers a message, and the values in its path; None for a path of the project that
+        does not exist. Raises NotFound for a path elsewhere, and MethodNotAllowed.
+        """
+        path = message.environ.get("SCRIPT_NAME", "") + message.environ.get("PATH_INFO", "")
+        if not path.startswith(self._path):
+            raise NotFound
+        name, method = path.removeprefix(self._path), message.environ["REQUEST_METHOD"]
+        if name.startswith("/"):  # Werkzeug would leave it out
+            return None, {}
+        try:
+            # a name of a method in small letters is another name
+            endpoint, values = self._urls.match(f"/{name}", method if method.isupper() else "NONE")
+        except (NotFound, RequestRedirect):
+            return None, {}
+        return self._handlers[endpoint], dict(values)

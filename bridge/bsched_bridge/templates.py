@@ -1,0 +1,93 @@
+"""Pages from Jinja2's templates, in which every text is escaped, and their style sheet.
+
+There is no script, and one style sheet. Its URL has a hash of its content, so browsers may keep it for good.
+"""
+import hashlib
+import re
+from pathlib import Path
+
+from jinja2 import Environment, FileSystemLoader, StrictUndefined
+from markupsafe import Markup, escape
+from werkzeug.wrappers import Request, Response
+
+from .http_messages import CSS, FOR_GOOD, HTML, NO_STORE, answer
+from .settings import Settings
+from .texts import credits_text, moment_text
+
+FOLDER = Path(__file__).with_name("templates")
+HASH_DIGITS = 16
+POLICY = (
+    "default-src 'none'; style-src 'self'; img-src 'self'; form-action 'self'; base-uri 'none'; "
+    "frame-ancestors 'none'"
+)
+SAFE_FIELDS = {
+    "Content-Security-Policy": POLICY,
+    "Referrer-Policy": "no-referrer",
+    "X-Content-Type-Options": "nosniff",
+}
+WEB_ADDRESS = re.compile(r"https?://[^\s<>\"']*[^\s<>\"'.,;:!?)]")
+
+
+def linked(text: str) -> Markup:
+    """Returns a text in which web addresses are links."""
+    parts, last = Markup(), 0
+    for found in WEB_ADDRESS.finditer(text):
+        parts += escape(text[last : found.start()])
+        parts += Markup('<a href="{0}">{0}</a>').format(found[0])
+        last = found.end()
+    return parts + escape(text[last:])
+
+
+def paragraphs(text: str) -> Markup:
+    """Returns a text that somebody wrote: split at empty lines, with web addresses as links."""
+    parts = (part.strip() for part in re.split(r"\n\s*\n", text.replace("\r\n", "\n")))
+    return Markup().join(Markup("<p>{}</p>").format(linked(part)) for part in parts if part)
+
+
+def whole(number: int) -> str:
+    """Returns a whole number with a comma after each three digits."""
+    return f"{number:,}"
+
+
+def hash_of(content: bytes) -> str:
+    """Returns what tells one content from another, for a URL."""
+    return hashlib.sha256(content).hexdigest()[:HASH_DIGITS]
+
+
+class Templates:
+    """Makes the pages of a project."""
+
+    def __init__(self, settings: Settings) -> None:
+        self._style = (FOLDER / "style.css").read_bytes()
+        self.style_name = f"style-{hash_of(self._style)}.css"
+        self._environment = Environment(
+            loader=FileSystemLoader(FOLDER),
+            autoescape=True,
+            undefined=StrictUndefined,
+            trim_blocks=True,
+            lstrip_blocks=True,
+            auto_reload=False,
+        )
+        self._environment.filters.update(
+            credits=credits_text, moment=moment_text, linked=linked, paragraphs=paragraphs, whole=whole
+        )
+        accounts = settings.accounts
+        self._environment.globals.update(
+            root=settings.path,
+            project=settings.name,
+            style=self.style_name,
+            has_accounts=accounts is not None,
+            has_terms=accounts is not None and accounts.terms is not None,
+        )
+
+    def page(
+        self, template: str, /, *, is_kept: bool = True, http_status: int = 200, **values: object
+    ) -> Response:
+        """Returns a page. If is_kept is false, browsers don't keep it, because it may show a key."""
+        text = self._environment.get_template(template).render(values)
+        fields = SAFE_FIELDS if is_kept else {**SAFE_FIELDS, **NO_STORE}
+        return answer(HTML, text.encode(), fields, http_status)
+
+    def style(self, _message: Request) -> Response:
+        """Returns the style sheet."""
+        return answer(CSS, self._style, {**SAFE_FIELDS, **FOR_GOOD})
