@@ -1,7 +1,7 @@
 """A bridge before the twin, with the files of a project: what tests and `bridge/try_lives` work on."""
 import io
 from pathlib import Path
-from typing import Any
+from typing import Any, cast
 
 from twin import Twin
 
