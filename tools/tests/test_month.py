@@ -59,7 +59,8 @@ def test_the_plots_and_their_words(tmp_path: Path) -> None:
 
 
 def test_one_day_has_no_plots(tmp_path: Path) -> None:
-    for entries in ([], lived(1), lived(2)):
+    lives: list[list[Entry]] = [[], lived(1), lived(2)]
+    for entries in lives:
         write_plots(tmp_path, entries, NOW)
         assert json.loads((tmp_path / "plots.json").read_text()) == {"format": 1, "plots": []}
     assert [path.name for path in tmp_path.iterdir()] == ["plots.json"]
