@@ -5,9 +5,10 @@ that call. Both are on the disk before the call is sent. It also has the jobs in
 lack: those of an answer that came when no client waited for it any more, and those of the latest reply.
 """
 import json
+import sqlite3
 import time
-from collections.abc import Callable
-from dataclasses import asdict, dataclass
+from collections.abc import Callable, Iterable
+from dataclasses import dataclass, fields
 from typing import cast
 
 from .hosts import COUNTED, MOST_NUMBER, Key, new_hostid
@@ -16,6 +17,15 @@ from .scheduler import Job, Reply
 from .state_file import StateFile
 
 
+STATE = (
+    "SELECT open_call, jobs_in_hand, scheduler_hostid IS NOT NULL OR hostid IS NOT NULL, (SELECT name FROM "
+    "member WHERE member.authenticator = host.authenticator) FROM host WHERE authenticator = ? AND host_cpid = ?"
+)
+ANSWERED = (
+    "UPDATE host SET open_call = NULL, jobs_in_hand = ?, scheduler_hostid = ?, user_name = ?, user_credit = ?, "
+    "host_credit = ?, heard_at = ? WHERE authenticator = ? AND host_cpid = ?"
+)
+JOB_MEMBERS = [member.name for member in fields(Job)]
 # Open calls of accounts that the bridge does not know. Somebody may have made these accounts up, and each
 # call takes up to 262,144 bytes of the disk until bsched answers.
 MOST_OF_STRANGERS = 32
@@ -41,24 +51,48 @@ class ClientState:
     copy_of: int | None = None  # the hostid of the host that the client is a copy of
 
 
+@dataclass(frozen=True, slots=True)
+class KeyState:
+    """What the state file has of a key. While the key is held, its call and its jobs in hand stay so."""
+
+    open_call: bytes | None  # that has no answer yet
+    jobs_text: str  # the jobs in hand, as they are stored
+    is_known: bool  # whether the host had a reply, or its client has a number
+    name: str | None  # of the account; None if the bridge does not know the account
+
+    @property
+    def jobs_in_hand(self) -> list[Job]:
+        """The jobs that the client may lack."""
+        return [Job(**job) for job in json.loads(self.jobs_text)]
+
+
+def text_of_jobs(jobs: Iterable[Job]) -> str:
+    """Returns jobs as they are stored."""
+    return json.dumps([{name: getattr(job, name) for name in JOB_MEMBERS} for job in jobs])
+
+
 class CallNumbers:
     """The numbers of calls in a state file."""
 
     def __init__(self, file: StateFile) -> None:
         self.file = file
 
-    def _of_key(self, column: str, key: Key) -> tuple[object, ...] | None:
-        """Returns a column of the row of a key."""
-        return self.file.row(
-            f"SELECT {column} FROM host WHERE authenticator = ? AND host_cpid = ?",
-            key.authenticator,
-            key.host_cpid,
-        )
+    def state(self, key: Key) -> KeyState:
+        """Returns what the state file has of a key."""
+        row = self.file.row(STATE, key.authenticator, key.host_cpid)
+        if row is None:
+            named = self.file.row("SELECT name FROM member WHERE authenticator = ?", key.authenticator)
+            return KeyState(None, "[]", False, None if named is None else cast(str, named[0]))
+        call, jobs, is_known, name = row
+        return KeyState(cast("bytes | None", call), cast(str, jobs), bool(is_known), cast("str | None", name))
 
     def open_call(self, key: Key) -> bytes | None:
         """Returns the call of a key that has no answer yet."""
-        row = self._of_key("open_call", key)
-        return None if row is None else cast("bytes | None", row[0])
+        return self.state(key).open_call
+
+    def jobs_in_hand(self, key: Key) -> list[Job]:
+        """Returns the jobs that the client may lack."""
+        return self.state(key).jobs_in_hand
 
     def next_open(self, after: Key) -> Key | None:
         """Returns the first key after another one that has such a call."""
@@ -70,17 +104,6 @@ class CallNumbers:
             after.host_cpid,
         )
         return None if row is None else Key(cast(str, row[0]), cast(str, row[1]))
-
-    def is_of_stranger(self, key: Key) -> bool:
-        """Returns whether the bridge knows neither the host nor the account of a key."""
-        row = self.file.row(
-            "SELECT EXISTS (SELECT 1 FROM member WHERE authenticator = ?1) OR EXISTS (SELECT 1 FROM host "
-            "WHERE authenticator = ?1 AND host_cpid = ?2 AND (scheduler_hostid IS NOT NULL OR hostid IS NOT "
-            "NULL))",
-            key.authenticator,
-            key.host_cpid,
-        )
-        return row == (0,)
 
     def has_many_of_strangers(self) -> bool:
         """Returns whether there are as many open calls of unknown accounts as there may be."""
@@ -121,14 +144,19 @@ class CallNumbers:
             if number > MOST_NUMBER:
                 raise CountEnded
             call = text(number)
-            connection.execute(
-                "INSERT INTO host (authenticator, host_cpid, last_number, open_call, client_seqno, copy_of) "
-                "VALUES (?, ?, ?, ?, ?, ?) ON CONFLICT (authenticator, host_cpid) DO UPDATE SET "
-                "last_number = excluded.last_number, open_call = excluded.open_call, client_seqno = "
-                "CASE WHEN excluded.client_seqno > ifnull(client_seqno, -1) THEN excluded.client_seqno "
-                "ELSE client_seqno END",
-                (key.authenticator, key.host_cpid, number, call, client.seqno, client.copy_of),
-            )
+            if row is None:
+                connection.execute(
+                    "INSERT INTO host (authenticator, host_cpid, last_number, open_call, client_seqno, copy_of) "
+                    "VALUES (?, ?, ?, ?, ?, ?)",
+                    (key.authenticator, key.host_cpid, number, call, client.seqno, client.copy_of),
+                )
+            else:
+                connection.execute(
+                    "UPDATE host SET last_number = ?1, open_call = ?2, client_seqno = CASE WHEN ?3 > "
+                    "ifnull(client_seqno, -1) THEN ?3 ELSE client_seqno END WHERE authenticator = ?4 AND "
+                    "host_cpid = ?5",
+                    (number, call, client.seqno, key.authenticator, key.host_cpid),
+                )
         return call
 
     # A transaction that closes a call is not synced. If a power failure undoes it, the call is the last of
@@ -149,31 +177,36 @@ class CallNumbers:
                 "UPDATE host SET open_call = NULL WHERE authenticator = ? AND host_cpid = ?", values
             )
 
-    def record_answer(self, key: Key, reply: Reply, jobs_in_hand: list[Job]) -> None:
-        """Closes the open call of a key after a reply. From now on these jobs are in hand."""
-        jobs, now = json.dumps([asdict(job) for job in jobs_in_hand]), int(time.time())
+    def record_answer(
+        self, key: Key, reply: Reply, jobs_in_hand: list[Job], has_account: bool = False
+    ) -> None:
+        """Closes the open call of a key after a reply. From now on these jobs are in hand. The account is
+        inserted, unless the bridge has it already.
+        """
+        now = int(time.time())
+        values = (
+            text_of_jobs(jobs_in_hand),
+            reply.hostid,
+            reply.user_name,
+            reply.user_total_credit,
+            reply.host_total_credit,
+            now,
+            key.authenticator,
+            key.host_cpid,
+        )
         with self.file.transaction(is_synced=False) as connection:
-            # if bsched's tables were restored from an older copy, bsched may give a number a second time
-            connection.execute(
-                "UPDATE host SET scheduler_hostid = NULL "
-                "WHERE authenticator = ? AND scheduler_hostid = ? AND host_cpid <> ?",
-                (key.authenticator, reply.hostid, key.host_cpid),
-            )
-            connection.execute(
-                "UPDATE host SET open_call = NULL, jobs_in_hand = ?, scheduler_hostid = ?, user_name = ?, "
-                "user_credit = ?, host_credit = ?, heard_at = ? WHERE authenticator = ? AND host_cpid = ?",
-                (
-                    jobs,
-                    reply.hostid,
-                    reply.user_name,
-                    reply.user_total_credit,
-                    reply.host_total_credit,
-                    now,
-                    key.authenticator,
-                    key.host_cpid,
-                ),
-            )
-            first_heard(connection, key.authenticator, reply.user_name, now)
+            try:
+                connection.execute(ANSWERED, values)
+            except sqlite3.IntegrityError:
+                # Another host of the account had the number. If bsched's tables were restored from an older
+                # copy, bsched may give a number a second time.
+                connection.execute(
+                    "UPDATE host SET scheduler_hostid = NULL WHERE authenticator = ? AND scheduler_hostid = ?",
+                    (key.authenticator, reply.hostid),
+                )
+                connection.execute(ANSWERED, values)
+            if not has_account:
+                first_heard(connection, key.authenticator, reply.user_name, now)
 
     def give_hostid(self, key: Key) -> int | None:
         """Returns the number of a host, which its client gets with this reply. The host has one if a
@@ -199,10 +232,5 @@ class CallNumbers:
         with self.file.transaction(is_synced=False) as connection:
             connection.execute(
                 "UPDATE host SET jobs_in_hand = ? WHERE authenticator = ? AND host_cpid = ?",
-                (json.dumps([asdict(job) for job in jobs]), key.authenticator, key.host_cpid),
+                (text_of_jobs(jobs), key.authenticator, key.host_cpid),
             )
-
-    def jobs_in_hand(self, key: Key) -> list[Job]:
-        """Returns the jobs that the client may lack."""
-        row = self._of_key("jobs_in_hand", key)
-        return [] if row is None else [Job(**job) for job in json.loads(cast(str, row[0]))]

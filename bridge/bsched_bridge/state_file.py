@@ -142,6 +142,7 @@ class StateFile:
 
     def __init__(self, path: Path, is_guest: bool = False) -> None:
         self._lock, self._held = threading.Lock(), None
+        self._is_synced: bool | None = None  # whether SQLite syncs a commit now; None: as it does by default
         try:
             if is_guest:
                 path.stat()
@@ -190,7 +191,9 @@ class StateFile:
         If is_synced is false, a power failure may undo it, until a later transaction is synced.
         """
         with self._lock:
-            self._connection.execute(f"PRAGMA synchronous = {'FULL' if is_synced else 'NORMAL'}")
+            if is_synced != self._is_synced:
+                self._connection.execute(f"PRAGMA synchronous = {'FULL' if is_synced else 'NORMAL'}")
+                self._is_synced = is_synced
             self._connection.execute("BEGIN IMMEDIATE")
             try:
                 yield self._connection

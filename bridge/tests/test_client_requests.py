@@ -4,6 +4,8 @@ import subprocess
 import sys
 import time
 from pathlib import Path
+from xml.etree.ElementTree import Element
+from xml.sax.saxutils import escape
 
 import pytest
 from hostile import SHAPES
@@ -270,6 +272,63 @@ def test_hostile_requests_take_little_memory_and_time() -> None:
 def test_a_deep_request() -> None:
     with pytest.raises(RequestFault):
         read_request(b"<scheduler_request>" + b"<a>" * 100_000)
+    with pytest.raises(RequestFault, match="too many elements"):
+        read_request(request(extra="<a>" * 20_000 + "</a>" * 20_000).encode())
+    depth = client_requests.MOST_AT_ONCE // 8  # a short one does no harm
+    assert read_request(request(extra="<a>" * depth + "</a>" * depth).encode()).host_cpid == "c1"
+
+
+# ---- The two parsers
+
+NAMES = st.sampled_from(["a", "b", "name", "a:b", "é"])
+XML_TEXTS = st.text(st.sampled_from("x \n\té\U0001f600&<>'\"]"), max_size=6)
+ELEMENTS: st.SearchStrategy[str] = st.recursive(
+    st.builds(lambda name, text: f"<{name}>{escape(text)}</{name}>", NAMES, XML_TEXTS),
+    lambda inner: st.builds(
+        lambda name, parts, tail: f'<{name} x="1" y=\'&lt;\'>{"".join(parts)}{escape(tail)}</{name}>',
+        NAMES,
+        st.lists(inner, max_size=4),
+        XML_TEXTS,
+    ),
+    max_leaves=12,
+)
+
+
+def shape(element: Element) -> tuple[object, ...]:
+    """Returns what is read of an element: all but its attributes."""
+    return element.tag, element.text, element.tail, [shape(one) for one in element]
+
+
+@given(ELEMENTS)
+def test_both_parsers_read_the_same(text: str) -> None:
+    body = text.encode()
+    at_once = client_requests.element_at_once(body)
+    try:
+        expected = client_requests.element_in_pieces([body])
+    except RequestFault:
+        assert at_once is None  # a prefix that is not bound
+    else:
+        assert at_once is not None and shape(at_once) == shape(expected)
+
+
+@pytest.mark.parametrize("name", ["first", "reports", "unlisted"])
+def test_both_parsers_read_the_same_request(name: str, monkeypatch: pytest.MonkeyPatch) -> None:
+    at_once = read_request(recorded(name))
+    monkeypatch.setattr(client_requests, "MOST_AT_ONCE", 0)
+    assert read_request(recorded(name)) == at_once
+
+
+@pytest.mark.parametrize("text", ["<!-- a comment -->", "<a><![CDATA[ <b> ]]></a>", "<?a b?>"])
+def test_requests_with_comments_and_sections_are_read(text: str) -> None:
+    assert read_request(request(extra=text).encode()) == read_request(request().encode())
+
+
+@pytest.mark.parametrize("text", ["<!DOCTYPE a>", "<!DOCTYPE a [<!ENTITY b 'c'>]>", "<!doctype a>"])
+def test_a_document_type_reaches_one_parser_only(text: str) -> None:
+    body = text + "<scheduler_request/>"
+    assert client_requests.element_at_once(body.encode()) is None
+    with pytest.raises(RequestFault):
+        read_request(body.encode())
 
 
 def test_a_number_of_many_digits() -> None:

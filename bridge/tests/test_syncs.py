@@ -9,13 +9,17 @@ from joining import create
 from messages import request
 
 
+LEVELS = {1: "NORMAL", 2: "FULL"}  # as SQLite numbers them
+
+
 @pytest.fixture
 def events(monkeypatch: pytest.MonkeyPatch) -> Callable[..., Any]:
     """Yields a function that returns what a bridge does from now on: SQL statements and messages to
     bsched."""
 
     def watched(bridge: Bridge) -> list[Any]:
-        seen = []
+        level = bridge.file._connection.execute("PRAGMA synchronous").fetchone()[0]
+        seen = [f"PRAGMA synchronous = {LEVELS[level]}"]
         bridge.file._connection.set_trace_callback(seen.append)
         exchange = bridge.application.scheduler._exchange
 
@@ -32,10 +36,9 @@ def events(monkeypatch: pytest.MonkeyPatch) -> Callable[..., Any]:
 def last_commit(seen: list[str]) -> tuple[bool, list[str]]:
     """Returns whether the last transaction was synced, and its statements that write."""
     end = max(place for place, one in enumerate(seen) if one == "COMMIT")
-    start = max(place for place, one in enumerate(seen[:end]) if one.startswith("PRAGMA synchronous"))
-    return seen[start].endswith("FULL"), [
-        one for one in seen[start:end] if one.startswith(("INSERT", "UPDATE"))
-    ]
+    start = max(place for place, one in enumerate(seen[:end]) if one.startswith("BEGIN"))
+    level = [one for one in seen[:start] if one.startswith("PRAGMA synchronous")][-1]
+    return level.endswith("FULL"), [one for one in seen[start:end] if one.startswith(("INSERT", "UPDATE"))]
 
 
 def before(seen: list[str], what: str) -> list[str]:

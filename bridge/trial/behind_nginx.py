@@ -98,15 +98,28 @@ def gunicorn_command(port: int) -> list[str]:
 class Project:
     """A project behind nginx and gunicorn."""
 
-    def __init__(self, program: str, folder: Path, most: int, has_limits: bool = False) -> None:
+    def __init__(
+        self,
+        program: str,
+        folder: Path,
+        most: int = 10**6,
+        has_limits: bool = False,
+        has_files: bool = True,
+        bridge: Path = BRIDGE,
+    ) -> None:
+        """Makes the files of a project with the bridge in a folder. With has_files its application has an
+        output file of at most `most` bytes.
+        """
         self.folder, self.port, bridge_port, scheduler_port = folder, free_port(), free_port(), free_port()
         project.make(folder, f"http://127.0.0.1:{self.port}/", bridge_port, scheduler_port)
-        catalogue = folder / "catalogue.toml"
-        catalogue.write_text(
-            catalogue.read_text().replace('title = "Sums"\n', OUTPUT_FILES.format(most=most))
-        )
-        with (folder / "bridge.toml").open("a") as file:
-            file.write(UPLOADS)
+        self.has_files = has_files
+        if has_files:
+            catalogue = folder / "catalogue.toml"
+            catalogue.write_text(
+                catalogue.read_text().replace('title = "Sums"\n', OUTPUT_FILES.format(most=most))
+            )
+            with (folder / "bridge.toml").open("a") as file:
+                file.write(UPLOADS)
         if has_limits:
             lines = package_lines(folder, self.port, bridge_port)
         else:
@@ -114,7 +127,7 @@ class Project:
         (folder / "nginx.conf").write_text(lines)
         self.most = most
         self.scheduler = Scheduler(program, folder, scheduler_port, project.OPERATOR_KEY)
-        self.bridge = Bridge(folder, bridge_port)
+        self.bridge = Bridge(folder, bridge_port, bridge)
         command = gunicorn_command(bridge_port)
         self.gunicorn = Program("gunicorn", command, folder, bridge_port, self.bridge.environment)
         words = [
@@ -145,7 +158,8 @@ class Project:
                 break
             except (OSError, TrialFault):
                 time.sleep(0.1)
-        self.tokens = UploadTokens((self.folder / "uploads" / "secret").read_bytes())
+        if self.has_files:
+            self.tokens = UploadTokens((self.folder / "uploads" / "secret").read_bytes())
 
     def end(self) -> None:
         """Ends all programs."""

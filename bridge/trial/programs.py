@@ -62,6 +62,14 @@ class Program:
         """Returns what the program wrote to its log."""
         return (self.folder / f"{self.name}.log").read_text(errors="replace")
 
+    def processes(self) -> list[int]:
+        """Returns the numbers of the program's process and of those that it has started."""
+        if self.process is None:
+            raise TrialFault(f"{self.name} does not run")
+        number = self.process.pid
+        found = subprocess.run(["pgrep", "-P", str(number)], capture_output=True, text=True).stdout
+        return [number, *map(int, found.split())]
+
     def kill(self) -> None:
         """Kills the program, which gets no time to do anything."""
         if self.process is not None and self.process.poll() is None:
@@ -107,10 +115,10 @@ class Scheduler(Program):
 class Bridge(Program):
     """The bridge."""
 
-    def __init__(self, folder: Path, port: int):
+    def __init__(self, folder: Path, port: int, code: Path = BRIDGE):
         words = [sys.executable, "-m", "bsched_bridge", "--config", "bridge.toml"]
         super().__init__(
-            "bridge", words, folder, port, {"PYTHONPATH": str(BRIDGE), "PYTHONDONTWRITEBYTECODE": "1"}
+            "bridge", words, folder, port, {"PYTHONPATH": str(code), "PYTHONDONTWRITEBYTECODE": "1"}
         )
 
     def order(self, *words: str) -> str:
