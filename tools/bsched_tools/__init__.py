@@ -16,6 +16,7 @@ counts                how many there are of each thing
 members, averages, exports      users over several files, and the files that statistics sites read
 history, findings, plots, page  the page: what earlier reports counted, what it says, and how it is drawn
 checks, settings_file, doctor   why bsched refuses a file
+starts                how long a start takes, and whether a process is still at it
 projects, volunteers  a project's folder, and which users agreed to be named, and how
 handing               new results for a program of the operator
 import_files, imports files that are imported: what is wrong with them, and how they are sent
