@@ -1,12 +1,14 @@
 """What the bridge keeps in its state file about keys and numbers."""
 import threading
+import time
 from collections.abc import Iterator
+from dataclasses import replace
 from pathlib import Path
 from typing import Any
 
 import pytest
 
-from bsched_bridge.call_numbers import CallNumbers, CountEnded, TooManyHosts
+from bsched_bridge.call_numbers import CallNumbers, CountEnded, KeyState, TooManyHosts
 from bsched_bridge.hosts import FIRST_KEY, MOST_NUMBER, Hosts, Key
 from bsched_bridge.scheduler import Job, Reply
 from bsched_bridge.state_file import StateFile
@@ -62,6 +64,50 @@ def test_an_answer_closes_a_call_and_keeps_jobs(numbers: CallNumbers) -> None:
     assert numbers.next_open(FIRST_KEY) is None
     assert numbers.jobs_in_hand(KEY) == [JOB]
     assert Hosts(numbers.file).heard(10)[0].user_name == "Ann"
+
+
+def test_the_state_of_a_key(numbers: CallNumbers) -> None:
+    assert numbers.state(KEY) == KeyState(None, "[]", False, None)
+    numbers.open(KEY, lambda number: b"call")
+    assert numbers.state(KEY) == KeyState(b"call", "[]", False, None)
+    numbers.record_answer(KEY, reply(), [JOB])
+    state = numbers.state(KEY)
+    assert (state.open_call, state.jobs_in_hand, state.is_known, state.name) == (None, [JOB], True, "Ann")
+    # another host of the account
+    assert numbers.state(Key("ann-key", "c2")) == KeyState(None, "[]", False, "Ann")
+
+
+def test_an_account_that_the_bridge_has_is_not_inserted(numbers: CallNumbers) -> None:
+    numbers.open(KEY, lambda number: b"call")
+    numbers.record_answer(KEY, reply(), [], has_account=True)
+    assert numbers.file.row("SELECT count(*) FROM member") == (0,)
+    numbers.record_answer(KEY, reply(), [])
+    numbers.record_answer(KEY, reply(), [])
+    assert numbers.file.rows("SELECT authenticator, name FROM member") == [("ann-key", "Ann")]
+
+
+def test_a_number_that_bsched_gives_a_second_time_is_that_of_the_latest_reply(numbers: CallNumbers) -> None:
+    hosts, other, stranger = Hosts(numbers.file), Key("ann-key", "c2"), Key("bob-key", "c1")
+    for key in (KEY, stranger, other):
+        numbers.open(key, lambda number: b"call")
+        numbers.record_answer(key, reply(7, (JOB,)), [JOB])
+    assert [hosts.scheduler_hostid(key) for key in (KEY, other, stranger)] == [None, 7, 7]
+    assert [numbers.open_call(key) for key in (KEY, other, stranger)] == [None] * 3
+    numbers.record_answer(other, reply(7), [])
+    assert hosts.scheduler_hostid(other) == 7
+
+
+def test_a_reply_in_the_future_is_older_than_all_others(
+    numbers: CallNumbers, monkeypatch: pytest.MonkeyPatch
+) -> None:
+    """The clock was ahead once. What a later reply says of the credit counts."""
+    now = time.time()
+    for cpid, moment, credit in (("c1", now + 10**6, 5), ("c2", now - 10, 9)):
+        monkeypatch.setattr("time.time", lambda: moment)
+        numbers.open(Key("ann-key", cpid), lambda number: b"call")
+        numbers.record_answer(Key("ann-key", cpid), replace(reply(), hostid=credit, user_total_credit=credit), [])
+    monkeypatch.undo()
+    assert Hosts(numbers.file).user_credits() == [("ann-key", 9)]
 
 
 def test_a_key_without_a_host_is_forgotten_at_a_refusal(numbers: CallNumbers) -> None:

@@ -6,7 +6,7 @@ from typing import Any
 import pytest
 from bridges import Bridge
 from joining import create
-from messages import request
+from messages import FIRST, request
 
 
 LEVELS = {1: "NORMAL", 2: "FULL"}  # as SQLite numbers them
@@ -75,3 +75,26 @@ def test_an_answer_is_not_synced(bridge: Bridge, events: Callable[..., Any]) -> 
     bridge.twin.faults = [json.dumps({"error": "hosts_full", "number": 12})]
     bridge.call(request(cpid="c2"))
     assert not last_commit(seen)[0]
+
+
+def test_a_usual_call_takes_two_transactions(bridge: Bridge, events: Callable[..., Any]) -> None:
+    """Of a host that is known, it reads whose host it is, what is open and in hand, and the last number. It
+    writes the call, and then the answer.
+    """
+    bridge.call(request())
+    bridge.call(request(hostid=FIRST, listed=["u1_0"], seconds=0))
+    seen = events(bridge)
+    bridge.call(request(hostid=FIRST, listed=[], reports=[("u1_0", "42")]))
+    statements = [one.split()[0] for one in seen if not one.startswith("PRAGMA")]
+    assert statements == [
+        "SELECT",
+        "SELECT",
+        "BEGIN",
+        "SELECT",
+        "UPDATE",
+        "COMMIT",
+        "SEND",
+        "BEGIN",
+        "UPDATE",
+        "COMMIT",
+    ]
