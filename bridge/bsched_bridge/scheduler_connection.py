@@ -9,7 +9,7 @@ import socket
 from .settings import Address
 
 MOST_HEAD = 65_536  # bytes of an answer before its body
-BLOCK = 65_536
+BLOCK = 16_384
 STATUS = re.compile(rb"HTTP/1\.[01] ([1-5][0-9][0-9])[ \r]")
 LENGTH = re.compile(rb"\r\ncontent-length:[ \t]*([0-9]{1,18})[ \t]*\r\n", re.IGNORECASE)
 HEAD_ENDS = b"\r\n\r\n"
@@ -53,7 +53,7 @@ def exchanged(address: Address, message: bytes, seconds: float, most: int) -> tu
         answer = b""
         while HEAD_ENDS not in answer:
             answer += received(connection)
-            if len(answer) > MOST_HEAD + BLOCK:
+            if len(answer) > MOST_HEAD:
                 raise FaultyAnswer("the head of the answer does not end")
         head, _, first = answer.partition(HEAD_ENDS)
         status, length = read_head(head)

@@ -24,8 +24,11 @@ def served(*pieces: bytes) -> Iterator[tuple[Address, list[bytes]]]:
             with connection:
                 connection.settimeout(10)
                 heard.append(connection.recv(65536))
-                for piece in pieces:
-                    connection.sendall(piece)
+                try:
+                    for piece in pieces:
+                        connection.sendall(piece)
+                except OSError:
+                    pass  # the other side does not read the rest
 
         thread = threading.Thread(target=serve)
         thread.start()
