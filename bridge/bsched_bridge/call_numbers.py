@@ -11,6 +11,7 @@ from collections.abc import Callable, Iterable
 from dataclasses import dataclass, fields
 from typing import cast
 
+from .barring import Barred
 from .hosts import COUNTED, MOST_NUMBER, Key, new_hostid
 from .members import first_heard
 from .scheduler import Job, Reply
@@ -18,12 +19,27 @@ from .state_file import StateFile
 
 
 STATE = (
-    "SELECT open_call, jobs_in_hand, scheduler_hostid IS NOT NULL OR hostid IS NOT NULL, (SELECT name FROM "
-    "member WHERE member.authenticator = host.authenticator) FROM host WHERE authenticator = ? AND host_cpid = ?"
+    "open_call, jobs_in_hand, last_number, scheduler_hostid IS NOT NULL, hostid IS NOT NULL, "
+    "(SELECT name FROM member WHERE member.authenticator = host.authenticator)"
+)
+OF_KEY = f"SELECT {STATE} FROM host WHERE authenticator = ? AND host_cpid = ?"
+OF_NUMBER = (
+    "SELECT host_cpid, coalesce(client_seqno, 0), "
+    "(SELECT is_deleted FROM barred WHERE barred.authenticator = host.authenticator), "
+    f"{STATE} FROM host WHERE authenticator = ? AND hostid = ?"
+)
+OPENED = (
+    "UPDATE host SET last_number = ?1, open_call = ?2, "
+    "client_seqno = CASE WHEN ?3 > ifnull(client_seqno, -1) THEN ?3 ELSE client_seqno END "
+    "WHERE authenticator = ?4 AND host_cpid = ?5"
+)
+OPENED_AS = (
+    f"{OPENED} AND last_number = ?6 AND jobs_in_hand = ?7 AND open_call IS NULL "
+    "AND scheduler_hostid IS NOT NULL"
 )
 ANSWERED = (
-    "UPDATE host SET open_call = NULL, jobs_in_hand = ?, scheduler_hostid = ?, user_name = ?, user_credit = ?, "
-    "host_credit = ?, heard_at = ? WHERE authenticator = ? AND host_cpid = ?"
+    "UPDATE host SET open_call = NULL, jobs_in_hand = ?, scheduler_hostid = ?, user_name = ?, "
+    "user_credit = ?, host_credit = ?, heard_at = ? WHERE authenticator = ? AND host_cpid = ?"
 )
 JOB_MEMBERS = [member.name for member in fields(Job)]
 # Open calls of accounts that the bridge does not know. Somebody may have made these accounts up, and each
@@ -53,17 +69,48 @@ class ClientState:
 
 @dataclass(frozen=True, slots=True)
 class KeyState:
-    """What the state file has of a key. While the key is held, its call and its jobs in hand stay so."""
+    """What the state file has of a key."""
 
-    open_call: bytes | None  # that has no answer yet
-    jobs_text: str  # the jobs in hand, as they are stored
-    is_known: bool  # whether the host had a reply, or its client has a number
-    name: str | None  # of the account; None if the bridge does not know the account
+    open_call: bytes | None = None  # that has no answer yet
+    jobs_text: str = "[]"  # the jobs in hand, as they are stored
+    last_number: int = 0  # of its calls
+    has_host: bool = False  # whether bsched has the host, by its last reply
+    has_number: bool = False  # whether a client has the host's number
+    name: str | None = None  # of the account; None if the bridge does not know the account
+
+    @property
+    def is_of_stranger(self) -> bool:
+        """Whether the bridge knows neither the host nor its account."""
+        return not self.has_host and not self.has_number and self.name is None
 
     @property
     def jobs_in_hand(self) -> list[Job]:
         """The jobs that the client may lack."""
         return [Job(**job) for job in json.loads(self.jobs_text)]
+
+
+@dataclass(frozen=True, slots=True)
+class KnownHost:
+    """A host with the number that its client was told."""
+
+    key: Key
+    # the client's rpc_seqno in its last request with that number; 0 before the first one
+    client_seqno: int
+    barred: Barred | None  # why the computers of its account are refused, or None
+    state: KeyState
+
+
+def state_of(row: tuple[object, ...]) -> KeyState:
+    """Returns the state in the columns of STATE."""
+    call, jobs, number, has_host, has_number, name = row
+    return KeyState(
+        cast("bytes | None", call),
+        cast(str, jobs),
+        cast(int, number),
+        bool(has_host),
+        bool(has_number),
+        cast("str | None", name),
+    )
 
 
 def text_of_jobs(jobs: Iterable[Job]) -> str:
@@ -77,14 +124,25 @@ class CallNumbers:
     def __init__(self, file: StateFile) -> None:
         self.file = file
 
-    def state(self, key: Key) -> KeyState:
-        """Returns what the state file has of a key."""
-        row = self.file.row(STATE, key.authenticator, key.host_cpid)
+    def of_number(self, authenticator: str, hostid: int) -> KnownHost | None:
+        """Returns the account's host with a number that a client was told."""
+        row = self.file.row(OF_NUMBER, authenticator, hostid)
         if row is None:
-            named = self.file.row("SELECT name FROM member WHERE authenticator = ?", key.authenticator)
-            return KeyState(None, "[]", False, None if named is None else cast(str, named[0]))
-        call, jobs, is_known, name = row
-        return KeyState(cast("bytes | None", call), cast(str, jobs), bool(is_known), cast("str | None", name))
+            return None
+        host_cpid, seqno, is_deleted, *state = row
+        barred = None if is_deleted is None else Barred(is_deleted)
+        key = Key(authenticator, cast(str, host_cpid))
+        return KnownHost(key, cast(int, seqno), barred, state_of(tuple(state)))
+
+    def state(self, key: Key) -> KeyState:
+        """Returns what the state file has of a key. While the key is held, its calls and its jobs in hand
+        stay so.
+        """
+        row = self.file.row(OF_KEY, key.authenticator, key.host_cpid)
+        if row is not None:
+            return state_of(row)
+        row = self.file.row("SELECT name FROM member WHERE authenticator = ?", key.authenticator)
+        return KeyState(name=None if row is None else cast(str, row[0]))
 
     def open_call(self, key: Key) -> bytes | None:
         """Returns the call of a key that has no answer yet."""
@@ -146,18 +204,36 @@ class CallNumbers:
             call = text(number)
             if row is None:
                 connection.execute(
-                    "INSERT INTO host (authenticator, host_cpid, last_number, open_call, client_seqno, copy_of) "
-                    "VALUES (?, ?, ?, ?, ?, ?)",
+                    "INSERT INTO host (authenticator, host_cpid, last_number, open_call, client_seqno, "
+                    "copy_of) VALUES (?, ?, ?, ?, ?, ?)",
                     (key.authenticator, key.host_cpid, number, call, client.seqno, client.copy_of),
                 )
             else:
-                connection.execute(
-                    "UPDATE host SET last_number = ?1, open_call = ?2, client_seqno = CASE WHEN ?3 > "
-                    "ifnull(client_seqno, -1) THEN ?3 ELSE client_seqno END WHERE authenticator = ?4 AND "
-                    "host_cpid = ?5",
-                    (number, call, client.seqno, key.authenticator, key.host_cpid),
-                )
+                connection.execute(OPENED, (number, call, client.seqno, key.authenticator, key.host_cpid))
         return call
+
+    def open_as(
+        self, key: Key, state: KeyState, text: Callable[[int], bytes], client: ClientState
+    ) -> bytes | None:
+        """Does the same for a host that bsched has, if its key is in a state that was read before the key was
+        held. Returns None if it is in another state by now.
+        """
+        number = state.last_number + 1
+        if number > MOST_NUMBER:
+            raise CountEnded
+        call = text(number)
+        values = (
+            number,
+            call,
+            client.seqno,
+            key.authenticator,
+            key.host_cpid,
+            state.last_number,
+            state.jobs_text,
+        )
+        with self.file.transaction() as connection:
+            is_opened = connection.execute(OPENED_AS, values).rowcount == 1
+        return call if is_opened else None
 
     # A transaction that closes a call is not synced. If a power failure undoes it, the call is the last of
     # its key. Sent again, it gets the answer that it had.
@@ -201,7 +277,8 @@ class CallNumbers:
                 # Another host of the account had the number. If bsched's tables were restored from an older
                 # copy, bsched may give a number a second time.
                 connection.execute(
-                    "UPDATE host SET scheduler_hostid = NULL WHERE authenticator = ? AND scheduler_hostid = ?",
+                    "UPDATE host SET scheduler_hostid = NULL "
+                    "WHERE authenticator = ? AND scheduler_hostid = ?",
                     (key.authenticator, reply.hostid),
                 )
                 connection.execute(ANSWERED, values)

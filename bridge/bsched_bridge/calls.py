@@ -44,7 +44,7 @@ def call_text(
     don't fit are listed by their names, so that they don't count as lost. If there are too many names, or
     they leave no room for a single report, all names are left out.
     """
-    record = {
+    record: dict[str, object] = {
         "authenticator": request.authenticator,
         "hostid": 0,
         "rpc_seqno": number,
@@ -67,11 +67,13 @@ def call_text(
     return text
 
 
-def whole_text(record: dict[str, object], results: tuple[Report, ...], other: list[str] | None) -> bytes | None:
+def whole_text(
+    record: dict[str, object], results: tuple[Report, ...], other: list[str] | None
+) -> bytes | None:
     """Returns the text of a call with all reports and all names. If they don't fit, returns None."""
     if len(results) > MOST_REPORTS or len(other or ()) > MOST_OTHER_RESULTS:
         return None
-    whole = {**record, "other_results": other, "results": list(map(told_report, results))}
+    whole: dict[str, object] = {**record, "other_results": other, "results": list(map(told_report, results))}
     if other is None:
         del whole["other_results"]
     text = _written(whole).encode()

@@ -4,9 +4,9 @@ The elements become what the profile accepts, by the table in 'Writing a bridge'
 become whole numbers, and what is longer than the profile allows is cut. What programs wrote does not reach
 the XML parser (request_parts).
 
-Nearly all requests are short and have no comment, section or document type. Python's own parser reads these.
-The others go to defusedxml's parser, piece by piece, which refuses entities and document types. Both give the
-same elements.
+Nearly all requests are short and have no comment, section or document type. Python's own parser reads
+these, without the elements that the bridge does not need. The others go to defusedxml's parser, piece by
+piece, which refuses entities and document types. Both give the same request.
 """
 from collections.abc import Iterable, Iterator
 from dataclasses import dataclass
@@ -28,7 +28,21 @@ MOST_TAG = 65_536  # bytes of a start tag with its attributes, or of a comment
 # Bytes of XML that are read at once, without limits of their own: they have room for 32,768 elements or
 # 26,214 attributes. However deep the elements are, Python makes and frees them without recursion.
 MOST_AT_ONCE = 131_072
-DECLARATION = b"<!"  # begins a comment, a section or a document type
+# What begins a comment, a section, a document type or an instruction. Without them, each `<` begins a tag.
+OTHERS_THAN_TAGS = b"<!", b"<?"
+# Elements that the bridge does not need, with most of a request's text.
+UNUSED = [
+    (f"<{name}>".encode(), f"</{name}>".encode())
+    for name in (
+        "working_global_preferences",
+        "global_preferences",
+        "time_stats",
+        "net_stats",
+        "disk_usage",
+        "app_versions",
+        "in_progress_results",
+    )
+]
 MOST_NUMBER = 10**18
 MOST_SECONDS = 10**9
 MOST_PLATFORMS = 7
@@ -240,16 +254,29 @@ class Tree:
         self._builder.end(tag)
 
 
+def without_unused(text: bytes) -> bytes:
+    """Returns a text in which each `<` begins a tag, without the first element of each unused kind."""
+    for begins, ends in UNUSED:
+        first = text.find(begins)
+        last = text.find(ends, first) if first >= 0 else -1
+        if last >= 0:
+            text = text[:first] + text[last + len(ends) :]
+    return text
+
+
 def element_at_once(text: bytes) -> Element | None:
-    """Returns the element of a text. If its XML is faulty or has declarations, returns None."""
-    if DECLARATION in text:
+    """Returns the element of a text, without what is not needed. Returns None if its XML is faulty, or has
+    more than elements.
+    """
+    if any(mark in text for mark in OTHERS_THAN_TAGS):
         return None
     parser = XMLParser(encoding="utf-8")
     try:
-        parser.feed(text)
-        return parser.close()
+        parser.feed(without_unused(text))
+        root: Element = parser.close()
     except ParseError:
         return None
+    return root
 
 
 def element_in_pieces(pieces: Iterable[bytes]) -> Element:

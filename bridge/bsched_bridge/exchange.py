@@ -16,11 +16,11 @@ from dataclasses import dataclass, replace
 
 from .archives import Archives
 from .barring import Barred, Barring
-from .call_numbers import CallNumbers, ClientState, CountEnded, KeyState, TooManyHosts
+from .call_numbers import CallNumbers, ClientState, CountEnded, KeyState, KnownHost, TooManyHosts
 from .calls import call_text
 from .client_requests import ClientRequest, Report
 from .host_search import HostSearch, TooManySearches
-from .hosts import FIRST_KEY, Hosts, Key, KnownHost
+from .hosts import FIRST_KEY, Hosts, Key
 from .key_locks import Busy, KeyLocks
 from .report_checks import ReportChecks
 from .scheduler import Job, NoAnswer, Refusal, Reply, Scheduler
@@ -106,6 +106,12 @@ def not_taken(names: list[str]) -> str:
 Found = tuple[Key | None, dict[str, Key]]
 
 
+class StateChanged(Exception):
+    """Raised if the state of a key is another one by now than the one that was read before the key was
+    held.
+    """
+
+
 class Exchange:
     """Answers requests."""
 
@@ -134,7 +140,7 @@ class Exchange:
         """Returns the reply to a request, with the jobs that were in hand. If the request is put off, returns
         why and for how long.
         """
-        known = self.hosts.of_number(request.authenticator, request.hostid)
+        known = self.numbers.of_number(request.authenticator, request.hostid)
         reason = self.barring.reason(request.authenticator) if known is None else known.barred
         refused = self._refused(request.authenticator, reason)
         if refused is not None:
@@ -147,7 +153,7 @@ class Exchange:
             return refused
         try:
             if known is not None and request.rpc_seqno >= known.client_seqno:
-                reply = self._call(known.key, request, ClientState(seqno=request.rpc_seqno))
+                reply = self._call(known.key, request, ClientState(seqno=request.rpc_seqno), known.state)
                 return reply if isinstance(reply, PutOff) else Answered(reply)
             with self._locks.held((request.authenticator, request.hostid, request.host_cpid)):
                 return self._of_unknown(request, known)
@@ -299,7 +305,7 @@ class Exchange:
         with self._locks.held(key):
             state = self._settled(key)
             checked = aside if self.reports is None else self.reports.check(key, aside)
-            reply = self._send(key, checked, ClientState(), state)
+            reply = self._send(key, checked, ClientState(), state, True)
             if isinstance(reply, Reply):
                 self.numbers.keep_in_hand(key, jobs_with(reply, state.jobs_in_hand))
                 return replace(reply, results=[], result_abort=[])
@@ -332,19 +338,33 @@ class Exchange:
         answer = self.scheduler.call(call)
         return self.archives.added_to(key, answer) if isinstance(answer, Reply) else answer
 
-    def _call(self, key: Key, request: ClientRequest, client: ClientState = ClientState()) -> Reply | PutOff:
-        """Returns the reply to a request under a key. An open call of the key is sent first."""
+    def _call(
+        self, key: Key, request: ClientRequest, client: ClientState, seen: KeyState | None = None
+    ) -> Reply | PutOff:
+        """Returns the reply to a request under a key. An open call of the key is sent first. The state that
+        was seen before the key is held is nearly always the one that it still has.
+        """
         with self._locks.held(key):
-            state = self._settled(key)
-            if self.reports is None:
-                return self._send(key, request, client, state)
-            reply = self._send(key, self.reports.check(key, request), client, state)
-            if isinstance(reply, PutOff):
-                return reply
-            handed = self.reports.hand_out(key, reply.results)
-            if len(handed) < len(reply.results):
-                self.numbers.keep_in_hand(key, reply.results)
-            return replace(reply, results=handed)
+            if seen is not None and seen.has_host and seen.open_call is None:
+                try:
+                    return self._checked_call(key, request, client, seen, False)
+                except StateChanged:
+                    pass
+            return self._checked_call(key, request, client, self._settled(key), True)
+
+    def _checked_call(
+        self, key: Key, request: ClientRequest, client: ClientState, state: KeyState, is_sure: bool
+    ) -> Reply | PutOff:
+        """Does the same for a key that is held and has no open call. Raises StateChanged."""
+        if self.reports is None:
+            return self._send(key, request, client, state, is_sure)
+        reply = self._send(key, self.reports.check(key, request), client, state, is_sure)
+        if isinstance(reply, PutOff):
+            return reply
+        handed = self.reports.hand_out(key, reply.results)
+        if len(handed) < len(reply.results):
+            self.numbers.keep_in_hand(key, reply.results)
+        return replace(reply, results=handed)
 
     def _is_made_up(self, key: Key, state: KeyState) -> bool:
         """Returns whether bsched does not have the account of a key, if it is doubtful.
@@ -353,17 +373,17 @@ class Exchange:
         account that the bridge does not know nothing is stored then before bsched says that it has it. Its
         hosts can have no job. Raises NoAnswer.
         """
-        if state.is_known or state.name is not None:
+        if not state.is_of_stranger:
             return False
         if self.scheduler.silent_since is None and not self.numbers.has_many_of_strangers():
             return False
         return not self.scheduler.has_account(key.authenticator)
 
     def _send(
-        self, key: Key, request: ClientRequest, client: ClientState, state: KeyState
+        self, key: Key, request: ClientRequest, client: ClientState, state: KeyState, is_sure: bool
     ) -> Reply | PutOff:
         """Returns the reply to a request, with the name that the user chose. The key is held, and has no open
-        call.
+        call. Raises StateChanged.
         """
         if self._is_made_up(key, state):
             return put_off_by(Refusal("bad_account"))
@@ -377,16 +397,10 @@ class Exchange:
         last = 0
         refusal = Refusal("stale")
         for _ in range(COUNT_ATTEMPTS):
-            try:
-                call = self._open_call(key, text, last, client)
-            except TooManyHosts as many:
-                log.warning(
-                    "host %s of account %s is refused: the account has %d hosts",
-                    key.host_cpid,
-                    shown_key(key.authenticator),
-                    many.count,
-                )
-                return too_many_hosts(many.count)
+            call = self._open_call(key, text, last, client, None if is_sure else state)
+            if isinstance(call, PutOff):
+                return call
+            is_sure = True  # nobody else changes the state from now on
             answer = self._answer(key, call)
             if isinstance(answer, Reply):
                 jobs = [] if request.other_results is None else answer.results
@@ -403,8 +417,31 @@ class Exchange:
             log.warning("the count of %s continues from %d, which bsched had reached", key.host_cpid, last)
         return put_off_by(refusal)
 
-    def _open_call(self, key: Key, text: Callable[[int], bytes], last: int, client: ClientState) -> bytes:
-        """Returns the text of a new call. A new host is refused if its account has as many as it may have.
+    def _open_call(
+        self, key: Key, text: Callable[[int], bytes], last: int, client: ClientState, seen: KeyState | None
+    ) -> bytes | PutOff:
+        """Returns the text of a new call. If the state of the key was seen before it was held, it must still
+        be the same, else StateChanged is raised. A new host is refused if its account has as many as it may
+        have.
+        """
+        if seen is not None:
+            call = self.numbers.open_as(key, seen, text, client)
+            if call is None:
+                raise StateChanged
+            return call
+        try:
+            return self._open_counted(key, text, last, client)
+        except TooManyHosts as many:
+            log.warning(
+                "host %s of account %s is refused: the account has %d hosts",
+                key.host_cpid,
+                shown_key(key.authenticator),
+                many.count,
+            )
+            return too_many_hosts(many.count)
+
+    def _open_counted(self, key: Key, text: Callable[[int], bytes], last: int, client: ClientState) -> bytes:
+        """Does the same. Raises TooManyHosts.
 
         The hosts are counted in the state file. If that file and bsched's tables are of different moments,
         the two are reconciled first. A host that bsched does not have makes room.

@@ -11,7 +11,6 @@ import time
 from dataclasses import dataclass
 from typing import cast
 
-from .barring import Barred
 from .state_file import StateFile
 
 MOST_NUMBER = 2**31 - 1
@@ -31,16 +30,6 @@ class Key:
 
 
 FIRST_KEY = Key("", "")  # before all keys
-
-
-@dataclass(frozen=True, slots=True)
-class KnownHost:
-    """A host with the number that its client was told."""
-
-    key: Key
-    # the client's rpc_seqno in its last request with that number; 0 before the first one
-    client_seqno: int
-    barred: Barred | None  # why the computers of its account are refused, or None
 
 
 @dataclass(frozen=True, slots=True)
@@ -86,20 +75,6 @@ class Hosts:
         self.file = file
 
     # ---- Whose host a client is
-
-    def of_number(self, authenticator: str, hostid: int) -> KnownHost | None:
-        """Returns the account's host with a number that a client was told."""
-        row = self.file.row(
-            "SELECT host_cpid, coalesce(client_seqno, 0), (SELECT is_deleted FROM barred "
-            "WHERE barred.authenticator = host.authenticator) FROM host WHERE authenticator = ? AND hostid = ?",
-            authenticator,
-            hostid,
-        )
-        if row is None:
-            return None
-        host_cpid, seqno, is_deleted = row
-        barred = None if is_deleted is None else Barred(is_deleted)
-        return KnownHost(Key(authenticator, cast(str, host_cpid)), cast(int, seqno), barred)
 
     def key_for_copy(self, authenticator: str, hostid: int) -> Key:
         """Returns the key for a client that sends the number of another host, or an unknown one. It is a new

@@ -59,7 +59,9 @@ class SchedulerMessages:
         blocks = blocks_of(environ, length)
         try:
             with self.places.taken(0.0 if self.exchange.scheduler.is_slow else PLACE_SECONDS):
-                request = self.catalogue().by_resource(self.reader.read(blocks, length))
+                asked = self.reader.read(blocks, length)
+                catalogue = self.catalogue()
+                request = catalogue.by_resource(asked)
                 answered = self.exchange.answer(request)
         except RequestFault as fault:
             answered = PutOff(f"Error in request message: {fault}", HOUR)
@@ -71,7 +73,9 @@ class SchedulerMessages:
             return Answer(XML, self.writer.put_off(answered))
         reply = answered.reply
         recent = self._recent(request.authenticator, reply.hostid)
-        self.writer = writer = self.writer.with_catalogue(self.catalogue())
+        if reply.results:
+            catalogue = self.catalogue()  # it may have been edited meanwhile
+        self.writer = writer = self.writer.with_catalogue(catalogue)
         return Answer(XML, writer.reply(request, reply, answered.hostid, answered.notice, recent))
 
     def _recent(self, authenticator: str, scheduler_hostid: int) -> Recent | None:

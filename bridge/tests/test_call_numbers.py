@@ -8,7 +8,15 @@ from typing import Any
 
 import pytest
 
-from bsched_bridge.call_numbers import CallNumbers, CountEnded, KeyState, TooManyHosts
+from bsched_bridge.barring import Barred, Barring
+from bsched_bridge.call_numbers import (
+    CallNumbers,
+    ClientState,
+    CountEnded,
+    KeyState,
+    KnownHost,
+    TooManyHosts,
+)
 from bsched_bridge.hosts import FIRST_KEY, MOST_NUMBER, Hosts, Key
 from bsched_bridge.scheduler import Job, Reply
 from bsched_bridge.state_file import StateFile
@@ -67,14 +75,81 @@ def test_an_answer_closes_a_call_and_keeps_jobs(numbers: CallNumbers) -> None:
 
 
 def test_the_state_of_a_key(numbers: CallNumbers) -> None:
-    assert numbers.state(KEY) == KeyState(None, "[]", False, None)
+    assert numbers.state(KEY) == KeyState()
+    assert numbers.state(KEY).is_of_stranger
     numbers.open(KEY, lambda number: b"call")
-    assert numbers.state(KEY) == KeyState(b"call", "[]", False, None)
+    assert numbers.state(KEY) == KeyState(b"call", last_number=1)
+    assert numbers.state(KEY).is_of_stranger
     numbers.record_answer(KEY, reply(), [JOB])
     state = numbers.state(KEY)
-    assert (state.open_call, state.jobs_in_hand, state.is_known, state.name) == (None, [JOB], True, "Ann")
-    # another host of the account
-    assert numbers.state(Key("ann-key", "c2")) == KeyState(None, "[]", False, "Ann")
+    assert replace(state, jobs_text="[]") == KeyState(last_number=1, has_host=True, name="Ann")
+    assert state.jobs_in_hand == [JOB] and not state.is_of_stranger
+    hostid = numbers.give_hostid(KEY)
+    known = numbers.of_number("ann-key", hostid or 0)
+    assert known == KnownHost(KEY, 0, None, replace(state, has_number=True))
+    assert not KeyState(has_number=True).is_of_stranger
+    # another host of the account, and another account
+    assert numbers.state(Key("ann-key", "c2")) == KeyState(name="Ann")
+    assert not KeyState(name="Ann").is_of_stranger
+    assert numbers.of_number("bob-key", hostid or 0) is None
+
+
+def test_a_barred_account_of_a_known_host(numbers: CallNumbers) -> None:
+    numbers.open(KEY, lambda number: b"call")
+    numbers.record_answer(KEY, reply(), [])
+    hostid = numbers.give_hostid(KEY) or 0
+    Barring(numbers.file).bar("ann-key", 1000)
+    known = numbers.of_number("ann-key", hostid)
+    assert known is not None and known.barred is Barred.BY_OPERATOR
+    Barring(numbers.file).unbar("ann-key")
+    known = numbers.of_number("ann-key", hostid)
+    assert known is not None and known.barred is None
+
+
+def test_a_call_of_a_state_that_was_seen(numbers: CallNumbers) -> None:
+    """It is opened only if nothing of it has changed, and else nothing changes."""
+    numbers.open(KEY, lambda number: b"call")
+    seen = numbers.state(KEY)
+
+    def opened(state: KeyState, seqno: int = 3) -> bytes | None:
+        return numbers.open_as(KEY, state, lambda number: b"%d" % number, ClientState(seqno=seqno))
+
+    assert opened(replace(seen, open_call=None)) is None  # there is an open call
+    numbers.record_refusal(KEY)
+    assert opened(seen) is None  # the key is forgotten
+    numbers.open(KEY, lambda number: b"call")
+    numbers.record_answer(KEY, reply(), [JOB])
+    seen = numbers.state(KEY)
+    assert opened(replace(seen, jobs_text="[]")) is None
+    assert opened(replace(seen, last_number=7)) is None
+    assert numbers.state(KEY) == seen
+    assert opened(seen) == b"2"
+    assert numbers.state(KEY) == replace(seen, last_number=2, open_call=b"2")
+    assert opened(seen) is None
+    numbers.record_answer(KEY, reply(), [JOB])
+    Hosts(numbers.file).mark_gone(KEY)
+    assert opened(replace(seen, last_number=2)) is None  # it counts for the limit of hosts
+
+
+@pytest.mark.parametrize("told, kept", [([3, 5, 4], 5), ([None, 0], 0), ([None], None)])
+def test_the_count_of_a_client_never_falls(
+    numbers: CallNumbers, told: list[int | None], kept: int | None
+) -> None:
+    numbers.open(KEY, lambda number: b"call")
+    for seqno in told:
+        numbers.record_answer(KEY, reply(), [])
+        numbers.open_as(KEY, numbers.state(KEY), lambda number: b"call", ClientState(seqno=seqno))
+    assert numbers.file.row("SELECT client_seqno FROM host") == (kept,)
+
+
+def test_the_last_number_of_a_state_that_was_seen(numbers: CallNumbers) -> None:
+    numbers.open(KEY, lambda number: b"call", MOST_NUMBER - 2)
+    numbers.record_answer(KEY, reply(), [])
+    state = numbers.state(KEY)
+    assert numbers.open_as(KEY, state, lambda number: b"%d" % number, ClientState()) == b"%d" % MOST_NUMBER
+    numbers.record_answer(KEY, reply(), [])
+    with pytest.raises(CountEnded):
+        numbers.open_as(KEY, numbers.state(KEY), lambda number: b"never", ClientState())
 
 
 def test_an_account_that_the_bridge_has_is_not_inserted(numbers: CallNumbers) -> None:
@@ -105,7 +180,9 @@ def test_a_reply_in_the_future_is_older_than_all_others(
     for cpid, moment, credit in (("c1", now + 10**6, 5), ("c2", now - 10, 9)):
         monkeypatch.setattr("time.time", lambda: moment)
         numbers.open(Key("ann-key", cpid), lambda number: b"call")
-        numbers.record_answer(Key("ann-key", cpid), replace(reply(), hostid=credit, user_total_credit=credit), [])
+        numbers.record_answer(
+            Key("ann-key", cpid), replace(reply(), hostid=credit, user_total_credit=credit), []
+        )
     monkeypatch.undo()
     assert Hosts(numbers.file).user_credits() == [("ann-key", 9)]
 

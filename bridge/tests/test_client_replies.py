@@ -21,7 +21,9 @@ from bsched_bridge.scheduler import Job, Reply
 from bsched_bridge.upload_tokens import UploadTokens
 
 # texts that must be escaped, that XML does not allow, and any others
-TEXTS = st.text(st.one_of(st.sampled_from("&<>\"'\r\n\t \0\x1f\x7f\ufffe\uffffé"), st.characters()), max_size=12)
+TEXTS = st.text(
+    st.one_of(st.sampled_from("&<>\"'\r\n\t \0\x1f\x7f\ufffe\uffffé"), st.characters()), max_size=12
+)
 NUMBERS = st.integers(0, 2**63)
 
 
@@ -66,7 +68,9 @@ def catalogue() -> Catalogue:
     ]
     platforms = ("linux", "linux.mt", "linux.gpu")
     versions = {
-        (app.name, platform, 3): version(app.name, platform, "a & b") for app in apps for platform in platforms
+        (app.name, platform, 3): version(app.name, platform, "a & b")
+        for app in apps
+        for platform in platforms
     }
     works = {"own": Work("--own", (InputFile("own.txt", "own"),))}
     named = {one.name: one for one in classes}
@@ -102,14 +106,18 @@ REQUESTS = [
     read_request([text.encode()])
     for text in (
         request(),
-        request(seconds=0, extra="<code_sign_key>1024 00ff .</code_sign_key><msg_from_host>x</msg_from_host>"),
+        request(
+            seconds=0, extra="<code_sign_key>1024 00ff .</code_sign_key><msg_from_host>x</msg_from_host>"
+        ),
         request(extra="<code_sign_key>another</code_sign_key><p_ncpus>4</p_ncpus>"),
     )
 ]
 TOKENS = UploadTokens(b"secret")
 
 
-def writers(has_accounts: bool, has_tokens: bool, name: str = "Sums & <more>") -> tuple[ReplyWriter, PlainReplies]:
+def writers(
+    has_accounts: bool, has_tokens: bool, name: str = "Sums & <more>"
+) -> tuple[ReplyWriter, PlainReplies]:
     """Returns the writer of a project's replies, and the plain one."""
     words = CATALOGUE, name, "http://127.0.0.1:8081/p/", TOKENS if has_tokens else None, has_accounts
     return ReplyWriter(*words), PlainReplies(*words)
@@ -134,7 +142,9 @@ def test_replies(
     has_tokens: bool,
 ) -> None:
     writer, plain = writers(has_accounts, has_tokens)
-    assert writer.reply(asked, reply, hostid, notice, recent) == plain.reply(asked, reply, hostid, notice, recent)
+    assert writer.reply(asked, reply, hostid, notice, recent) == plain.reply(
+        asked, reply, hostid, notice, recent
+    )
 
 
 @given(TEXTS, TEXTS, st.integers(0, 10**6), st.booleans())

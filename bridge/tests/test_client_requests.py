@@ -280,7 +280,7 @@ def test_a_deep_request() -> None:
 
 # ---- The two parsers
 
-NAMES = st.sampled_from(["a", "b", "name", "a:b", "é"])
+NAMES = st.sampled_from(["a", "b", "name", "a:b", "é", "time_stats", "app_versions"])
 XML_TEXTS = st.text(st.sampled_from("x \n\té\U0001f600&<>'\"]"), max_size=6)
 ELEMENTS: st.SearchStrategy[str] = st.recursive(
     st.builds(lambda name, text: f"<{name}>{escape(text)}</{name}>", NAMES, XML_TEXTS),
@@ -294,28 +294,59 @@ ELEMENTS: st.SearchStrategy[str] = st.recursive(
 )
 
 
+UNUSED = ["time_stats", "app_versions"]
+
+
 def shape(element: Element) -> tuple[object, ...]:
-    """Returns what is read of an element: all but its attributes."""
-    return element.tag, element.text, element.tail, [shape(one) for one in element]
+    """Returns what is read of an element: all but its attributes, the unused elements, and the texts around
+    elements.
+    """
+    inner = [shape(one) for one in element if one.tag not in UNUSED]
+    return element.tag, inner or element.text, inner
 
 
 @given(ELEMENTS)
+@example("<a><time_stats><a/></time_stats><b>1</b><time_stats><a/></time_stats></a>")
+@example("<a><time_stats><time_stats/></time_stats><b>1</b></a>")
+@example("<a><time_stats><time_stats></time_stats></time_stats><b>1</b></a>")
+@example("<time_stats><a/></time_stats>")
 def test_both_parsers_read_the_same(text: str) -> None:
-    body = text.encode()
+    body = f"<a>{text}</a>".encode()
     at_once = client_requests.element_at_once(body)
     try:
         expected = client_requests.element_in_pieces([body])
     except RequestFault:
         assert at_once is None  # a prefix that is not bound
     else:
-        assert at_once is not None and shape(at_once) == shape(expected)
+        # of an unused element in another one of its name, the first end is that of the inner one
+        assert at_once is None or shape(at_once) == shape(expected)
+        assert at_once is not None or "time_stats" in text or "app_versions" in text
 
 
-@pytest.mark.parametrize("name", ["first", "reports", "unlisted"])
+@pytest.mark.parametrize("name", ["first", "reports", "unlisted", "whole"])
 def test_both_parsers_read_the_same_request(name: str, monkeypatch: pytest.MonkeyPatch) -> None:
-    at_once = read_request(recorded(name))
+    result = recorded("whole_result").replace(b"@NAME@", b"u1_0")
+    body = recorded(name).replace(b"@CPID@", b"c1").replace(b"@RESULTS@", result)
+    body = body.replace(b"@HOSTID@", b"7").replace(b"@SEQNO@", b"5")
+    at_once = read_request(body)
     monkeypatch.setattr(client_requests, "MOST_AT_ONCE", 0)
-    assert read_request(recorded(name)) == at_once
+    assert read_request(body) == at_once
+
+
+def test_a_request_as_long_as_those_of_clients() -> None:
+    body = recorded("whole").replace(b"@CPID@", b"c1").replace(b"@RESULTS@", recorded("whole_result"))
+    parsed = read_request(
+        body.replace(b"@HOSTID@", b"7").replace(b"@SEQNO@", b"5").replace(b"@NAME@", b"u1_0")
+    )
+    assert (parsed.authenticator, parsed.hostid, parsed.rpc_seqno, parsed.host_cpid) == (
+        "ann-key",
+        7,
+        5,
+        "c1",
+    )
+    assert (parsed.p_ncpus, parsed.p_fpops, parsed.m_nbytes) == (4, 10**9, 25_276_080_128)
+    assert parsed.results == (Report("u1_0", 0, "500500"),) and parsed.other_results == ()
+    assert parsed.alt_platforms == ("i686-pc-linux-gnu",) and parsed.coprocs == ()
 
 
 @pytest.mark.parametrize("text", ["<!-- a comment -->", "<a><![CDATA[ <b> ]]></a>", "<?a b?>"])

@@ -318,8 +318,7 @@ def test_a_host_without_a_reply_is_forgotten_after_a_refusal_and_one_with_a_numb
     twin.faults = ['{"error":"hosts_full","number":12}'] * 2
     two.call(request(cpid="c"))
     two.call(request(hostid=A, cpid="a"))
-    hosts = Hosts(two.file)
-    assert hosts.of_number("ann-key", A).key == Key("ann-key", "a")
+    assert two.numbers.of_number("ann-key", A).key == Key("ann-key", "a")
     assert two.file.row("SELECT count(*) FROM host") == (2,)
 
 

@@ -91,7 +91,18 @@ def test_of_a_long_body_is_one_byte_more_than_allowed() -> None:
         b"SSH-2.0-OpenSSH_9.2p1\r\n\r\n",
         b"HTTP/1.1 200 OK\r\n" + b"a: b\r\n" * (MOST_HEAD // 2),
     ],
-    ids=["nothing", "a line", "a head", "half", "no length", "another field", "a sign", "HTTP/2", "SSH", "a long head"],
+    ids=[
+        "nothing",
+        "a line",
+        "a head",
+        "half",
+        "no length",
+        "another field",
+        "a sign",
+        "HTTP/2",
+        "SSH",
+        "a long head",
+    ],
 )
 def test_what_is_no_answer(text: bytes) -> None:
     with pytest.raises((FaultyAnswer, ConnectionError)):

@@ -78,9 +78,7 @@ def test_an_answer_is_not_synced(bridge: Bridge, events: Callable[..., Any]) -> 
 
 
 def test_a_usual_call_takes_two_transactions(bridge: Bridge, events: Callable[..., Any]) -> None:
-    """Of a host that is known, it reads whose host it is, what is open and in hand, and the last number. It
-    writes the call, and then the answer.
-    """
+    """Of a host that is known, it reads the row, writes the call, and then the answer."""
     bridge.call(request())
     bridge.call(request(hostid=FIRST, listed=["u1_0"], seconds=0))
     seen = events(bridge)
@@ -88,9 +86,7 @@ def test_a_usual_call_takes_two_transactions(bridge: Bridge, events: Callable[..
     statements = [one.split()[0] for one in seen if not one.startswith("PRAGMA")]
     assert statements == [
         "SELECT",
-        "SELECT",
         "BEGIN",
-        "SELECT",
         "UPDATE",
         "COMMIT",
         "SEND",

@@ -14,7 +14,9 @@ from .tables import check_file, connected, faults_of, schema_fault
 
 # on a quiet machine (docs/MEASURED.md, "Openings, imports and upgrades")
 ROWS_A_SECOND = 50_000
-ROWS = "SELECT " + " + ".join(f"(SELECT count(*) FROM {name})" for name in ("unit", "instance", "host", "kept4"))
+ROWS = "SELECT " + " + ".join(
+    f"(SELECT count(*) FROM {name})" for name in ("unit", "instance", "host", "kept4")
+)
 LISTENS = "0A"  # the state of a socket in /proc/net/tcp
 SOCKET = re.compile(r"socket:\[([0-9]+)\]")
 
