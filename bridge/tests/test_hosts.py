@@ -9,7 +9,7 @@ from random_lives import further_file
 from twin import Twin
 
 from bsched_bridge.host_search import MOST_SEARCHES
-from bsched_bridge.hosts import FIRST_SECOND, LAST_BY_CLOCK, Hosts, Key
+from bsched_bridge.hosts import FIRST_SECOND, LAST_BY_CLOCK, Key
 
 A, B = FIRST, FIRST + 1  # two computers of Ann
 
