@@ -43,7 +43,7 @@ UNUSED = [
         "in_progress_results",
     )
 ]
-MOST_NUMBER = 10**18
+MOST_NUMBER, NO_NUMBER = 10**18, Decimal("nan")
 MOST_SECONDS = 10**9
 MOST_PLATFORMS = 7
 MOST_COPROCS = 16  # types of coprocessors of a host
@@ -129,26 +129,19 @@ class Fields:
         element = self._elements.get(name)
         return None if element is None else (element.text or "").strip()
 
-    def decimal(self, name: str) -> Decimal | None:
-        """Returns the decimal number of an element, or None if there is no such element."""
-        text = self.text(name)
-        if text is None:
-            return None
-        try:
-            number = Decimal(text)
-        except InvalidOperation:
-            number = Decimal("nan")
-        if number.is_nan():
-            raise RequestFault(f"{self._of}{name} is not a number")
-        return number
-
     def whole(self, name: str, least: int, most: int, absent: int, up: bool = False) -> int:
         """Returns the whole number of an element, rounded down or up. A number outside the range becomes its
-        nearest bound.
+        nearest bound. If there is no such element, returns `absent`.
         """
-        number = self.decimal(name)
-        if number is None:
+        element = self._elements.get(name)
+        if element is None:
             return absent
+        try:
+            number = Decimal((element.text or "").strip())
+        except InvalidOperation:
+            number = NO_NUMBER
+        if number.is_nan():
+            raise RequestFault(f"{self._of}{name} is not a number")
         if number <= least:
             return least
         if number >= most:
@@ -255,12 +248,14 @@ class Tree:
 
 
 def without_unused(text: bytes) -> bytes:
-    """Returns a text in which each `<` begins a tag, without the first element of each unused kind."""
+    """Returns a text in which each `<` begins a tag, with an empty element in the place of the first one of
+    each unused kind.
+    """
     for begins, ends in UNUSED:
         first = text.find(begins)
         last = text.find(ends, first) if first >= 0 else -1
         if last >= 0:
-            text = text[:first] + text[last + len(ends) :]
+            text = text[:first] + b"<unused/>" + text[last + len(ends) :]
     return text
 
 

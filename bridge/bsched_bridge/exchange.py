@@ -406,6 +406,8 @@ class Exchange:
                 jobs = [] if request.other_results is None else answer.results
                 self.numbers.record_answer(key, answer, jobs, state.name is not None)
                 name = answer.user_name if state.name is None else state.name
+                if name == answer.user_name and not in_hand:
+                    return answer
                 return replace(answer, user_name=name, results=jobs_with(answer, in_hand))
             refusal = answer
             self.numbers.record_refusal(key)

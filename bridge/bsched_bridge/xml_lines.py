@@ -8,13 +8,11 @@ from .words import xml_text
 
 INDENT = "    "
 # each character that must be escaped in a text, or that XML 1.0 does not allow
-ODD = re.compile("[^\t\n\r\x20-\x25\x27-\x3b\x3d\x3f-\ud7ff\ue000-\ufffd\U00010000-\U0010ffff]")
+odd_in = re.compile("[^\t\n\r\x20-\x25\x27-\x3b\x3d\x3f-\ud7ff\ue000-\ufffd\U00010000-\U0010ffff]").search
 
 
 def escaped(text: str) -> str:
     """Returns a text as XML has it. A character that XML does not allow is U+FFFD."""
-    if ODD.search(text) is None:
-        return text
     return xml_text(text).replace("&", "&amp;").replace("<", "&lt;").replace(">", "&gt;")
 
 
@@ -26,9 +24,11 @@ class XmlLines:
         self._indent = INDENT
         self._names = [name]  # of the elements that are not ended yet
 
-    def add(self, name: str, value: object) -> None:
+    def add(self, name: str, value: str | int) -> None:
         """Adds an element with a text."""
-        self._lines.append(f"{self._indent}<{name}>{escaped(str(value))}</{name}>")
+        if isinstance(value, str) and odd_in(value):
+            value = escaped(value)
+        self._lines.append(f"{self._indent}<{name}>{value}</{name}>")
 
     def add_message(self, text: str, priority: str) -> None:
         """Adds a message, which the client shows to the volunteer."""

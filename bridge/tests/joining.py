@@ -166,12 +166,11 @@ class Stops:
                 self.is_here = stops.passed == stops.at
                 return self.inner.__enter__()
 
-            def __exit__(self, *fault: Any) -> Any:
-                ends = self.inner.__exit__(*fault)
+            def __exit__(self, *fault: Any) -> None:
+                self.inner.__exit__(*fault)
                 if self.is_here:
                     stops.is_stopped = True
                     raise Stopped
-                return ends
 
         monkeypatch.setattr(bridge.file, "transaction", Transaction)
         monkeypatch.setattr(

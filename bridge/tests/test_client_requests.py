@@ -294,15 +294,12 @@ ELEMENTS: st.SearchStrategy[str] = st.recursive(
 )
 
 
-UNUSED = ["time_stats", "app_versions"]
+UNUSED = ["time_stats", "app_versions", "unused"]
 
 
 def shape(element: Element) -> tuple[object, ...]:
-    """Returns what is read of an element: all but its attributes, the unused elements, and the texts around
-    elements.
-    """
-    inner = [shape(one) for one in element if one.tag not in UNUSED]
-    return element.tag, inner or element.text, inner
+    """Returns what is read of an element: all but its attributes and the unused elements."""
+    return element.tag, element.text, [shape(one) for one in element if one.tag not in UNUSED]
 
 
 @given(ELEMENTS)
@@ -310,6 +307,7 @@ def shape(element: Element) -> tuple[object, ...]:
 @example("<a><time_stats><time_stats/></time_stats><b>1</b></a>")
 @example("<a><time_stats><time_stats></time_stats></time_stats><b>1</b></a>")
 @example("<time_stats><a/></time_stats>")
+@example("<a><time_stats>1</time_stats>2</a>")
 def test_both_parsers_read_the_same(text: str) -> None:
     body = f"<a>{text}</a>".encode()
     at_once = client_requests.element_at_once(body)

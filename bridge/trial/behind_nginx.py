@@ -52,7 +52,7 @@ UNLIMITED = """
 TEMPLATES = BRIDGE.parent / "packaging" / "nginx"
 LIMITS = (TEMPLATES / "limits.conf").read_text()
 LOCATIONS = (TEMPLATES / "locations.conf").read_text()
-UNIT = BRIDGE.parent / "debian" / "bsched-tools@.bsched-bridge.service"
+UNIT = Path("debian", "bsched-tools@.bsched-bridge.service")
 
 
 def free_port() -> int:
@@ -87,9 +87,10 @@ def filled(folder: Path, port: int, bridge_port: int, locations: str) -> str:
     return NGINX.format(folder=folder, port=port, limits=limits, locations=locations)
 
 
-def gunicorn_command(port: int) -> list[str]:
-    """Returns the command of the unit."""
-    line = re.search(r"^ExecStart=/usr/bin/(gunicorn .*)$", UNIT.read_text(), re.MULTILINE)
+def gunicorn_command(port: int, bridge: Path) -> list[str]:
+    """Returns the command of the unit of a clone."""
+    unit = (bridge.parent / UNIT).read_text()
+    line = re.search(r"^ExecStart=/usr/bin/(gunicorn .*)$", unit, re.MULTILINE)
     if line is None:
         raise TrialFault("the unit of the bridge runs no gunicorn")
     return shlex.split(line[1].replace("${BRIDGE_PORT}", str(port)))
@@ -128,7 +129,7 @@ class Project:
         self.most = most
         self.scheduler = Scheduler(program, folder, scheduler_port, project.OPERATOR_KEY)
         self.bridge = Bridge(folder, bridge_port, bridge)
-        command = gunicorn_command(bridge_port)
+        command = gunicorn_command(bridge_port, bridge)
         self.gunicorn = Program("gunicorn", command, folder, bridge_port, self.bridge.environment)
         words = [
             "nginx",
