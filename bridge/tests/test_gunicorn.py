@@ -114,7 +114,7 @@ def test_several_clients_at_once(project: Path, twin: Twin) -> None:
 
 
 def test_a_client_that_sends_slowly(project: Path, twin: Twin) -> None:
-    """A thread looks each second whether the worker ends, if it waits for a connection, but not within one."""
+    """A thread looks each second whether the worker ends, but not while it reads a message."""
     with served(project, twin) as (port, _):
         text = call(0, 1).encode()
         with socket.create_connection(("127.0.0.1", port), timeout=60) as connection:
