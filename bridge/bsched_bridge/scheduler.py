@@ -1,4 +1,4 @@
-"""The connection to bsched, and what its answers say (docs/PROFILE.md, "The reply", "Refusals" and "HTTP
+"""Messages to bsched, and what its answers say (docs/PROFILE.md, "The reply", "Refusals" and "HTTP
 messages").
 """
 import json
