@@ -1,7 +1,9 @@
 """What tests of accounts share: messages as BOINC's client sends them, and checks of the accounts at the end.
 """
 import hashlib
+import random
 import re
+import socket
 import time
 import xml.etree.ElementTree as ElementTree
 from collections.abc import Callable
@@ -104,12 +106,23 @@ def made_accounts(twin: Twin) -> list[str]:
 
 
 def wait_until(is_so: Callable[..., Any]) -> None:
-    """Waits until something is so, for ten seconds at most."""
-    for _ in range(1000):
-        if is_so():
-            return
+    """Waits until something is so, for a minute at most: a busy machine may take long."""
+    ends = time.monotonic() + 60
+    while not is_so():
+        assert time.monotonic() < ends, "it did not come about"
         time.sleep(0.01)
-    raise AssertionError("it did not come about")
+
+
+def free_port() -> int:
+    """Returns a port on which nothing listens. Those that the system gives to connections are greater."""
+    while True:
+        port = random.SystemRandom().randrange(12_000, 32_000)
+        with socket.socket() as listener:
+            try:
+                listener.bind(("127.0.0.1", port))
+            except OSError:
+                continue
+        return port
 
 
 # ---- Stops

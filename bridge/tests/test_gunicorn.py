@@ -13,6 +13,7 @@ from contextlib import contextmanager
 from pathlib import Path
 
 import pytest
+from joining import free_port
 from messages import request, value
 from twin import Twin
 
@@ -48,8 +49,7 @@ def served(project: Path, twin: Twin) -> Iterator[tuple[int, "subprocess.Popen[s
     settings = project / "bridge.toml"
     host = f"{twin.address.host}:{twin.address.port}"
     settings.write_text(settings.read_text().replace("127.0.0.1:8080", host))
-    with socket.create_server(("127.0.0.1", 0)) as free:
-        port = free.getsockname()[1]
+    port = free_port()
     process = subprocess.Popen(
         command(port),
         cwd=project,

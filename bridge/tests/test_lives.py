@@ -2,13 +2,13 @@
 import http.client
 import json
 import random
-import socket
 import threading
 import time
 from pathlib import Path
 from typing import Any
 
 import pytest
+from joining import free_port
 from messages import jobs, names, request, value
 from random_lives import LIFE_SETTINGS, Life, SimulatedClock, life_twin
 from trial.programs import Bridge
@@ -169,9 +169,7 @@ class KilledBridge(Bridge):
 @pytest.mark.parametrize("seed", range(2))
 def test_a_bridge_that_is_killed_at_random_moments(project: Path, twin: Twin, seed: int) -> None:
     chance = random.Random(seed)
-    with socket.socket() as listener:
-        listener.bind(("127.0.0.1", 0))
-        port = listener.getsockname()[1]
+    port = free_port()
     settings = (
         (project / "bridge.toml").read_text().replace("127.0.0.1:8080", f"127.0.0.1:{twin.address.port}")
     )
