@@ -16,9 +16,10 @@ host_search      which host has a result, by bsched's statements
 call_numbers     the numbers of calls, and the calls without an answer
 calls            the JSON text of a call
 archives         the credit from earlier files of the project, which is added to replies
-scheduler        the connection to bsched, and what its answers say
+scheduler        messages to bsched, and what its answers say
+scheduler_connection  a message over a connection of its own
 plan_classes     versions for several processors and for coprocessors, as platforms of bsched
-client_replies   the XML of a reply
+client_replies   the XML of a reply (xml_lines)
 catalogue        files, command lines and signatures, as the operator wrote them
 current_catalogue  the catalogue as it is after the last edit
 
@@ -54,5 +55,5 @@ texts            numbers and moments as people read them
 Requests and accounts keep their rows in the state_file, in SQLite. downloads sends files. The other modules
 are settings, host_rules (settings that are read again), limits, operator_files (TOML with the lines of its
 faults), http_messages (by Werkzeug), code_signing, recent_credit, operator_orders (the operator's commands on
-accounts), key_locks and words.
+accounts), key_locks and words. gunicorn runs the application by gunicorn_worker and gunicorn_log.
 """

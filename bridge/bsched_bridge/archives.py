@@ -25,7 +25,9 @@ class Archives:
 
     def added_to(self, key: Key, reply: Reply) -> Reply:
         """Returns the reply to a host with the credit of the archives added."""
-        user, host = self.users[key.authenticator], self.hosts[key]
+        user, host = self.users.get(key.authenticator, 0), self.hosts.get(key, 0)
+        if not user and not host:
+            return reply
         return replace(
             reply,
             user_total_credit=reply.user_total_credit + user,

@@ -5,17 +5,43 @@ that call. Both are on the disk before the call is sent. It also has the jobs in
 lack: those of an answer that came when no client waited for it any more, and those of the latest reply.
 """
 import json
+import sqlite3
 import time
-from collections.abc import Callable
-from dataclasses import asdict, dataclass
+from collections.abc import Callable, Iterable
+from dataclasses import dataclass, fields
 from typing import cast
 
+from .barring import Barred
 from .hosts import COUNTED, MOST_NUMBER, Key, new_hostid
 from .members import first_heard
 from .scheduler import Job, Reply
 from .state_file import StateFile
 
 
+STATE = (
+    "open_call, jobs_in_hand, last_number, scheduler_hostid IS NOT NULL, hostid IS NOT NULL, "
+    "(SELECT name FROM member WHERE member.authenticator = host.authenticator)"
+)
+OF_KEY = f"SELECT {STATE} FROM host WHERE authenticator = ? AND host_cpid = ?"
+OF_NUMBER = (
+    "SELECT host_cpid, coalesce(client_seqno, 0), "
+    "(SELECT is_deleted FROM barred WHERE barred.authenticator = host.authenticator), "
+    f"{STATE} FROM host WHERE authenticator = ? AND hostid = ?"
+)
+OPENED = (
+    "UPDATE host SET last_number = ?1, open_call = ?2, "
+    "client_seqno = CASE WHEN ?3 > ifnull(client_seqno, -1) THEN ?3 ELSE client_seqno END "
+    "WHERE authenticator = ?4 AND host_cpid = ?5"
+)
+OPENED_AS = (
+    f"{OPENED} AND last_number = ?6 AND jobs_in_hand = ?7 AND open_call IS NULL "
+    "AND scheduler_hostid IS NOT NULL"
+)
+ANSWERED = (
+    "UPDATE host SET open_call = NULL, jobs_in_hand = ?, scheduler_hostid = ?, user_name = ?, "
+    "user_credit = ?, host_credit = ?, heard_at = ? WHERE authenticator = ? AND host_cpid = ?"
+)
+JOB_MEMBERS = [member.name for member in fields(Job)]
 # Open calls of accounts that the bridge does not know. Somebody may have made these accounts up, and each
 # call takes up to 262,144 bytes of the disk until bsched answers.
 MOST_OF_STRANGERS = 32
@@ -41,24 +67,90 @@ class ClientState:
     copy_of: int | None = None  # the hostid of the host that the client is a copy of
 
 
+@dataclass(frozen=True, slots=True)
+class KeyState:
+    """What the state file has of a key."""
+
+    open_call: bytes | None = None  # that has no answer yet
+    jobs_text: str = "[]"  # the jobs in hand, as they are stored
+    last_number: int = 0  # of its calls
+    has_host: bool = False  # whether bsched has the host, by its last reply
+    has_number: bool = False  # whether a client has the host's number
+    name: str | None = None  # of the account; None if the bridge does not know the account
+
+    @property
+    def is_of_stranger(self) -> bool:
+        """Whether the bridge knows neither the host nor its account."""
+        return not self.has_host and not self.has_number and self.name is None
+
+    @property
+    def jobs_in_hand(self) -> list[Job]:
+        """The jobs that the client may lack."""
+        return [Job(**job) for job in json.loads(self.jobs_text)]
+
+
+@dataclass(frozen=True, slots=True)
+class KnownHost:
+    """A host with the number that its client was told."""
+
+    key: Key
+    # the client's rpc_seqno in its last request with that number; 0 before the first one
+    client_seqno: int
+    barred: Barred | None  # why the computers of its account are refused, or None
+    state: KeyState
+
+
+def state_of(row: tuple[object, ...]) -> KeyState:
+    """Returns the state in the columns of STATE."""
+    call, jobs, number, has_host, has_number, name = row
+    return KeyState(
+        cast("bytes | None", call),
+        cast(str, jobs),
+        cast(int, number),
+        bool(has_host),
+        bool(has_number),
+        cast("str | None", name),
+    )
+
+
+def text_of_jobs(jobs: Iterable[Job]) -> str:
+    """Returns jobs as they are stored."""
+    return json.dumps([{name: getattr(job, name) for name in JOB_MEMBERS} for job in jobs])
+
+
 class CallNumbers:
     """The numbers of calls in a state file."""
 
     def __init__(self, file: StateFile) -> None:
         self.file = file
 
-    def _of_key(self, column: str, key: Key) -> tuple[object, ...] | None:
-        """Returns a column of the row of a key."""
-        return self.file.row(
-            f"SELECT {column} FROM host WHERE authenticator = ? AND host_cpid = ?",
-            key.authenticator,
-            key.host_cpid,
-        )
+    def of_number(self, authenticator: str, hostid: int) -> KnownHost | None:
+        """Returns the account's host with a number that a client was told."""
+        row = self.file.row(OF_NUMBER, authenticator, hostid)
+        if row is None:
+            return None
+        host_cpid, seqno, is_deleted, *state = row
+        barred = None if is_deleted is None else Barred(is_deleted)
+        key = Key(authenticator, cast(str, host_cpid))
+        return KnownHost(key, cast(int, seqno), barred, state_of(tuple(state)))
+
+    def state(self, key: Key) -> KeyState:
+        """Returns what the state file has of a key. While the key is held, its calls and its jobs in hand
+        stay so.
+        """
+        row = self.file.row(OF_KEY, key.authenticator, key.host_cpid)
+        if row is not None:
+            return state_of(row)
+        row = self.file.row("SELECT name FROM member WHERE authenticator = ?", key.authenticator)
+        return KeyState(name=None if row is None else cast(str, row[0]))
 
     def open_call(self, key: Key) -> bytes | None:
         """Returns the call of a key that has no answer yet."""
-        row = self._of_key("open_call", key)
-        return None if row is None else cast("bytes | None", row[0])
+        return self.state(key).open_call
+
+    def jobs_in_hand(self, key: Key) -> list[Job]:
+        """Returns the jobs that the client may lack."""
+        return self.state(key).jobs_in_hand
 
     def next_open(self, after: Key) -> Key | None:
         """Returns the first key after another one that has such a call."""
@@ -70,17 +162,6 @@ class CallNumbers:
             after.host_cpid,
         )
         return None if row is None else Key(cast(str, row[0]), cast(str, row[1]))
-
-    def is_of_stranger(self, key: Key) -> bool:
-        """Returns whether the bridge knows neither the host nor the account of a key."""
-        row = self.file.row(
-            "SELECT EXISTS (SELECT 1 FROM member WHERE authenticator = ?1) OR EXISTS (SELECT 1 FROM host "
-            "WHERE authenticator = ?1 AND host_cpid = ?2 AND (scheduler_hostid IS NOT NULL OR hostid IS NOT "
-            "NULL))",
-            key.authenticator,
-            key.host_cpid,
-        )
-        return row == (0,)
 
     def has_many_of_strangers(self) -> bool:
         """Returns whether there are as many open calls of unknown accounts as there may be."""
@@ -121,15 +202,38 @@ class CallNumbers:
             if number > MOST_NUMBER:
                 raise CountEnded
             call = text(number)
-            connection.execute(
-                "INSERT INTO host (authenticator, host_cpid, last_number, open_call, client_seqno, copy_of) "
-                "VALUES (?, ?, ?, ?, ?, ?) ON CONFLICT (authenticator, host_cpid) DO UPDATE SET "
-                "last_number = excluded.last_number, open_call = excluded.open_call, client_seqno = "
-                "CASE WHEN excluded.client_seqno > ifnull(client_seqno, -1) THEN excluded.client_seqno "
-                "ELSE client_seqno END",
-                (key.authenticator, key.host_cpid, number, call, client.seqno, client.copy_of),
-            )
+            if row is None:
+                connection.execute(
+                    "INSERT INTO host (authenticator, host_cpid, last_number, open_call, client_seqno, "
+                    "copy_of) VALUES (?, ?, ?, ?, ?, ?)",
+                    (key.authenticator, key.host_cpid, number, call, client.seqno, client.copy_of),
+                )
+            else:
+                connection.execute(OPENED, (number, call, client.seqno, key.authenticator, key.host_cpid))
         return call
+
+    def open_as(
+        self, key: Key, state: KeyState, text: Callable[[int], bytes], client: ClientState
+    ) -> bytes | None:
+        """Does the same for a host that bsched has, if its key is in a state that was read before the key was
+        held. Returns None if it is in another state by now.
+        """
+        number = state.last_number + 1
+        if number > MOST_NUMBER:
+            raise CountEnded
+        call = text(number)
+        values = (
+            number,
+            call,
+            client.seqno,
+            key.authenticator,
+            key.host_cpid,
+            state.last_number,
+            state.jobs_text,
+        )
+        with self.file.transaction() as connection:
+            is_opened = connection.execute(OPENED_AS, values).rowcount == 1
+        return call if is_opened else None
 
     # A transaction that closes a call is not synced. If a power failure undoes it, the call is the last of
     # its key. Sent again, it gets the answer that it had.
@@ -149,31 +253,37 @@ class CallNumbers:
                 "UPDATE host SET open_call = NULL WHERE authenticator = ? AND host_cpid = ?", values
             )
 
-    def record_answer(self, key: Key, reply: Reply, jobs_in_hand: list[Job]) -> None:
-        """Closes the open call of a key after a reply. From now on these jobs are in hand."""
-        jobs, now = json.dumps([asdict(job) for job in jobs_in_hand]), int(time.time())
+    def record_answer(
+        self, key: Key, reply: Reply, jobs_in_hand: list[Job], has_account: bool = False
+    ) -> None:
+        """Closes the open call of a key after a reply. From now on these jobs are in hand. The account is
+        inserted, unless the bridge has it already.
+        """
+        now = int(time.time())
+        values = (
+            text_of_jobs(jobs_in_hand),
+            reply.hostid,
+            reply.user_name,
+            reply.user_total_credit,
+            reply.host_total_credit,
+            now,
+            key.authenticator,
+            key.host_cpid,
+        )
         with self.file.transaction(is_synced=False) as connection:
-            # if bsched's tables were restored from an older copy, bsched may give a number a second time
-            connection.execute(
-                "UPDATE host SET scheduler_hostid = NULL "
-                "WHERE authenticator = ? AND scheduler_hostid = ? AND host_cpid <> ?",
-                (key.authenticator, reply.hostid, key.host_cpid),
-            )
-            connection.execute(
-                "UPDATE host SET open_call = NULL, jobs_in_hand = ?, scheduler_hostid = ?, user_name = ?, "
-                "user_credit = ?, host_credit = ?, heard_at = ? WHERE authenticator = ? AND host_cpid = ?",
-                (
-                    jobs,
-                    reply.hostid,
-                    reply.user_name,
-                    reply.user_total_credit,
-                    reply.host_total_credit,
-                    now,
-                    key.authenticator,
-                    key.host_cpid,
-                ),
-            )
-            first_heard(connection, key.authenticator, reply.user_name, now)
+            try:
+                connection.execute(ANSWERED, values)
+            except sqlite3.IntegrityError:
+                # Another host of the account had the number. If bsched's tables were restored from an older
+                # copy, bsched may give a number a second time.
+                connection.execute(
+                    "UPDATE host SET scheduler_hostid = NULL "
+                    "WHERE authenticator = ? AND scheduler_hostid = ?",
+                    (key.authenticator, reply.hostid),
+                )
+                connection.execute(ANSWERED, values)
+            if not has_account:
+                first_heard(connection, key.authenticator, reply.user_name, now)
 
     def give_hostid(self, key: Key) -> int | None:
         """Returns the number of a host, which its client gets with this reply. The host has one if a
@@ -199,10 +309,5 @@ class CallNumbers:
         with self.file.transaction(is_synced=False) as connection:
             connection.execute(
                 "UPDATE host SET jobs_in_hand = ? WHERE authenticator = ? AND host_cpid = ?",
-                (json.dumps([asdict(job) for job in jobs]), key.authenticator, key.host_cpid),
+                (text_of_jobs(jobs), key.authenticator, key.host_cpid),
             )
-
-    def jobs_in_hand(self, key: Key) -> list[Job]:
-        """Returns the jobs that the client may lack."""
-        row = self._of_key("jobs_in_hand", key)
-        return [] if row is None else [Job(**job) for job in json.loads(cast(str, row[0]))]

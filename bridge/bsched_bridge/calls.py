@@ -44,7 +44,7 @@ def call_text(
     don't fit are listed by their names, so that they don't count as lost. If there are too many names, or
     they leave no room for a single report, all names are left out.
     """
-    record = {
+    record: dict[str, object] = {
         "authenticator": request.authenticator,
         "hostid": 0,
         "rpc_seqno": number,
@@ -60,8 +60,29 @@ def call_text(
         "other_results": [],
         "results": [],
     }
-    room = MOST_BYTES - written_length(record)
     other = None if request.other_results is None else list(dict.fromkeys([*request.other_results, *in_hand]))
+    text = whole_text(record, request.results, other)
+    if text is None:
+        text = text_that_fits(record, request, other)
+    return text
+
+
+def whole_text(
+    record: dict[str, object], results: tuple[Report, ...], other: list[str] | None
+) -> bytes | None:
+    """Returns the text of a call with all reports and all names. If they don't fit, returns None."""
+    if len(results) > MOST_REPORTS or len(other or ()) > MOST_OTHER_RESULTS:
+        return None
+    whole: dict[str, object] = {**record, "other_results": other, "results": list(map(told_report, results))}
+    if other is None:
+        del whole["other_results"]
+    text = _written(whole).encode()
+    return text if len(text) <= MOST_BYTES else None
+
+
+def text_that_fits(record: dict[str, object], request: ClientRequest, other: list[str] | None) -> bytes:
+    """Returns the text of a call with what the profile has room for."""
+    room = MOST_BYTES - written_length(record)
     if other is not None:
         names_room = room - sum(map(written_length, other))
         count = reports_that_fit(request, names_room, True)

@@ -17,6 +17,7 @@ from .scheduler import Job, Reply
 from .upload_tokens import UploadTokens
 from .uploads import PATH as UPLOAD_PATH
 from .words import xml_text
+from .xml_lines import XmlLines
 
 SCHEDULER_VERSION = 720  # the version of BOINC's scheduler that these replies imitate
 MILLICREDITS = 1000
@@ -50,15 +51,12 @@ class NeededFile:
 Files = dict[str, NeededFile]  # by name
 
 
+# ---- Answers of a few elements, which come once for each account
+
+
 def add(parent: Element, name: str, value: object) -> None:
     """Adds an element with a text."""
     SubElement(parent, name).text = xml_text(str(value))
-
-
-def add_message(parent: Element, text: str, priority: str) -> None:
-    """Adds a message, which the client shows to the volunteer."""
-    message = SubElement(parent, "message", {"priority": priority})
-    message.text = xml_text(text)
 
 
 def written(root: Element) -> bytes:
@@ -66,6 +64,35 @@ def written(root: Element) -> bytes:
     indent(root, "    ")
     text: bytes = tostring(root, encoding="utf-8", xml_declaration=False, short_empty_elements=False)
     return text + b"\n"
+
+
+# ---- Replies
+
+
+def without_blanks(key: str) -> str:
+    """Returns a key without its blanks and line ends."""
+    return "".join(key.split())
+
+
+def head_of(name: str, url: str) -> list[str]:
+    """Returns the lines with which each reply of a project begins."""
+    xml = XmlLines("scheduler_reply")
+    xml.add("scheduler_version", SCHEDULER_VERSION)
+    xml.add("master_url", url)
+    xml.add("project_name", name)
+    return xml.inner_lines()
+
+
+def buttons_of(url: str, has_accounts: bool) -> list[str]:
+    """Returns the lines of the pages for which the Manager shows buttons."""
+    xml = XmlLines("scheduler_reply")
+    with xml.inside("gui_urls"):
+        for name, description, path in (ACCOUNT, STATUS) if has_accounts else (STATUS,):
+            with xml.inside("gui_url"):
+                xml.add("name", name)
+                xml.add("description", description)
+                xml.add("url", f"{url}{path}")
+    return xml.inner_lines()
 
 
 class ReplyWriter:
@@ -79,31 +106,36 @@ class ReplyWriter:
         tokens: UploadTokens | None = None,
         has_accounts: bool = False,
     ) -> None:
-        self.catalogue, self.name, self.url, self.tokens = catalogue, name, url, tokens
-        self.buttons = (ACCOUNT, STATUS) if has_accounts else (STATUS,)
+        self.url, self.tokens = url, tokens
+        self._head, self._buttons = head_of(name, url), buttons_of(url, has_accounts)
+        self._set_catalogue(catalogue)
+
+    def _set_catalogue(self, catalogue: Catalogue) -> None:
+        """Writes replies with this catalogue from now on."""
+        self.catalogue, self._key = catalogue, without_blanks(catalogue.code_sign_key)
 
     def with_catalogue(self, catalogue: Catalogue) -> "ReplyWriter":
         """Returns a writer of the same project with this catalogue."""
+        if catalogue is self.catalogue:
+            return self
         writer = copy.copy(self)
-        writer.catalogue = catalogue
+        writer._set_catalogue(catalogue)
         return writer
 
-    def _begun(self, delay: int) -> Element:
+    def _begun(self, delay: int) -> XmlLines:
         """Returns what each reply begins with."""
-        root = Element("scheduler_reply")
-        add(root, "scheduler_version", SCHEDULER_VERSION)
-        add(root, "master_url", self.url)
-        add(root, "project_name", self.name)
-        add(root, "request_delay", f"{delay:.6f}")
-        return root
+        xml = XmlLines("scheduler_reply")
+        xml.add_lines(self._head)
+        xml.add("request_delay", f"{delay:.6f}")
+        return xml
 
     def put_off(self, put: PutOff) -> bytes:
         """Returns the reply that puts a request off. It acknowledges nothing, so the client loses nothing."""
-        root = self._begun(put.delay)
-        add_message(root, put.message, put.priority)
+        xml = self._begun(put.delay)
+        xml.add_message(put.message, put.priority)
         if put.is_down:
-            add(root, "project_is_down", 1)
-        return written(root)
+            xml.add("project_is_down", 1)
+        return xml.written()
 
     def reply(
         self,
@@ -117,50 +149,42 @@ class ReplyWriter:
         that did not send it: a client that has one takes any as a sign that it was copied, takes a new
         host_cpid and counts its requests anew.
         """
-        root = self._begun(reply.request_delay)
-        add(root, "user_name", reply.user_name)
-        add(root, "user_total_credit", f"{reply.user_total_credit / MILLICREDITS:.3f}")
-        add(root, "host_total_credit", f"{reply.host_total_credit / MILLICREDITS:.3f}")
+        xml = self._begun(reply.request_delay)
+        xml.add("user_name", reply.user_name)
+        xml.add("user_total_credit", f"{reply.user_total_credit / MILLICREDITS:.3f}")
+        xml.add("host_total_credit", f"{reply.host_total_credit / MILLICREDITS:.3f}")
         if recent is not None:
-            add(root, "user_expavg_credit", f"{recent.user:.6f}")
-            add(root, "host_expavg_credit", f"{recent.host:.6f}")
+            xml.add("user_expavg_credit", f"{recent.user:.6f}")
+            xml.add("host_expavg_credit", f"{recent.host:.6f}")
         if hostid is not None:
-            add(root, "hostid", hostid)
+            xml.add("hostid", hostid)
         if notice is not None:
-            add_message(root, notice, "notice")
+            xml.add_message(notice, "notice")
         for what, names in (("result_ack", reply.result_ack), ("result_abort", reply.result_abort)):
             for name in names:
-                add(SubElement(root, what), "name", name)
+                with xml.inside(what):
+                    xml.add("name", name)
         if request.has_messages:
-            add(root, "message_ack", 1)
-        self._add_key(root, request.code_sign_key)
-        self._add_buttons(root)
-        self._add_jobs(root, request, reply.results)
+            xml.add("message_ack", 1)
+        self._add_key(xml, request.code_sign_key)
+        xml.add_lines(self._buttons)
+        self._add_jobs(xml, request, reply.results)
         if request.work_req_seconds and not reply.results:
-            add_message(root, NO_JOBS.get(reply.end_word, NO_JOBS["no_eligible_work"]), "low")
-        return written(root)
+            xml.add_message(NO_JOBS.get(reply.end_word, NO_JOBS["no_eligible_work"]), "low")
+        return xml.written()
 
-    def _add_key(self, root: Element, has: str) -> None:
+    def _add_key(self, xml: XmlLines, has: str) -> None:
         """Adds the code signing key if the client has none. A client that has a key would take it for a
         change of the key.
         """
         if not has:
-            add(root, "code_sign_key", "\n" + self.catalogue.code_sign_key)
-        elif has != "".join(self.catalogue.code_sign_key.split()):
-            add_message(root, KEY_CHANGED, "notice")
-
-    def _add_buttons(self, root: Element) -> None:
-        """Adds the pages for which the Manager shows buttons."""
-        element = SubElement(root, "gui_urls")
-        for name, description, path in self.buttons:
-            button = SubElement(element, "gui_url")
-            add(button, "name", name)
-            add(button, "description", description)
-            add(button, "url", f"{self.url}{path}")
+            xml.add("code_sign_key", "\n" + self.catalogue.code_sign_key)
+        elif has != self._key:
+            xml.add_message(KEY_CHANGED, "notice")
 
     # ---- Jobs
 
-    def _add_jobs(self, root: Element, request: ClientRequest, jobs: list[Job]) -> None:
+    def _add_jobs(self, xml: XmlLines, request: ClientRequest, jobs: list[Job]) -> None:
         """Adds the jobs with all that they need. Each application, version and file is added once."""
         apps: dict[str, App] = {}
         versions: dict[tuple[str, str, int], Version] = {}
@@ -174,22 +198,22 @@ class ReplyWriter:
                 log.error(
                     "job %s is not handed on: %s is not in the catalogue or not there", job.name, missing
                 )
-                add_message(root, f"The project lacks a file for the job {job.name}.", "low")
+                xml.add_message(f"The project lacks a file for the job {job.name}.", "low")
         for app in apps.values():
-            self._add_app(root, app)
+            self._add_app(xml, app)
         for needed in files.values():
-            self._add_file(root, needed)
+            self._add_file(xml, needed)
         for version in versions.values():
-            self._add_version(root, version, request)
+            self._add_version(xml, version, request)
         workunits = set()
         for job, app, work in sent:
             if job.wu_name not in workunits:
                 workunits.add(job.wu_name)
-                self._add_workunit(root, job, app, work, request)
+                self._add_workunit(xml, job, app, work, request)
         for job, app, _ in sent:
-            self._add_output_files(root, job, app)
+            self._add_output_files(xml, job, app)
         for job, app, _ in sent:
-            self._add_result(root, job, app)
+            self._add_result(xml, job, app)
 
     def _needs(
         self, job: Job, apps: dict[str, App], versions: dict[tuple[str, str, int], Version], files: Files
@@ -210,106 +234,109 @@ class ReplyWriter:
             files.setdefault(file.name, NeededFile(file, None, False))
         return app, work
 
-    def _add_app(self, root: Element, app: App) -> None:
+    def _add_app(self, xml: XmlLines, app: App) -> None:
         """Adds an application."""
-        element = SubElement(root, "app")
-        add(element, "name", app.name)
-        add(element, "user_friendly_name", app.title)
+        with xml.inside("app"):
+            xml.add("name", app.name)
+            xml.add("user_friendly_name", app.title)
 
-    def _add_file(self, root: Element, needed: NeededFile) -> None:
+    def _add_file(self, xml: XmlLines, needed: NeededFile) -> None:
         """Adds a file that the client downloads."""
-        element, file = SubElement(root, "file_info"), needed.file
-        add(element, "name", file.name)
-        add(element, "url", f"{self.url}download/{file.name}")
-        if needed.is_executable:
-            add(element, "executable", 1)
-        if needed.signature is not None:
-            add(element, "file_signature", "\n" + needed.signature)
-        add(element, "nbytes", file.size)
-        add(element, "md5_cksum", file.md5)
+        file = needed.file
+        with xml.inside("file_info"):
+            xml.add("name", file.name)
+            xml.add("url", f"{self.url}download/{file.name}")
+            if needed.is_executable:
+                xml.add("executable", 1)
+            if needed.signature is not None:
+                xml.add("file_signature", "\n" + needed.signature)
+            xml.add("nbytes", file.size)
+            xml.add("md5_cksum", file.md5)
 
-    def _add_version(self, root: Element, version: Version, request: ClientRequest) -> None:
+    def _add_version(self, xml: XmlLines, version: Version, request: ClientRequest) -> None:
         """Adds a version. Its speed is the one that the client reported, so that the client and bsched
         estimate alike.
         """
-        element = SubElement(root, "app_version")
         platform, name = split(version.platform)
-        add(element, "app_name", version.app)
-        add(element, "version_num", version.number)
-        add(element, "platform", platform)
-        if name:
-            self._add_plan_class(element, self.catalogue.plan_classes[name], request)
-        else:
-            add(element, "avg_ncpus", 1)
-            add(element, "flops", request.p_fpops)
-        for item in version.files:
-            reference = SubElement(element, "file_ref")
-            add(reference, "file_name", item.file.name)
-            if item.open_name is not None:
-                add(reference, "open_name", item.open_name)
-                add(reference, "copy_file", 1)
-            if item.is_main_program:
-                add(reference, "main_program", 1)
+        with xml.inside("app_version"):
+            xml.add("app_name", version.app)
+            xml.add("version_num", version.number)
+            xml.add("platform", platform)
+            if name:
+                self._add_plan_class(xml, self.catalogue.plan_classes[name], request)
+            else:
+                xml.add("avg_ncpus", 1)
+                xml.add("flops", request.p_fpops)
+            for item in version.files:
+                with xml.inside("file_ref"):
+                    xml.add("file_name", item.file.name)
+                    if item.open_name is not None:
+                        xml.add("open_name", item.open_name)
+                        xml.add("copy_file", 1)
+                    if item.is_main_program:
+                        xml.add("main_program", 1)
 
-    def _add_plan_class(self, element: Element, one: PlanClass, request: ClientRequest) -> None:
+    def _add_plan_class(self, xml: XmlLines, one: PlanClass, request: ClientRequest) -> None:
         """Adds what a plan class says about a version on the client's host."""
-        add(element, "plan_class", one.name)
-        add(element, "avg_ncpus", f"{one.ncpus(request):g}")
-        add(element, "flops", f"{one.flops(request):.0f}")
+        xml.add("plan_class", one.name)
+        xml.add("avg_ncpus", f"{one.ncpus(request):g}")
+        xml.add("flops", f"{one.flops(request):.0f}")
         if one.command_line:
-            add(element, "cmdline", one.command_line_for(request))
+            xml.add("cmdline", one.command_line_for(request))
         if one.coproc is not None:
-            coproc = SubElement(element, "coproc")
-            add(coproc, "type", one.coproc)
-            add(coproc, "count", f"{one.coproc_count:g}")
+            with xml.inside("coproc"):
+                xml.add("type", one.coproc)
+                xml.add("count", f"{one.coproc_count:g}")
 
-    def _add_workunit(self, root: Element, job: Job, app: App, work: Work, request: ClientRequest) -> None:
+    def _add_workunit(self, xml: XmlLines, job: Job, app: App, work: Work, request: ClientRequest) -> None:
         """Adds a workunit. Its operations give bsched's estimate on this client, to the second."""
-        element = SubElement(root, "workunit")
         operations = job.estimate * request.p_fpops
-        add(element, "name", job.wu_name)
-        add(element, "app_name", job.app_name)
-        add(element, "rsc_fpops_est", operations)
-        add(element, "rsc_fpops_bound", operations * app.fpops_bound_factor)
-        add(element, "rsc_memory_bound", app.rsc_memory_bound)
-        add(element, "rsc_disk_bound", app.rsc_disk_bound)
-        if work.command_line:
-            add(element, "command_line", work.command_line)
-        for file in work.input_files:
-            reference = SubElement(element, "file_ref")
-            add(reference, "file_name", file.name)
-            add(reference, "open_name", file.open_name)
-            add(reference, "copy_file", 1)
+        with xml.inside("workunit"):
+            xml.add("name", job.wu_name)
+            xml.add("app_name", job.app_name)
+            xml.add("rsc_fpops_est", operations)
+            xml.add("rsc_fpops_bound", operations * app.fpops_bound_factor)
+            xml.add("rsc_memory_bound", app.rsc_memory_bound)
+            xml.add("rsc_disk_bound", app.rsc_disk_bound)
+            if work.command_line:
+                xml.add("command_line", work.command_line)
+            for file in work.input_files:
+                self._add_reference(xml, file.name, file.open_name)
 
-    def _add_output_files(self, root: Element, job: Job, app: App) -> None:
+    def _add_reference(self, xml: XmlLines, name: str, open_name: str, is_optional: bool = False) -> None:
+        """Adds a file of a workunit or a result, which the program opens under a name of its own."""
+        with xml.inside("file_ref"):
+            xml.add("file_name", name)
+            xml.add("open_name", open_name)
+            xml.add("copy_file", 1)
+            if is_optional:
+                xml.add("optional", 1)
+
+    def _add_output_files(self, xml: XmlLines, job: Job, app: App) -> None:
         """Adds the files that the client uploads for a result, each with its token."""
         for place, file in enumerate(app.output_files):
-            element, name = SubElement(root, "file_info"), upload_name(job.name, place)
-            add(element, "name", name)
-            add(element, "generated_locally", 1)
-            add(element, "upload_when_present", 1)
-            add(element, "max_nbytes", file.max_nbytes)
-            add(element, "url", f"{self.url}{UPLOAD_PATH}")
-            if self.tokens is not None:
-                add(element, "xml_signature", f"\n{self.tokens.token(name, file.max_nbytes)}\n")
+            name = upload_name(job.name, place)
+            with xml.inside("file_info"):
+                xml.add("name", name)
+                xml.add("generated_locally", 1)
+                xml.add("upload_when_present", 1)
+                xml.add("max_nbytes", file.max_nbytes)
+                xml.add("url", f"{self.url}{UPLOAD_PATH}")
+                if self.tokens is not None:
+                    xml.add("xml_signature", f"\n{self.tokens.token(name, file.max_nbytes)}\n")
 
-    def _add_result(self, root: Element, job: Job, app: App) -> None:
+    def _add_result(self, xml: XmlLines, job: Job, app: App) -> None:
         """Adds a result, which is a job."""
-        element = SubElement(root, "result")
-        add(element, "name", job.name)
-        add(element, "wu_name", job.wu_name)
         platform, plan_class = split(job.platform)
-        add(element, "platform", platform)
-        if plan_class:
-            add(element, "plan_class", plan_class)
-        add(element, "version_num", job.version_num)
-        add(element, "report_deadline", job.report_deadline)
-        if app.is_reported_at_once:
-            add(element, "report_immediately", 1)
-        for place, file in enumerate(app.output_files):
-            reference = SubElement(element, "file_ref")
-            add(reference, "file_name", upload_name(job.name, place))
-            add(reference, "open_name", file.open_name)
-            add(reference, "copy_file", 1)
-            if file.is_optional:
-                add(reference, "optional", 1)
+        with xml.inside("result"):
+            xml.add("name", job.name)
+            xml.add("wu_name", job.wu_name)
+            xml.add("platform", platform)
+            if plan_class:
+                xml.add("plan_class", plan_class)
+            xml.add("version_num", job.version_num)
+            xml.add("report_deadline", job.report_deadline)
+            if app.is_reported_at_once:
+                xml.add("report_immediately", 1)
+            for place, file in enumerate(app.output_files):
+                self._add_reference(xml, upload_name(job.name, place), file.open_name, file.is_optional)

@@ -1,13 +1,18 @@
 """What the XML of a scheduler_request says (BOINC's documentation, "Scheduler RPC protocol").
 
 The elements become what the profile accepts, by the table in 'Writing a bridge' of docs/PROFILE.md. Decimals
-become whole numbers, and what is longer than the profile allows is cut. defusedxml reads the XML, and refuses
-entities and document types. What programs wrote does not reach it (request_parts).
+become whole numbers, and what is longer than the profile allows is cut. What programs wrote does not reach
+the XML parser (request_parts).
+
+Nearly all requests are short and have no comment, section or document type. Python's own parser reads
+these, without the elements that the bridge does not need. The others go to defusedxml's parser, piece by
+piece, which refuses entities and document types. Both give the same request.
 """
-from collections.abc import Iterable
+from collections.abc import Iterable, Iterator
 from dataclasses import dataclass
 from decimal import Decimal, InvalidOperation
-from xml.etree.ElementTree import Element, ParseError, TreeBuilder
+from itertools import chain
+from xml.etree.ElementTree import Element, ParseError, TreeBuilder, XMLParser
 
 from defusedxml import DefusedXmlException  # type: ignore[import]
 from defusedxml.ElementTree import DefusedXMLParser  # type: ignore[import]
@@ -20,7 +25,25 @@ MOST_BYTES = 16 * 1024 * 1024  # of a request; a result has at most 64 KB of sta
 MOST_ELEMENTS = 100_000
 MOST_DEPTH = 20
 MOST_TAG = 65_536  # bytes of a start tag with its attributes, or of a comment
-MOST_NUMBER = 10**18
+# Bytes of XML that are read at once, without limits of their own: they have room for 32,768 elements or
+# 26,214 attributes. However deep the elements are, Python makes and frees them without recursion.
+MOST_AT_ONCE = 131_072
+# What begins a comment, a section, a document type or an instruction. Without them, each `<` begins a tag.
+OTHERS_THAN_TAGS = b"<!", b"<?"
+# Elements that the bridge does not need, with most of a request's text.
+UNUSED = [
+    (f"<{name}>".encode(), f"</{name}>".encode())
+    for name in (
+        "working_global_preferences",
+        "global_preferences",
+        "time_stats",
+        "net_stats",
+        "disk_usage",
+        "app_versions",
+        "in_progress_results",
+    )
+]
+MOST_NUMBER, NO_NUMBER = 10**18, Decimal("nan")
 MOST_SECONDS = 10**9
 MOST_PLATFORMS = 7
 MOST_COPROCS = 16  # types of coprocessors of a host
@@ -88,54 +111,57 @@ class ClientRequest:
 # ---- Elements
 
 
-def text_of(parent: Element, path: str) -> str | None:
-    """Returns the text of the last element at a path, without blanks around it. If there is no such element,
-    returns None.
-    """
-    found = parent.findall(path)
-    return (found[-1].text or "").strip() if found else None
+class Fields:
+    """The elements in an element that has one of each name. If there are more, the last one counts."""
+
+    def __init__(self, *parents: Element, of: str = "") -> None:
+        self._elements = {element.tag: element for parent in parents for element in parent}
+        self._of = of  # with which a fault names an element
+
+    def __contains__(self, name: str) -> bool:
+        """Returns whether there is such an element."""
+        return name in self._elements
+
+    def text(self, name: str) -> str | None:
+        """Returns the text of an element, without blanks around it. If there is no such element, returns
+        None.
+        """
+        element = self._elements.get(name)
+        return None if element is None else (element.text or "").strip()
+
+    def whole(self, name: str, least: int, most: int, absent: int, up: bool = False) -> int:
+        """Returns the whole number of an element, rounded down or up. A number outside the range becomes its
+        nearest bound. If there is no such element, returns `absent`.
+        """
+        element = self._elements.get(name)
+        if element is None:
+            return absent
+        try:
+            number = Decimal((element.text or "").strip())
+        except InvalidOperation:
+            number = NO_NUMBER
+        if number.is_nan():
+            raise RequestFault(f"{self._of}{name} is not a number")
+        if number <= least:
+            return least
+        if number >= most:
+            return most
+        whole = int(number)
+        return whole + (up and whole < number)
+
+    def word(self, name: str) -> str:
+        """Returns the word of an element, which must exist."""
+        word = self.text(name)
+        if word is None or not is_word(word):
+            raise RequestFault(
+                f"{self._of}{name} is missing, or is not 1 to 64 letters, digits, '_', '-' and '.'"
+            )
+        return word
 
 
-def decimal_of(parent: Element, path: str) -> Decimal | None:
-    """Returns the decimal number of an element, or None if there is no such element."""
-    text = text_of(parent, path)
-    if text is None:
-        return None
-    try:
-        number = Decimal(text)
-    except InvalidOperation:
-        number = Decimal("nan")
-    if number.is_nan():
-        raise RequestFault(f"{path} is not a number")
-    return number
-
-
-def whole_of(parent: Element, path: str, least: int, most: int, absent: int, up: bool = False) -> int:
-    """Returns the whole number of an element, rounded down or up. A number outside the range becomes its
-    nearest bound.
-    """
-    number = decimal_of(parent, path)
-    if number is None:
-        return absent
-    if number <= least:
-        return least
-    if number >= most:
-        return most
-    whole = int(number)
-    return whole + (up and whole < number)
-
-
-def word_of(parent: Element, path: str) -> str:
-    """Returns the word of an element, which must exist."""
-    word = text_of(parent, path)
-    if word is None or not is_word(word):
-        raise RequestFault(f"{path} is missing, or is not 1 to 64 letters, digits, '_', '-' and '.'")
-    return word
-
-
-def is_result_name(name: str | None) -> bool:
+def is_result_name(name: str) -> bool:
     """Returns whether a text can be the name of a result in a call."""
-    return name is not None and 1 <= len(name.encode()) <= MOST_NAME
+    return 1 <= len(name.encode()) <= MOST_NAME
 
 
 # ---- Results
@@ -147,39 +173,38 @@ def output_of(result: Element) -> str:
     return "" if element is None else element.text or ""
 
 
-def upload_fault(result: Element) -> str | None:
+def upload_fault(files: list[Fields]) -> str | None:
     """Returns why the client gave up an upload of a result, or None. Such a result ended well by its exit
     status and its state, although an output file is lost.
     """
-    for file in result.findall("file_info"):
-        if file.find("error_msg") is not None:
-            name, why = text_of(file, "name") or "", text_of(file, "error_msg") or ""
+    for file in files:
+        if "error_msg" in file:
+            name, why = file.text("name") or "", file.text("error_msg") or ""
             return cut_to_bytes(f"output file {name} was not uploaded: {why}", MOST_OUTPUT)
     return None
 
 
-def reported_files(result: Element) -> tuple[ReportedFile, ...]:
-    """Returns the output files of a result."""
-    files = []
-    for file in result.findall("file_info"):
-        name, md5 = text_of(file, "name") or "", text_of(file, "md5_cksum") or ""
-        files.append(ReportedFile(name, whole_of(file, "nbytes", 0, MOST_NUMBER, 0), md5))
-    return tuple(files)
+def reported_file(file: Fields) -> ReportedFile:
+    """Returns an output file of a result."""
+    name, md5 = file.text("name") or "", file.text("md5_cksum") or ""
+    return ReportedFile(name, file.whole("nbytes", 0, MOST_NUMBER, 0), md5)
 
 
 def report_of(result: Element) -> Report | None:
     """Returns the report of a finished result, or None if its name can't be a result's name."""
-    name = text_of(result, "name")
+    fields = Fields(result)
+    name = fields.text("name")
     if name is None or not is_result_name(name):
         return None
-    status = whole_of(result, "exit_status", LEAST_STATUS, MOST_STATUS, 0)
-    state = whole_of(result, "state", 0, 100, 0)
+    status = fields.whole("exit_status", LEAST_STATUS, MOST_STATUS, 0)
+    state = fields.whole("state", 0, 100, 0)
     if status == 0 and state != FINISHED:
         status = WITHOUT_STATUS
-    fault = upload_fault(result)
+    files = [Fields(file) for file in result.findall("file_info")]
+    fault = upload_fault(files)
     if status == 0 and fault is not None:
         return Report(name, UPLOAD_STATUS, fault)
-    return Report(name, status, output_of(result), reported_files(result))
+    return Report(name, status, output_of(result), tuple(map(reported_file, files)))
 
 
 # ---- Coprocessors
@@ -188,11 +213,12 @@ def report_of(result: Element) -> Report | None:
 def coprocs_of(root: Element) -> tuple[Coproc, ...]:
     """Returns the coprocessors of a host. Those of graphics cards have elements with names of their own."""
     found = []
-    for element in root.findall("coprocs/*")[:MOST_COPROCS]:
-        kind = COPROC_TYPES.get(element.tag) or text_of(element, "type")
+    for element in [one for parent in root.findall("coprocs") for one in parent][:MOST_COPROCS]:
+        fields = Fields(element)
+        kind = COPROC_TYPES.get(element.tag) or fields.text("type")
         if kind is not None and (element.tag == "coproc" or element.tag in COPROC_TYPES):
-            count = whole_of(element, "count", 0, 1000, 0)
-            found.append(Coproc(kind, count, whole_of(element, "req_secs", 0, MOST_SECONDS, 0, up=True)))
+            count = fields.whole("count", 0, 1000, 0)
+            found.append(Coproc(kind, count, fields.whole("req_secs", 0, MOST_SECONDS, 0, up=True)))
     return tuple(found)
 
 
@@ -221,12 +247,39 @@ class Tree:
         self._builder.end(tag)
 
 
-def element_of(parts: Parts) -> Element:
-    """Returns the element of a request. Raises RequestFault if it is none."""
+def without_unused(text: bytes) -> bytes:
+    """Returns a text in which each `<` begins a tag, with an empty element in the place of the first one of
+    each unused kind.
+    """
+    for begins, ends in UNUSED:
+        first = text.find(begins)
+        last = text.find(ends, first) if first >= 0 else -1
+        if last >= 0:
+            text = text[:first] + b"<unused/>" + text[last + len(ends) :]
+    return text
+
+
+def element_at_once(text: bytes) -> Element | None:
+    """Returns the element of a text, without what is not needed. Returns None if its XML is faulty, or has
+    more than elements.
+    """
+    if any(mark in text for mark in OTHERS_THAN_TAGS):
+        return None
+    parser = XMLParser(encoding="utf-8")
+    try:
+        parser.feed(without_unused(text))
+        root: Element = parser.close()
+    except ParseError:
+        return None
+    return root
+
+
+def element_in_pieces(pieces: Iterable[bytes]) -> Element:
+    """Returns the element of a text that comes in pieces. Raises RequestFault if it is none."""
     parser = DefusedXMLParser(target=Tree(), encoding="utf-8", forbid_dtd=True)
     length = 0
     try:
-        for piece in parts.xml():
+        for piece in pieces:
             parser.feed(piece)
             length += len(piece)
             if length - parser.parser.CurrentByteIndex > MOST_TAG:
@@ -236,39 +289,58 @@ def element_of(parts: Parts) -> Element:
         raise RequestFault(f"incomplete or faulty XML: {error}") from None
     except DefusedXmlException:
         raise RequestFault("XML with a document type or entities is not accepted") from None
+    return root
+
+
+def element_of(pieces: Iterator[bytes]) -> Element:
+    """Returns the element of a request. Raises RequestFault if it is none."""
+    first, length = [], 0
+    for piece in pieces:
+        first.append(piece)
+        length += len(piece)
+        if length > MOST_AT_ONCE:
+            break
+    root = element_at_once(b"".join(first)) if length <= MOST_AT_ONCE else None
+    if root is None:
+        root = element_in_pieces(chain(first, pieces))
     if root.tag != "scheduler_request":
         raise RequestFault("the XML is not a scheduler_request")
     return root
 
 
+def names_in(parents: Iterable[Element]) -> Iterator[str]:
+    """Yields the name in each of some elements that has one."""
+    for parent in parents:
+        found = parent.findall("name")
+        if found:
+            yield (found[-1].text or "").strip()
+
+
 def read_request(blocks: Iterable[bytes]) -> ClientRequest:
     """Reads the request from the blocks of a body. Raises RequestFault if it is none."""
     parts = Parts(blocks)
-    root = element_of(parts)
-    seconds = whole_of(root, "work_req_seconds", 0, MOST_SECONDS, 0, up=True)
+    root = element_of(parts.xml())
+    fields = Fields(root)
+    host = Fields(*root.findall("host_info"), of="host_info/")
+    seconds = fields.whole("work_req_seconds", 0, MOST_SECONDS, 0, up=True)
     has = root.find("other_results")
-    other: tuple[str, ...] | None = None
-    if has is not None:
-        names = (text_of(item, "name") for item in has.findall("other_result"))
-        other = tuple(name for name in names if name is not None and is_result_name(name))
-    platforms = (text_of(item, "name") for item in root.findall("alt_platform"))
-    alternatives = (name for name in platforms if name is not None and is_word(name))
+    other = None if has is None else tuple(filter(is_result_name, names_in(has.findall("other_result"))))
     return ClientRequest(
-        authenticator=word_of(root, "authenticator"),
-        hostid=whole_of(root, "hostid", 0, 2**31 - 1, 0),
-        rpc_seqno=whole_of(root, "rpc_seqno", 0, 2**31 - 1, 0),
-        host_cpid=word_of(root, "host_info/host_cpid"),
-        p_fpops=whole_of(root, "host_info/p_fpops", 1, MOST_NUMBER, 1),
-        m_nbytes=whole_of(root, "host_info/m_nbytes", 0, MOST_NUMBER, 0),
-        d_free=whole_of(root, "host_info/d_free", 0, MOST_NUMBER, 0),
-        platform_name=word_of(root, "platform_name"),
-        alt_platforms=tuple(alternatives)[:MOST_PLATFORMS],
+        authenticator=fields.word("authenticator"),
+        hostid=fields.whole("hostid", 0, 2**31 - 1, 0),
+        rpc_seqno=fields.whole("rpc_seqno", 0, 2**31 - 1, 0),
+        host_cpid=host.word("host_cpid"),
+        p_fpops=host.whole("p_fpops", 1, MOST_NUMBER, 1),
+        m_nbytes=host.whole("m_nbytes", 0, MOST_NUMBER, 0),
+        d_free=host.whole("d_free", 0, MOST_NUMBER, 0),
+        platform_name=fields.word("platform_name"),
+        alt_platforms=tuple(filter(is_word, names_in(root.findall("alt_platform"))))[:MOST_PLATFORMS],
         work_req_seconds=seconds,
         other_results=other,
         results=tuple(filter(None, map(report_of, root.findall("result")))),
-        code_sign_key="".join((text_of(root, "code_sign_key") or "").split()),
+        code_sign_key="".join((fields.text("code_sign_key") or "").split()),
         has_messages=parts.has_messages,
-        p_ncpus=whole_of(root, "host_info/p_ncpus", 1, 10_000, 1),
-        cpu_req_secs=whole_of(root, "cpu_req_secs", 0, MOST_SECONDS, seconds, up=True),
+        p_ncpus=host.whole("p_ncpus", 1, 10_000, 1),
+        cpu_req_secs=fields.whole("cpu_req_secs", 0, MOST_SECONDS, seconds, up=True),
         coprocs=coprocs_of(root),
     )

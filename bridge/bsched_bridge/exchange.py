@@ -16,11 +16,11 @@ from dataclasses import dataclass, replace
 
 from .archives import Archives
 from .barring import Barred, Barring
-from .call_numbers import CallNumbers, ClientState, CountEnded, TooManyHosts
+from .call_numbers import CallNumbers, ClientState, CountEnded, KeyState, KnownHost, TooManyHosts
 from .calls import call_text
 from .client_requests import ClientRequest, Report
 from .host_search import HostSearch, TooManySearches
-from .hosts import FIRST_KEY, Hosts, Key, KnownHost
+from .hosts import FIRST_KEY, Hosts, Key
 from .key_locks import Busy, KeyLocks
 from .report_checks import ReportChecks
 from .scheduler import Job, NoAnswer, Refusal, Reply, Scheduler
@@ -106,6 +106,12 @@ def not_taken(names: list[str]) -> str:
 Found = tuple[Key | None, dict[str, Key]]
 
 
+class StateChanged(Exception):
+    """Raised if the state of a key is another one by now than the one that was read before the key was
+    held.
+    """
+
+
 class Exchange:
     """Answers requests."""
 
@@ -134,7 +140,9 @@ class Exchange:
         """Returns the reply to a request, with the jobs that were in hand. If the request is put off, returns
         why and for how long.
         """
-        refused = self._refused(request.authenticator)
+        known = self.numbers.of_number(request.authenticator, request.hostid)
+        reason = self.barring.reason(request.authenticator) if known is None else known.barred
+        refused = self._refused(request.authenticator, reason)
         if refused is not None:
             log.warning(
                 "host %s of account %s is refused: %s",
@@ -144,9 +152,8 @@ class Exchange:
             )
             return refused
         try:
-            known = self.hosts.of_number(request.authenticator, request.hostid)
             if known is not None and request.rpc_seqno >= known.client_seqno:
-                reply = self._call(known.key, request, ClientState(seqno=request.rpc_seqno))
+                reply = self._call(known.key, request, ClientState(seqno=request.rpc_seqno), known.state)
                 return reply if isinstance(reply, PutOff) else Answered(reply)
             with self._locks.held((request.authenticator, request.hostid, request.host_cpid)):
                 return self._of_unknown(request, known)
@@ -159,9 +166,8 @@ class Exchange:
         except CountEnded:
             return COUNT_ENDED
 
-    def _refused(self, authenticator: str) -> PutOff | None:
+    def _refused(self, authenticator: str, reason: Barred | None) -> PutOff | None:
         """Returns what a client of a barred or a deleted account reads, or None for other accounts."""
-        reason = self.barring.reason(authenticator)
         if reason is Barred.DELETED:
             return DELETED
         is_barred = reason is not None or authenticator in self.rules().barred
@@ -297,12 +303,11 @@ class Exchange:
         """
         aside = replace(request, results=results, other_results=None, work_req_seconds=0)
         with self._locks.held(key):
-            self._resend(key)
-            in_hand = self.numbers.jobs_in_hand(key)
+            state = self._settled(key)
             checked = aside if self.reports is None else self.reports.check(key, aside)
-            reply = self._send(key, checked, ClientState())
+            reply = self._send(key, checked, ClientState(), state, True)
             if isinstance(reply, Reply):
-                self.numbers.keep_in_hand(key, jobs_with(reply, in_hand))
+                self.numbers.keep_in_hand(key, jobs_with(reply, state.jobs_in_hand))
                 return replace(reply, results=[], result_abort=[])
             return reply
 
@@ -311,58 +316,79 @@ class Exchange:
     def resend(self, key: Key) -> None:
         """Sends the open call of a key again, if there is one. Raises NoAnswer if it gets no answer again."""
         with self._locks.held(key):
-            self._resend(key)
+            self._settled(key)
 
-    def _resend(self, key: Key) -> None:
-        """Does the same while the key is held."""
-        call = self.numbers.open_call(key)
-        if call is None:
-            return
-        answer = self._answer(key, call)
+    def _settled(self, key: Key) -> KeyState:
+        """Returns the state of a key that is held. If the key has an open call, it is sent again first."""
+        state = self.numbers.state(key)
+        if state.open_call is None:
+            return state
+        answer = self._answer(key, state.open_call)
         if isinstance(answer, Refusal):
             log.warning("a call of %s that was sent again is refused as %s", key.host_cpid, answer.error)
             self.numbers.record_refusal(key)
         else:
-            self.numbers.record_answer(key, answer, jobs_with(answer, self.numbers.jobs_in_hand(key)))
+            self.numbers.record_answer(
+                key, answer, jobs_with(answer, state.jobs_in_hand), state.name is not None
+            )
+        return self.numbers.state(key)
 
     def _answer(self, key: Key, call: bytes) -> Reply | Refusal:
         """Returns the answer to a call, with the credit of the archives added."""
         answer = self.scheduler.call(call)
         return self.archives.added_to(key, answer) if isinstance(answer, Reply) else answer
 
-    def _call(self, key: Key, request: ClientRequest, client: ClientState = ClientState()) -> Reply | PutOff:
-        """Returns the reply to a request under a key. An open call of the key is sent first."""
+    def _call(
+        self, key: Key, request: ClientRequest, client: ClientState, seen: KeyState | None = None
+    ) -> Reply | PutOff:
+        """Returns the reply to a request under a key. An open call of the key is sent first. The state that
+        was seen before the key is held is nearly always the one that it still has.
+        """
         with self._locks.held(key):
-            self._resend(key)
-            if self.reports is None:
-                return self._send(key, request, client)
-            reply = self._send(key, self.reports.check(key, request), client)
-            if isinstance(reply, PutOff):
-                return reply
-            handed = self.reports.hand_out(key, reply.results)
-            if len(handed) < len(reply.results):
-                self.numbers.keep_in_hand(key, reply.results)
-            return replace(reply, results=handed)
+            if seen is not None and seen.has_host and seen.open_call is None:
+                try:
+                    return self._checked_call(key, request, client, seen, False)
+                except StateChanged:
+                    pass
+            return self._checked_call(key, request, client, self._settled(key), True)
 
-    def _is_made_up(self, key: Key) -> bool:
+    def _checked_call(
+        self, key: Key, request: ClientRequest, client: ClientState, state: KeyState, is_sure: bool
+    ) -> Reply | PutOff:
+        """Does the same for a key that is held and has no open call. Raises StateChanged."""
+        if self.reports is None:
+            return self._send(key, request, client, state, is_sure)
+        reply = self._send(key, self.reports.check(key, request), client, state, is_sure)
+        if isinstance(reply, PutOff):
+            return reply
+        handed = self.reports.hand_out(key, reply.results)
+        if len(handed) < len(reply.results):
+            self.numbers.keep_in_hand(key, reply.results)
+        return replace(reply, results=handed)
+
+    def _is_made_up(self, key: Key, state: KeyState) -> bool:
         """Returns whether bsched does not have the account of a key, if it is doubtful.
 
         While bsched gives no answer, each call stays on the disk, and anybody can make accounts up. So of an
         account that the bridge does not know nothing is stored then before bsched says that it has it. Its
         hosts can have no job. Raises NoAnswer.
         """
-        if not self.numbers.is_of_stranger(key):
+        if not state.is_of_stranger:
             return False
         if self.scheduler.silent_since is None and not self.numbers.has_many_of_strangers():
             return False
         return not self.scheduler.has_account(key.authenticator)
 
-    def _send(self, key: Key, request: ClientRequest, client: ClientState) -> Reply | PutOff:
-        """Returns the reply to a request. The key is held, and has no open call."""
-        if self._is_made_up(key):
+    def _send(
+        self, key: Key, request: ClientRequest, client: ClientState, state: KeyState, is_sure: bool
+    ) -> Reply | PutOff:
+        """Returns the reply to a request, with the name that the user chose. The key is held, and has no open
+        call. Raises StateChanged.
+        """
+        if self._is_made_up(key, state):
             return put_off_by(Refusal("bad_account"))
         listed = {*(request.other_results or ()), *names_of(request.results)}
-        in_hand = [job for job in self.numbers.jobs_in_hand(key) if job.name not in listed]
+        in_hand = [job for job in state.jobs_in_hand if job.name not in listed]
         names, seconds = [job.name for job in in_hand], sum(job.estimate for job in in_hand)
 
         def text(number: int) -> bytes:
@@ -371,22 +397,18 @@ class Exchange:
         last = 0
         refusal = Refusal("stale")
         for _ in range(COUNT_ATTEMPTS):
-            try:
-                call = self._open_call(key, text, last, client)
-            except TooManyHosts as many:
-                log.warning(
-                    "host %s of account %s is refused: the account has %d hosts",
-                    key.host_cpid,
-                    shown_key(key.authenticator),
-                    many.count,
-                )
-                return too_many_hosts(many.count)
+            call = self._open_call(key, text, last, client, None if is_sure else state)
+            if isinstance(call, PutOff):
+                return call
+            is_sure = True  # nobody else changes the state from now on
             answer = self._answer(key, call)
             if isinstance(answer, Reply):
-                self.numbers.record_answer(
-                    key, answer, [] if request.other_results is None else answer.results
-                )
-                return replace(answer, results=jobs_with(answer, in_hand))
+                jobs = [] if request.other_results is None else answer.results
+                self.numbers.record_answer(key, answer, jobs, state.name is not None)
+                name = answer.user_name if state.name is None else state.name
+                if name == answer.user_name and not in_hand:
+                    return answer
+                return replace(answer, user_name=name, results=jobs_with(answer, in_hand))
             refusal = answer
             self.numbers.record_refusal(key)
             if refusal.error == "bad_account" and self.import_again(key.authenticator):
@@ -397,8 +419,31 @@ class Exchange:
             log.warning("the count of %s continues from %d, which bsched had reached", key.host_cpid, last)
         return put_off_by(refusal)
 
-    def _open_call(self, key: Key, text: Callable[[int], bytes], last: int, client: ClientState) -> bytes:
-        """Returns the text of a new call. A new host is refused if its account has as many as it may have.
+    def _open_call(
+        self, key: Key, text: Callable[[int], bytes], last: int, client: ClientState, seen: KeyState | None
+    ) -> bytes | PutOff:
+        """Returns the text of a new call. If the state of the key was seen before it was held, it must still
+        be the same, else StateChanged is raised. A new host is refused if its account has as many as it may
+        have.
+        """
+        if seen is not None:
+            call = self.numbers.open_as(key, seen, text, client)
+            if call is None:
+                raise StateChanged
+            return call
+        try:
+            return self._open_counted(key, text, last, client)
+        except TooManyHosts as many:
+            log.warning(
+                "host %s of account %s is refused: the account has %d hosts",
+                key.host_cpid,
+                shown_key(key.authenticator),
+                many.count,
+            )
+            return too_many_hosts(many.count)
+
+    def _open_counted(self, key: Key, text: Callable[[int], bytes], last: int, client: ClientState) -> bytes:
+        """Does the same. Raises TooManyHosts.
 
         The hosts are counted in the state file. If that file and bsched's tables are of different moments,
         the two are reconciled first. A host that bsched does not have makes room.

@@ -82,6 +82,7 @@ class HandedOut:
 def listing_of(connection: sqlite3.Connection, job: HandedJob) -> int:
     """Returns the number of a job's list of output files. Most jobs of an application share one."""
     values = job.app, as_text(job.files)
-    connection.execute("INSERT OR IGNORE INTO listing (app, files) VALUES (?, ?)", values)
     row = connection.execute("SELECT id FROM listing WHERE app = ? AND files = ?", values).fetchone()
-    return cast(int, row[0])
+    if row is not None:
+        return cast(int, row[0])
+    return cast(int, connection.execute("INSERT INTO listing (app, files) VALUES (?, ?)", values).lastrowid)

@@ -33,15 +33,6 @@ FIRST_KEY = Key("", "")  # before all keys
 
 
 @dataclass(frozen=True, slots=True)
-class KnownHost:
-    """A host with the number that its client was told."""
-
-    key: Key
-    # the client's rpc_seqno in its last request with that number; 0 before the first one
-    client_seqno: int
-
-
-@dataclass(frozen=True, slots=True)
 class HeardHost:
     """A host as the latest reply described it."""
 
@@ -84,15 +75,6 @@ class Hosts:
         self.file = file
 
     # ---- Whose host a client is
-
-    def of_number(self, authenticator: str, hostid: int) -> KnownHost | None:
-        """Returns the account's host with a number that a client was told."""
-        row = self.file.row(
-            "SELECT host_cpid, coalesce(client_seqno, 0) FROM host WHERE authenticator = ? AND hostid = ?",
-            authenticator,
-            hostid,
-        )
-        return None if row is None else KnownHost(Key(authenticator, cast(str, row[0])), cast(int, row[1]))
 
     def key_for_copy(self, authenticator: str, hostid: int) -> Key:
         """Returns the key for a client that sends the number of another host, or an unknown one. It is a new

@@ -1,7 +1,6 @@
 """Locks by key: one request of a client at a time."""
 import threading
-from collections.abc import Hashable, Iterator
-from contextlib import contextmanager
+from collections.abc import Hashable
 
 
 class Busy(Exception):
@@ -26,16 +25,38 @@ class KeyLocks:
                 del self._locks[key]
             return lock
 
-    @contextmanager
-    def held(self, key: Hashable) -> Iterator[None]:
-        """Holds the key for the block."""
+    def held(self, key: Hashable) -> "HeldKey":
+        """Holds the key for the block of a `with` statement. Raises Busy."""
+        return HeldKey(self, key)
+
+    def take(self, key: Hashable) -> threading.Lock:
+        """Takes the key, and returns its lock."""
         lock = self._count(key, 1)
         try:
-            if not lock.acquire(timeout=self.wait_seconds):
-                raise Busy
-            try:
-                yield
-            finally:
-                lock.release()
-        finally:
+            if lock.acquire(timeout=self.wait_seconds):
+                return lock
+        except BaseException:
             self._count(key, -1)
+            raise
+        self._count(key, -1)
+        raise Busy
+
+    def give_back(self, key: Hashable, lock: threading.Lock) -> None:
+        """Gives the key back."""
+        lock.release()
+        self._count(key, -1)
+
+
+class HeldKey:
+    """Holds a key for a block."""
+
+    __slots__ = ("_locks", "_key", "_lock")
+
+    def __init__(self, locks: KeyLocks, key: Hashable) -> None:
+        self._locks, self._key = locks, key
+
+    def __enter__(self) -> None:
+        self._lock = self._locks.take(self._key)
+
+    def __exit__(self, *_fault: object) -> None:
+        self._locks.give_back(self._key, self._lock)

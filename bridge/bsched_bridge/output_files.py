@@ -6,13 +6,14 @@ of the result, and the file's place in the list.
 import hashlib
 import json
 import re
-from collections.abc import Iterable
 from dataclasses import asdict, dataclass
+from functools import lru_cache
 
 from .operator_files import Entry
 
 MOST_FILES = 20  # of one result
 MOST_OUTPUT = 1024  # bytes of the output of a result
+MOST_LISTS = 100  # of output files whose text is kept
 OPEN_NAME = re.compile(r"[A-Za-z0-9_][A-Za-z0-9_.+-]{0,127}")
 # no input file or program may have a name of this form: the client has one file for each name
 UPLOAD_NAME = re.compile(r".*_[0-9]+_[0-9]+")
@@ -84,7 +85,8 @@ def read_output_files(entry: Entry) -> tuple[OutputFile, ...]:
     return tuple(files)
 
 
-def as_text(files: Iterable[OutputFile]) -> str:
+@lru_cache(MOST_LISTS)
+def as_text(files: tuple[OutputFile, ...]) -> str:
     """Returns a list of output files as a text."""
     return json.dumps([asdict(file) for file in files])
 

@@ -4,7 +4,6 @@
 file names a host by a keyed digest of the account's key and the host_cpid. The bridge reads the file again
 after each change. Until the next run of the tools the average of a host falls as if it got no credit.
 """
-import hashlib
 import hmac
 import json
 import logging
@@ -53,14 +52,20 @@ class RecentCredit:
 
     def of_hosts(self, hosts: Iterable[tuple[str, str]], now: float | None = None) -> float:
         """Returns the recent average credit of hosts together. A host is a key and a host_cpid."""
+        return sum(self.of_each(hosts, now), 0.0)
+
+    def of_each(self, hosts: Iterable[tuple[str, str]], now: float | None = None) -> list[float]:
+        """Returns the recent average credit of each of some hosts."""
         averages, moment = self._read(), time.time() if now is None else now
-        total = 0.0
-        for authenticator, host_cpid in hosts if averages.hosts else ():
+        if not averages.hosts:
+            return [0.0 for _ in hosts]
+        credits = []
+        for authenticator, host_cpid in hosts:
             host = f"{authenticator}\0{host_cpid}".encode()
-            name = hmac.new(averages.salt, host, hashlib.sha256).hexdigest()[:DIGITS]
+            name = hmac.digest(averages.salt, host, "sha256").hex()[:DIGITS]
             average, computed_at = averages.hosts.get(name, (0.0, 0.0))
-            total += average * 2 ** (-max(0.0, moment - computed_at) / HALF_LIFE_SECONDS)
-        return total
+            credits.append(average * 2 ** (-max(0.0, moment - computed_at) / HALF_LIFE_SECONDS))
+        return credits
 
     def _read(self) -> Averages:
         """Returns what the file says, and reads it again if it changed."""

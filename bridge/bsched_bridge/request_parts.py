@@ -60,7 +60,7 @@ class Parts:
     def xml(self) -> Iterator[bytes]:
         """Yields what the parser reads, in pieces. Raises RequestFault if it is too long."""
         decoder = codecs.getincrementaldecoder("utf-8")("replace")
-        length, errors = 0, 0
+        length, errors, is_ascii = 0, 0, True
         for piece in self._pieces():
             if piece is None:
                 errors += 1
@@ -68,8 +68,11 @@ class Parts:
                     raise RequestFault("the request has too many results")
                 yield self._error()
                 continue
-            plain = decoder.decode(piece).replace("\ufffe", "\ufffd").replace("\uffff", "\ufffd")
-            text = plain.encode().translate(TO_QUESTION_MARKS)
+            is_ascii = is_ascii and piece.isascii()
+            if not is_ascii:  # a character may go on in the next piece
+                plain = decoder.decode(piece).replace("\ufffe", "\ufffd").replace("\uffff", "\ufffd")
+                piece = plain.encode()
+            text = piece.translate(TO_QUESTION_MARKS)
             length += len(text)
             if length > MOST_XML:
                 raise RequestFault("the request is too long")

@@ -1,7 +1,6 @@
-"""The connection to bsched, and what its answers say (docs/PROFILE.md, "The reply", "Refusals" and "HTTP
+"""Messages to bsched, and what its answers say (docs/PROFILE.md, "The reply", "Refusals" and "HTTP
 messages").
 """
-import http.client
 import json
 import logging
 import threading
@@ -11,6 +10,7 @@ from contextlib import contextmanager
 from dataclasses import dataclass, field, fields
 from typing import Any, NoReturn
 
+from .scheduler_connection import FaultyAnswer, exchanged, message_of
 from .settings import Address
 
 ATTEMPTS = 3
@@ -197,23 +197,17 @@ class Scheduler:
         self, method: str, path: str, body: bytes | None, fields: dict[str, str]
     ) -> tuple[int, bytes]:
         """Returns the status of the answer, and at most MOST_ANSWER + 1 bytes of its body."""
-        connection = http.client.HTTPConnection(
-            self.address.host, self.address.port, timeout=self.answer_seconds
-        )
+        message = message_of(self.address, method, path, body, fields)
         try:
-            connection.request(method, path, body, fields)
-            response = connection.getresponse()
-            answer = response.status, response.read(MOST_ANSWER + 1)
-            self._hung_until = None
-            return answer
+            answer = exchanged(self.address, message, self.answer_seconds, MOST_ANSWER)
         except TimeoutError:
             self._hung_until = time.monotonic() + HUNG_SECONDS
             raise NoAnswer("no answer in time") from None
-        except (OSError, http.client.HTTPException) as error:
+        except (OSError, FaultyAnswer) as error:
             self._hung_until = None
             raise NoAnswer(str(error) or type(error).__name__) from None
-        finally:
-            connection.close()
+        self._hung_until = None
+        return answer
 
     def _refuse_too_long(self, method: str, path: str) -> NoReturn:
         """Refuses an answer of which only a part was read."""

@@ -1,6 +1,5 @@
 """Answers the scheduler_requests of clients: reads a request, and writes the reply to it."""
 from collections.abc import Callable, Iterable
-from dataclasses import replace
 
 from werkzeug.wrappers import Request, Response
 
@@ -61,7 +60,9 @@ class SchedulerMessages:
         blocks = blocks_of(message, length)
         try:
             with self.places.taken(0.0 if self.exchange.scheduler.is_slow else PLACE_SECONDS):
-                request = self.catalogue().by_resource(self.reader.read(blocks, length))
+                asked = self.reader.read(blocks, length)
+                catalogue = self.catalogue()
+                request = catalogue.by_resource(asked)
                 answered = self.exchange.answer(request)
         except RequestFault as fault:
             answered = PutOff(f"Error in request message: {fault}", HOUR)
@@ -71,10 +72,11 @@ class SchedulerMessages:
             pass
         if isinstance(answered, PutOff):
             return answer(XML, self.writer.put_off(answered))
-        member = self.members.of_key(request.authenticator)  # the user may have chosen another name
-        reply = answered.reply if member is None else replace(answered.reply, user_name=member.name)
+        reply = answered.reply
         recent = self._recent(request.authenticator, reply.hostid)
-        writer = self.writer.with_catalogue(self.catalogue())
+        if reply.results:
+            catalogue = self.catalogue()  # it may have been edited meanwhile
+        self.writer = writer = self.writer.with_catalogue(catalogue)
         return answer(XML, writer.reply(request, reply, answered.hostid, answered.notice, recent))
 
     def _recent(self, authenticator: str, scheduler_hostid: int) -> Recent | None:
@@ -82,8 +84,6 @@ class SchedulerMessages:
         if self.recent.path is None:
             return None
         cpids = self.exchange.hosts.cpids(authenticator)
-        own = cpids.get(scheduler_hostid)
-        return Recent(
-            self.recent.of_hosts((authenticator, cpid) for cpid in cpids.values()),
-            0.0 if own is None else self.recent.of_host(authenticator, own),
-        )
+        credits = self.recent.of_each((authenticator, cpid) for cpid in cpids.values())
+        own = dict(zip(cpids, credits)).get(scheduler_hostid, 0.0)
+        return Recent(sum(credits, 0.0), own)

@@ -10,8 +10,6 @@ import fcntl
 import os
 import sqlite3
 import threading
-from collections.abc import Iterator
-from contextlib import contextmanager
 from pathlib import Path
 
 # the name of the format, in the file's header: "bscb"
@@ -142,6 +140,7 @@ class StateFile:
 
     def __init__(self, path: Path, is_guest: bool = False) -> None:
         self._lock, self._held = threading.Lock(), None
+        self._is_synced: bool | None = None  # whether SQLite syncs a commit now; None: as it does by default
         try:
             if is_guest:
                 path.stat()
@@ -182,23 +181,38 @@ class StateFile:
             os.close(self._held)
             self._held = None
 
-    @contextmanager
-    def transaction(self, is_synced: bool = True) -> Iterator[sqlite3.Connection]:
-        """Runs the block in one transaction. If the block ends without an exception, it is committed;
-        otherwise it is undone.
+    def transaction(self, is_synced: bool = True) -> "Transaction":
+        """Runs the block of a `with` statement in one transaction. If the block ends without an exception, it
+        is committed; otherwise it is undone.
 
         If is_synced is false, a power failure may undo it, until a later transaction is synced.
         """
-        with self._lock:
-            self._connection.execute(f"PRAGMA synchronous = {'FULL' if is_synced else 'NORMAL'}")
+        return Transaction(self, is_synced)
+
+    def begin(self, is_synced: bool) -> sqlite3.Connection:
+        """Begins a transaction, for which this thread has the connection from now on."""
+        self._lock.acquire()
+        try:
+            if is_synced != self._is_synced:
+                self._connection.execute(f"PRAGMA synchronous = {'FULL' if is_synced else 'NORMAL'}")
+                self._is_synced = is_synced
             self._connection.execute("BEGIN IMMEDIATE")
-            try:
-                yield self._connection
+        except BaseException:
+            self._lock.release()
+            raise
+        return self._connection
+
+    def end(self, is_good: bool) -> None:
+        """Commits or undoes the transaction."""
+        try:
+            if is_good:
                 self._connection.execute("COMMIT")
-            except BaseException:
+        finally:
+            try:
                 if self._connection.in_transaction:
                     self._connection.execute("ROLLBACK")
-                raise
+            finally:
+                self._lock.release()
 
     def row(self, statement: str, *values: object) -> tuple[object, ...] | None:
         """Returns the first row of a query."""
@@ -232,6 +246,21 @@ class StateFile:
                 copy.execute("PRAGMA journal_mode = DELETE").fetchall()
             finally:
                 copy.close()
+
+
+class Transaction:
+    """A transaction of a block."""
+
+    __slots__ = ("_file", "_is_synced")
+
+    def __init__(self, file: StateFile, is_synced: bool) -> None:
+        self._file, self._is_synced = file, is_synced
+
+    def __enter__(self) -> sqlite3.Connection:
+        return self._file.begin(self._is_synced)
+
+    def __exit__(self, kind: object, *_fault: object) -> None:
+        self._file.end(kind is None)
 
 
 def check_version(connection: sqlite3.Connection) -> None:

@@ -107,12 +107,11 @@ def made_accounts(twin: Twin) -> list[str]:
 
 
 def wait_until(is_so: Callable[..., Any]) -> None:
-    """Waits until something is so, for ten seconds at most."""
-    for _ in range(1000):
-        if is_so():
-            return
+    """Waits until something is so, for a minute at most: a busy machine may take long."""
+    ends = time.monotonic() + 60
+    while not is_so():
+        assert time.monotonic() < ends, "it did not come about"
         time.sleep(0.01)
-    raise AssertionError("it did not come about")
 
 
 # ---- Stops
@@ -176,12 +175,11 @@ class Stops:
                 self.is_here = stops.passed == stops.at
                 return self.inner.__enter__()
 
-            def __exit__(self, *fault: Any) -> Any:
-                ends = self.inner.__exit__(*fault)
+            def __exit__(self, *fault: Any) -> None:
+                self.inner.__exit__(*fault)
                 if self.is_here:
                     stops.is_stopped = True
                     raise Stopped
-                return ends
 
         monkeypatch.setattr(bridge.file, "transaction", Transaction)
         monkeypatch.setattr(

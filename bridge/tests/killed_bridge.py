@@ -1,10 +1,12 @@
 """A bridge in a process of its own that kills itself at the n-th of its writes and sends.
 
-usage: killed_bridge.py SETTINGS PORT N before|after
+usage: killed_bridge.py SETTINGS SOCKET N before|after
+SOCKET is the descriptor of a socket that listens.
 PYTHONPATH must have the folders bridge and bench.
 """
 import os
 import signal
+import socket
 import sys
 from pathlib import Path
 from typing import Any
@@ -49,11 +51,11 @@ class Served:
 
 def main() -> None:
     """Serves until the process is killed."""
-    path, port, at, when = sys.argv[1:]
+    path, listener, at, when = sys.argv[1:]
     setattr(joining, "Stopped", Killed)
     bridge = Served(Path(path))
     joining.Stops(int(at), when == "after").set(Places, bridge)
-    waitress.serve(bridge.application, host="127.0.0.1", port=int(port), threads=2)
+    waitress.serve(bridge.application, sockets=[socket.socket(fileno=int(listener))], threads=2)
 
 
 if __name__ == "__main__":

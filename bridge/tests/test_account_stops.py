@@ -5,10 +5,10 @@ import http.client
 import os
 import random
 import signal
+import socket
 import subprocess
 import sys
 import threading
-import time
 from collections.abc import Callable
 from pathlib import Path
 from typing import Any
@@ -16,7 +16,6 @@ from typing import Any
 import pytest
 from bridges import ACCOUNTS, BRIDGE, Bridge
 from joining import Stopped, Stops, account_query, create, key_or_number, look_up, made_accounts, rows, works
-from served import free_port
 from twin import Twin
 
 from bsched_bridge.scheduler import NoAnswer
@@ -202,46 +201,43 @@ def test_a_life_of_accounts(
 POINTS = [(at, is_after) for at in (1, 2, 3) for is_after in (False, True)]
 
 
-def asked(port: int, query: str) -> tuple[str, dict[str, str], bytes] | None:
+def asked(address: tuple[str, int], query: str) -> tuple[str, dict[str, str], bytes] | None:
     """Returns the answer of a bridge in another process, or None if the bridge is killed first."""
-    for _ in range(600):  # a busy machine may need long to start it
-        connection = http.client.HTTPConnection("127.0.0.1", port, timeout=60)
-        try:
-            connection.request("GET", query)
-            response = connection.getresponse()
-            fields = {name: value for name, value in response.getheaders()}
-            return f"{response.status} {response.reason}", fields, response.read()
-        except ConnectionRefusedError:
-            time.sleep(0.1)
-        except (OSError, http.client.HTTPException):
-            return None
-        finally:
-            connection.close()
-    raise AssertionError("the bridge does not start")
+    connection = http.client.HTTPConnection(*address, timeout=600)  # a busy machine may need long to start it
+    try:
+        connection.request("GET", query)
+        response = connection.getresponse()
+        fields = {name: value for name, value in response.getheaders()}
+        return f"{response.status} {response.reason}", fields, response.read()
+    except (OSError, http.client.HTTPException):
+        return None
+    finally:
+        connection.close()
 
 
 @pytest.mark.parametrize("at, is_after", POINTS)
 def test_a_bridge_that_is_killed(project: Path, twin: Twin, at: int, is_after: bool) -> None:
     """SIGKILL ends the process at a write or at the send. What it leaves is enough."""
-    port = free_port()
     with (project / "bridge.toml").open("a") as file:
         file.write(ACCOUNTS)
     text = (project / "bridge.toml").read_text().replace("127.0.0.1:8080", f"127.0.0.1:{twin.address.port}")
     (project / "bridge.toml").write_text(text)
-    words = [
-        sys.executable,
-        str(BRIDGE / "tests" / "killed_bridge.py"),
-        str(project / "bridge.toml"),
-        str(port),
-        str(at),
-    ]
-    process = subprocess.Popen(
-        [*words, "after" if is_after else "before"],
-        env={**os.environ, "PYTHONPATH": PACKAGES, "PYTHONDONTWRITEBYTECODE": "1"},
-    )
+    with socket.create_server(("127.0.0.1", 0)) as listener:  # the bridge takes over the socket
+        address, number = listener.getsockname(), listener.fileno()
+        words = [
+            str(BRIDGE / "tests" / "killed_bridge.py"),
+            str(project / "bridge.toml"),
+            str(number),
+            str(at),
+        ]
+        process = subprocess.Popen(
+            [sys.executable, *words, "after" if is_after else "before"],
+            env={**os.environ, "PYTHONPATH": PACKAGES, "PYTHONDONTWRITEBYTECODE": "1"},
+            pass_fds=[number],
+        )
     try:
-        answer = asked(port, account_query("create_account.php", EMAIL, "secret1", user_name="ann"))
-        assert process.wait(60) == -signal.SIGKILL
+        answer = asked(address, account_query("create_account.php", EMAIL, "secret1", user_name="ann"))
+        assert process.wait(600) == -signal.SIGKILL
     finally:
         process.kill()
     assert answer is None

@@ -1,12 +1,22 @@
 """What the bridge keeps in its state file about keys and numbers."""
 import threading
+import time
 from collections.abc import Iterator
+from dataclasses import replace
 from pathlib import Path
 from typing import Any
 
 import pytest
 
-from bsched_bridge.call_numbers import CallNumbers, CountEnded, TooManyHosts
+from bsched_bridge.barring import Barred, Barring
+from bsched_bridge.call_numbers import (
+    CallNumbers,
+    ClientState,
+    CountEnded,
+    KeyState,
+    KnownHost,
+    TooManyHosts,
+)
 from bsched_bridge.hosts import FIRST_KEY, MOST_NUMBER, Hosts, Key
 from bsched_bridge.scheduler import Job, Reply
 from bsched_bridge.state_file import StateFile
@@ -62,6 +72,119 @@ def test_an_answer_closes_a_call_and_keeps_jobs(numbers: CallNumbers) -> None:
     assert numbers.next_open(FIRST_KEY) is None
     assert numbers.jobs_in_hand(KEY) == [JOB]
     assert Hosts(numbers.file).heard(10)[0].user_name == "Ann"
+
+
+def test_the_state_of_a_key(numbers: CallNumbers) -> None:
+    assert numbers.state(KEY) == KeyState()
+    assert numbers.state(KEY).is_of_stranger
+    numbers.open(KEY, lambda number: b"call")
+    assert numbers.state(KEY) == KeyState(b"call", last_number=1)
+    assert numbers.state(KEY).is_of_stranger
+    numbers.record_answer(KEY, reply(), [JOB])
+    state = numbers.state(KEY)
+    assert replace(state, jobs_text="[]") == KeyState(last_number=1, has_host=True, name="Ann")
+    assert state.jobs_in_hand == [JOB] and not state.is_of_stranger
+    hostid = numbers.give_hostid(KEY)
+    known = numbers.of_number("ann-key", hostid or 0)
+    assert known == KnownHost(KEY, 0, None, replace(state, has_number=True))
+    assert not KeyState(has_number=True).is_of_stranger
+    # another host of the account, and another account
+    assert numbers.state(Key("ann-key", "c2")) == KeyState(name="Ann")
+    assert not KeyState(name="Ann").is_of_stranger
+    assert numbers.of_number("bob-key", hostid or 0) is None
+
+
+def test_a_barred_account_of_a_known_host(numbers: CallNumbers) -> None:
+    numbers.open(KEY, lambda number: b"call")
+    numbers.record_answer(KEY, reply(), [])
+    hostid = numbers.give_hostid(KEY) or 0
+    Barring(numbers.file).bar("ann-key", 1000)
+    known = numbers.of_number("ann-key", hostid)
+    assert known is not None and known.barred is Barred.BY_OPERATOR
+    Barring(numbers.file).unbar("ann-key")
+    known = numbers.of_number("ann-key", hostid)
+    assert known is not None and known.barred is None
+
+
+def test_a_call_of_a_state_that_was_seen(numbers: CallNumbers) -> None:
+    """It is opened only if nothing of it has changed, and else nothing changes."""
+    numbers.open(KEY, lambda number: b"call")
+    seen = numbers.state(KEY)
+
+    def opened(state: KeyState, seqno: int = 3) -> bytes | None:
+        return numbers.open_as(KEY, state, lambda number: b"%d" % number, ClientState(seqno=seqno))
+
+    assert opened(replace(seen, open_call=None)) is None  # there is an open call
+    numbers.record_refusal(KEY)
+    assert opened(seen) is None  # the key is forgotten
+    numbers.open(KEY, lambda number: b"call")
+    numbers.record_answer(KEY, reply(), [JOB])
+    seen = numbers.state(KEY)
+    assert opened(replace(seen, jobs_text="[]")) is None
+    assert opened(replace(seen, last_number=7)) is None
+    assert numbers.state(KEY) == seen
+    assert opened(seen) == b"2"
+    assert numbers.state(KEY) == replace(seen, last_number=2, open_call=b"2")
+    assert opened(seen) is None
+    numbers.record_answer(KEY, reply(), [JOB])
+    Hosts(numbers.file).mark_gone(KEY)
+    assert opened(replace(seen, last_number=2)) is None  # it counts for the limit of hosts
+
+
+@pytest.mark.parametrize("told, kept", [([3, 5, 4], 5), ([None, 0], 0), ([None], None)])
+def test_the_count_of_a_client_never_falls(
+    numbers: CallNumbers, told: list[int | None], kept: int | None
+) -> None:
+    numbers.open(KEY, lambda number: b"call")
+    for seqno in told:
+        numbers.record_answer(KEY, reply(), [])
+        numbers.open_as(KEY, numbers.state(KEY), lambda number: b"call", ClientState(seqno=seqno))
+    assert numbers.file.row("SELECT client_seqno FROM host") == (kept,)
+
+
+def test_the_last_number_of_a_state_that_was_seen(numbers: CallNumbers) -> None:
+    numbers.open(KEY, lambda number: b"call", MOST_NUMBER - 2)
+    numbers.record_answer(KEY, reply(), [])
+    state = numbers.state(KEY)
+    assert numbers.open_as(KEY, state, lambda number: b"%d" % number, ClientState()) == b"%d" % MOST_NUMBER
+    numbers.record_answer(KEY, reply(), [])
+    with pytest.raises(CountEnded):
+        numbers.open_as(KEY, numbers.state(KEY), lambda number: b"never", ClientState())
+
+
+def test_an_account_that_the_bridge_has_is_not_inserted(numbers: CallNumbers) -> None:
+    numbers.open(KEY, lambda number: b"call")
+    numbers.record_answer(KEY, reply(), [], has_account=True)
+    assert numbers.file.row("SELECT count(*) FROM member") == (0,)
+    numbers.record_answer(KEY, reply(), [])
+    numbers.record_answer(KEY, reply(), [])
+    assert numbers.file.rows("SELECT authenticator, name FROM member") == [("ann-key", "Ann")]
+
+
+def test_a_number_that_bsched_gives_a_second_time_is_that_of_the_latest_reply(numbers: CallNumbers) -> None:
+    hosts, other, stranger = Hosts(numbers.file), Key("ann-key", "c2"), Key("bob-key", "c1")
+    for key in (KEY, stranger, other):
+        numbers.open(key, lambda number: b"call")
+        numbers.record_answer(key, reply(7, (JOB,)), [JOB])
+    assert [hosts.scheduler_hostid(key) for key in (KEY, other, stranger)] == [None, 7, 7]
+    assert [numbers.open_call(key) for key in (KEY, other, stranger)] == [None] * 3
+    numbers.record_answer(other, reply(7), [])
+    assert hosts.scheduler_hostid(other) == 7
+
+
+def test_a_reply_in_the_future_is_older_than_all_others(
+    numbers: CallNumbers, monkeypatch: pytest.MonkeyPatch
+) -> None:
+    """The clock was ahead once. What a later reply says of the credit counts."""
+    now = time.time()
+    for cpid, moment, credit in (("c1", now + 10**6, 5), ("c2", now - 10, 9)):
+        monkeypatch.setattr("time.time", lambda: moment)
+        numbers.open(Key("ann-key", cpid), lambda number: b"call")
+        numbers.record_answer(
+            Key("ann-key", cpid), replace(reply(), hostid=credit, user_total_credit=credit), []
+        )
+    monkeypatch.undo()
+    assert Hosts(numbers.file).user_credits() == [("ann-key", 9)]
 
 
 def test_a_key_without_a_host_is_forgotten_at_a_refusal(numbers: CallNumbers) -> None:

@@ -4,6 +4,8 @@ import subprocess
 import sys
 import time
 from pathlib import Path
+from xml.etree.ElementTree import Element
+from xml.sax.saxutils import escape
 
 import pytest
 from hostile import SHAPES
@@ -270,6 +272,92 @@ def test_hostile_requests_take_little_memory_and_time() -> None:
 def test_a_deep_request() -> None:
     with pytest.raises(RequestFault):
         read_request(b"<scheduler_request>" + b"<a>" * 100_000)
+    with pytest.raises(RequestFault, match="too many elements"):
+        read_request(request(extra="<a>" * 20_000 + "</a>" * 20_000).encode())
+    depth = client_requests.MOST_AT_ONCE // 8  # a short one does no harm
+    assert read_request(request(extra="<a>" * depth + "</a>" * depth).encode()).host_cpid == "c1"
+
+
+# ---- The two parsers
+
+NAMES = st.sampled_from(["a", "b", "name", "a:b", "é", "time_stats", "app_versions"])
+XML_TEXTS = st.text(st.sampled_from("x \n\té\U0001f600&<>'\"]"), max_size=6)
+ELEMENTS: st.SearchStrategy[str] = st.recursive(
+    st.builds(lambda name, text: f"<{name}>{escape(text)}</{name}>", NAMES, XML_TEXTS),
+    lambda inner: st.builds(
+        lambda name, parts, tail: f'<{name} x="1" y=\'&lt;\'>{"".join(parts)}{escape(tail)}</{name}>',
+        NAMES,
+        st.lists(inner, max_size=4),
+        XML_TEXTS,
+    ),
+    max_leaves=12,
+)
+
+
+UNUSED = ["time_stats", "app_versions", "unused"]
+
+
+def shape(element: Element) -> tuple[object, ...]:
+    """Returns what is read of an element: all but its attributes and the unused elements."""
+    return element.tag, element.text, [shape(one) for one in element if one.tag not in UNUSED]
+
+
+@given(ELEMENTS)
+@example("<a><time_stats><a/></time_stats><b>1</b><time_stats><a/></time_stats></a>")
+@example("<a><time_stats><time_stats/></time_stats><b>1</b></a>")
+@example("<a><time_stats><time_stats></time_stats></time_stats><b>1</b></a>")
+@example("<time_stats><a/></time_stats>")
+@example("<a><time_stats>1</time_stats>2</a>")
+def test_both_parsers_read_the_same(text: str) -> None:
+    body = f"<a>{text}</a>".encode()
+    at_once = client_requests.element_at_once(body)
+    try:
+        expected = client_requests.element_in_pieces([body])
+    except RequestFault:
+        assert at_once is None  # a prefix that is not bound
+    else:
+        # of an unused element in another one of its name, the first end is that of the inner one
+        assert at_once is None or shape(at_once) == shape(expected)
+        assert at_once is not None or "time_stats" in text or "app_versions" in text
+
+
+@pytest.mark.parametrize("name", ["first", "reports", "unlisted", "whole"])
+def test_both_parsers_read_the_same_request(name: str, monkeypatch: pytest.MonkeyPatch) -> None:
+    result = recorded("whole_result").replace(b"@NAME@", b"u1_0")
+    body = recorded(name).replace(b"@CPID@", b"c1").replace(b"@RESULTS@", result)
+    body = body.replace(b"@HOSTID@", b"7").replace(b"@SEQNO@", b"5")
+    at_once = read_request(body)
+    monkeypatch.setattr(client_requests, "MOST_AT_ONCE", 0)
+    assert read_request(body) == at_once
+
+
+def test_a_request_as_long_as_those_of_clients() -> None:
+    body = recorded("whole").replace(b"@CPID@", b"c1").replace(b"@RESULTS@", recorded("whole_result"))
+    parsed = read_request(
+        body.replace(b"@HOSTID@", b"7").replace(b"@SEQNO@", b"5").replace(b"@NAME@", b"u1_0")
+    )
+    assert (parsed.authenticator, parsed.hostid, parsed.rpc_seqno, parsed.host_cpid) == (
+        "ann-key",
+        7,
+        5,
+        "c1",
+    )
+    assert (parsed.p_ncpus, parsed.p_fpops, parsed.m_nbytes) == (4, 10**9, 25_276_080_128)
+    assert parsed.results == (Report("u1_0", 0, "500500"),) and parsed.other_results == ()
+    assert parsed.alt_platforms == ("i686-pc-linux-gnu",) and parsed.coprocs == ()
+
+
+@pytest.mark.parametrize("text", ["<!-- a comment -->", "<a><![CDATA[ <b> ]]></a>", "<?a b?>"])
+def test_requests_with_comments_and_sections_are_read(text: str) -> None:
+    assert read_request(request(extra=text).encode()) == read_request(request().encode())
+
+
+@pytest.mark.parametrize("text", ["<!DOCTYPE a>", "<!DOCTYPE a [<!ENTITY b 'c'>]>", "<!doctype a>"])
+def test_a_document_type_reaches_one_parser_only(text: str) -> None:
+    body = text + "<scheduler_request/>"
+    assert client_requests.element_at_once(body.encode()) is None
+    with pytest.raises(RequestFault):
+        read_request(body.encode())
 
 
 def test_a_number_of_many_digits() -> None:

@@ -462,6 +462,6 @@ def test_the_thread_that_sends_again_pauses_and_ends(bridge: Bridge) -> None:
     began.clear()
     resending = Resending(bridge.application.exchange, 0.05, imports)
     resending.start()
-    wait_until(lambda: len(began) == 3)  # once in each round
+    wait_until(lambda: len(began) >= 3)  # once in each round
     resending.end()
     assert began[2] - began[1] >= 0.25

@@ -1,19 +1,26 @@
 """The bridge under gunicorn, by the command of its unit."""
+import os
 import re
 import shlex
+import signal
 import socket
 import subprocess
 import sys
 import time
+from collections.abc import Iterator
+from concurrent.futures import ThreadPoolExecutor
+from contextlib import contextmanager
 from pathlib import Path
 
 import pytest
 from served import free_port
+from messages import request, value
 from twin import Twin
 
 BRIDGE = Path(__file__).resolve().parents[1]
 UNIT = BRIDGE.parent / "debian" / "bsched-tools@.bsched-bridge.service"
 SECRETS = ("carl%40sums.example", "5ecre7")
+HEAD = "HTTP/1.1\r\nHost: sums.example\r\nConnection: close\r\n"
 QUERY = "lookup_account.php?email_addr=carl%40sums.example&passwd_hash=5ecre7"
 
 
@@ -35,19 +42,9 @@ def exchanged(port: int, text: str) -> bytes:
     return answer
 
 
-@pytest.mark.parametrize(
-    "fields, status",
-    [
-        ("", b"200"),
-        ("SCRIPT_NAME: /elsewhere\r\n", b"500"),
-        ("SCRIPT_NAME: /p/lookup_account.php\r\n", b"200"),
-        ("SCRIPT_NAME\r\n", b"400"),
-        ("Transfer-Encoding: carl%40sums.example 5ecre7\r\n", b"500"),
-        ("Content-Length: carl%40sums.example 5ecre7\r\n", b"400"),
-    ],
-)
-def test_no_log_has_an_address(project: Path, twin: Twin, fields: str, status: bytes) -> None:
-    """gunicorn itself logs the URL of a message with a wrong SCRIPT_NAME."""
+@contextmanager
+def served(project: Path, twin: Twin) -> Iterator[tuple[int, "subprocess.Popen[str]"]]:
+    """Serves a project by gunicorn, and yields the port and the process."""
     pytest.importorskip("gunicorn")
     settings = project / "bridge.toml"
     host = f"{twin.address.host}:{twin.address.port}"
@@ -62,18 +59,98 @@ def test_no_log_has_an_address(project: Path, twin: Twin, fields: str, status: b
         text=True,
     )
     try:
-        head = f"HTTP/1.1\r\nHost: sums.example\r\nConnection: close\r\n{fields}\r\n"
-        answer = b""
-        for _ in range(300):
+        for _ in range(600):
             try:
-                answer = exchanged(port, f"GET /p/{QUERY} {head}")
+                exchanged(port, f"GET /p/ {HEAD}\r\n")
                 break
             except OSError:
                 time.sleep(0.1)
-        assert answer.startswith(b"HTTP/1.1 " + status)
-        assert exchanged(port, f"GET /p/ {head.replace(fields, '')}").startswith(b"HTTP/1.1 200")
+        yield port, process
     finally:
+        process.kill()
+        process.communicate(timeout=60)
+
+
+@pytest.mark.parametrize(
+    "fields, status",
+    [
+        ("", b"200"),
+        ("SCRIPT_NAME: /elsewhere\r\n", b"500"),
+        ("SCRIPT_NAME: /p/lookup_account.php\r\n", b"200"),
+        ("SCRIPT_NAME\r\n", b"400"),
+        ("Transfer-Encoding: carl%40sums.example 5ecre7\r\n", b"500"),
+        ("Content-Length: carl%40sums.example 5ecre7\r\n", b"400"),
+    ],
+)
+def test_no_log_has_an_address(project: Path, twin: Twin, fields: str, status: bytes) -> None:
+    """gunicorn itself logs the URL of a message with a wrong SCRIPT_NAME."""
+    with served(project, twin) as (port, process):
+        answer = exchanged(port, f"GET /p/{QUERY} {HEAD}{fields}\r\n")
+        assert answer.startswith(b"HTTP/1.1 " + status)
+        assert exchanged(port, f"GET /p/ {HEAD}\r\n").startswith(b"HTTP/1.1 200")
         process.terminate()
-        log, _ = process.communicate(timeout=30)
+        log, _ = process.communicate(timeout=60)
     assert "Listening at" in log and not any(secret in log for secret in SECRETS), log
     assert ("could not handle a message" in log) == ("/elsewhere" in fields)
+
+
+# ---- The worker whose threads take connections
+
+
+def call(hostid: int, number: int) -> str:
+    """Returns the message of a call."""
+    body = request(cpid=f"c{number}", hostid=hostid, seconds=0)
+    return f"POST /p/cgi {HEAD}Content-Length: {len(body)}\r\n\r\n{body}"
+
+
+def test_several_clients_at_once(project: Path, twin: Twin) -> None:
+    """Each gets its answer, over a connection that is closed then, and a host of its own."""
+    with served(project, twin) as (port, _), ThreadPoolExecutor(6) as pool:
+        answers = list(pool.map(lambda number: exchanged(port, call(0, number)), range(18)))
+    assert {answer[:12] for answer in answers} == {b"HTTP/1.1 200"}
+    assert all(b"Connection: close" in answer for answer in answers)
+    numbers = {value(answer, "hostid") for answer in answers}
+    assert None not in numbers and len(numbers) == 18
+
+
+def test_a_client_that_sends_slowly(project: Path, twin: Twin) -> None:
+    """A thread looks each second whether the worker ends, but not while it reads a message."""
+    with served(project, twin) as (port, _):
+        text = call(0, 1).encode()
+        with socket.create_connection(("127.0.0.1", port), timeout=60) as connection:
+            for part in (text[:30], text[30:-20], text[-20:]):
+                connection.sendall(part)
+                time.sleep(1.5)
+            answer = connection.recv(65536)
+    assert answer.startswith(b"HTTP/1.1 200")
+
+
+def test_a_worker_that_ends_finishes_what_was_begun(project: Path, twin: Twin) -> None:
+    with served(project, twin) as (port, process):
+        text = call(0, 1).encode()
+        with socket.create_connection(("127.0.0.1", port), timeout=60) as connection:
+            connection.sendall(text[:-20])
+            time.sleep(0.5)  # a thread has taken the connection by then
+            process.terminate()
+            time.sleep(0.5)
+            connection.sendall(text[-20:])
+            answer = connection.recv(65536)
+        assert process.wait(60) == 0
+    assert answer.startswith(b"HTTP/1.1 200")
+    with pytest.raises(OSError):
+        exchanged(port, text.decode())
+
+
+def test_a_worker_that_is_killed_is_replaced(project: Path, twin: Twin) -> None:
+    with served(project, twin) as (port, process):
+        children = Path(f"/proc/{process.pid}/task/{process.pid}/children").read_text().split()
+        assert len(children) == 1
+        os.kill(int(children[0]), signal.SIGKILL)
+        for _ in range(600):
+            try:
+                if exchanged(port, call(0, 1)).startswith(b"HTTP/1.1 200"):
+                    break
+            except OSError:
+                pass
+            time.sleep(0.1)
+        assert Path(f"/proc/{process.pid}/task/{process.pid}/children").read_text().split() != children

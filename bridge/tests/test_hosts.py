@@ -9,7 +9,7 @@ from random_lives import further_file
 from twin import Twin
 
 from bsched_bridge.host_search import MOST_SEARCHES
-from bsched_bridge.hosts import FIRST_SECOND, LAST_BY_CLOCK, Hosts, Key
+from bsched_bridge.hosts import FIRST_SECOND, LAST_BY_CLOCK, Key
 
 A, B = FIRST, FIRST + 1  # two computers of Ann
 
@@ -318,8 +318,7 @@ def test_a_host_without_a_reply_is_forgotten_after_a_refusal_and_one_with_a_numb
     twin.faults = ['{"error":"hosts_full","number":12}'] * 2
     two.call(request(cpid="c"))
     two.call(request(hostid=A, cpid="a"))
-    hosts = Hosts(two.file)
-    known = hosts.of_number("ann-key", A)
+    known = two.numbers.of_number("ann-key", A)
     assert known is not None and known.key == Key("ann-key", "a")
     assert two.file.row("SELECT count(*) FROM host") == (2,)
 

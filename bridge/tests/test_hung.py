@@ -13,7 +13,6 @@ from joining import wait_until
 from messages import request
 from twin import Twin
 
-from bsched_bridge import scheduler
 from bsched_bridge.scheduler import Hung, NoAnswer, Refusal, Scheduler, read_refusal
 from bsched_bridge.settings import Address
 
@@ -25,21 +24,28 @@ def silent() -> Iterator[Address]:
         yield Address(*listener.getsockname())
 
 
-def seconds(action: Callable[..., Any]) -> tuple[float, type[Any]]:
-    """Returns how long an action takes that gets no answer, and the fault."""
-    began = time.monotonic()
+def fault_of(action: Callable[..., Any]) -> type[Any]:
+    """Returns the fault of an action that gets no answer."""
     with pytest.raises(NoAnswer) as raised:
         action()
-    return time.monotonic() - began, raised.type
+    return raised.type
 
 
-def test_after_a_time_out_messages_fail_at_once(silent: Address) -> None:
+def test_after_a_time_out_messages_fail_at_once(silent: Address, monkeypatch: pytest.MonkeyPatch) -> None:
+    monkeypatch.setattr("bsched_bridge.scheduler.HUNG_SECONDS", 1000.0)
     asked = Scheduler(silent, 1)
-    took, fault = seconds(lambda: asked.call(b"{}"))
-    assert 1 <= took < 2 and fault is NoAnswer  # one attempt
-    for _ in range(20):
-        took, fault = seconds(lambda: asked.call(b"{}"))
-        assert took < 0.5 and fault is Hung
+    sent: list[tuple[Any, ...]] = []
+    exchange = asked._exchange
+
+    def counted(*words: Any) -> Any:
+        sent.append(words)
+        return exchange(*words)
+
+    monkeypatch.setattr(asked, "_exchange", counted)
+    assert fault_of(lambda: asked.call(b"{}")) is NoAnswer
+    assert len(sent) == 1  # one attempt, which waited for a second
+    assert {fault_of(lambda: asked.call(b"{}")) for _ in range(20)} == {Hung}
+    assert len(sent) == 1
     assert asked.silent_since is not None and asked.is_slow
 
 
@@ -48,12 +54,13 @@ def test_one_message_shows_whether_there_are_answers_again(
 ) -> None:
     monkeypatch.setattr("bsched_bridge.scheduler.HUNG_SECONDS", 0.1)
     asked = Scheduler(silent, 1)
-    seconds(lambda: asked.has_account("ann-key"))
+    fault_of(lambda: asked.has_account("ann-key"))
     time.sleep(0.2)
-    probe = threading.Thread(target=seconds, args=(lambda: asked.has_account("ann-key"),))
+    asked.answer_seconds = 5  # a busy machine may look late whether others fail meanwhile
+    probe = threading.Thread(target=fault_of, args=(lambda: asked.has_account("ann-key"),))
     probe.start()
     wait_until(lambda: asked._is_probed)
-    assert seconds(lambda: asked.has_account("ann-key"))[1] is Hung
+    assert fault_of(lambda: asked.has_account("ann-key")) is Hung
     probe.join()
     time.sleep(0.2)
     asked.address = twin.address
@@ -65,22 +72,20 @@ def test_a_bsched_that_is_not_there_is_asked_each_time(silent: Address) -> None:
     with socket.create_server(("127.0.0.1", 0)) as listener:
         address = Address(*listener.getsockname())
     asked = Scheduler(address, 1)
-    assert {seconds(lambda: asked.has_account("ann-key"))[1] for _ in range(3)} == {NoAnswer}
+    assert {fault_of(lambda: asked.has_account("ann-key")) for _ in range(3)} == {NoAnswer}
     assert asked._began == {}
 
 
 def test_pages_and_files_are_answered_while_bsched_hangs(
-    bridge: Bridge, silent: Address, monkeypatch: pytest.MonkeyPatch
+    bridge: Bridge, monkeypatch: pytest.MonkeyPatch
 ) -> None:
-    monkeypatch.setattr(bridge.application.scheduler, "address", silent)
-    monkeypatch.setattr(bridge.application.scheduler, "answer_seconds", 6)
-    threads = bridge.application.settings.threads
+    asked, threads = bridge.application.scheduler, bridge.application.settings.threads
+    monkeypatch.setattr(asked, "answer_seconds", 600)
     server = waitress.create_server(bridge.application, host="127.0.0.1", port=0, threads=threads)
     threading.Thread(target=server.run, daemon=True).start()
-    port = server.effective_port
 
     def got(method: str, path: str, body: str | None = None) -> bytes:
-        connection = http.client.HTTPConnection("127.0.0.1", port, timeout=30)
+        connection = http.client.HTTPConnection("127.0.0.1", server.effective_port, timeout=120)
         connection.request(method, path, body)
         answer = connection.getresponse().read()
         connection.close()
@@ -90,18 +95,16 @@ def test_pages_and_files_are_answered_while_bsched_hangs(
         threading.Thread(target=got, args=("POST", "/p/cgi", request(cpid=f"c{number}")))
         for number in range(24)
     ]
-    for caller in callers:
-        caller.start()
-    wait_until(lambda: len(bridge.application.scheduler._began) == threads - 2)
-    began = time.monotonic()
-    assert b"How to join" in got("GET", "/p/") and got("GET", "/p/download/two.txt") == b"2\n"
-    took = time.monotonic() - began
+    with socket.create_server(("127.0.0.1", 0), backlog=100) as silent:
+        monkeypatch.setattr(asked, "address", Address(*silent.getsockname()))
+        for caller in callers:
+            caller.start()
+        wait_until(lambda: len(asked._began) == threads - 2)
+        assert b"How to join" in got("GET", "/p/") and got("GET", "/p/download/two.txt") == b"2\n"
+        assert len(asked._began) == threads - 2  # these calls still wait
     for caller in callers:
         caller.join()
     server.close()
-    # without free threads it would take until the first time-out, and longer with more clients
-    assert took < bridge.application.scheduler.answer_seconds / 2
-    assert scheduler.SLOW_SECONDS < 2
 
 
 def test_a_message_that_has_just_begun_is_not_slow(twin: Twin, monkeypatch: pytest.MonkeyPatch) -> None:

@@ -164,10 +164,10 @@ def test_a_file_of_an_older_version_keeps_its_hosts(tmp_path: Path, version: int
     assert numbers.open_call(Key("eve-key", "c4")) == b"call 1"
     assert numbers.open(Key("ann-key", "c1"), lambda number: b"%d" % number) == b"8"
     # which numbers the clients were told is not known: they may be from earlier tables
-    assert [hosts.of_number("ann-key", number) for number in (1, 2, 3)] == [None] * 3
+    assert [numbers.of_number("ann-key", number) for number in (1, 2, 3)] == [None] * 3
     assert [host.scheduler_hostid for host in hosts.heard(9)] == [1, 3, 2]
     assert numbers.give_hostid(Key("ann-key", "c2")) == 100_001
-    known = hosts.of_number("ann-key", 100_001)
+    known = numbers.of_number("ann-key", 100_001)
     assert known is not None and known.key == Key("ann-key", "c2")
     assert hosts.count() == 3
     file.close()

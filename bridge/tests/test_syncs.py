@@ -6,7 +6,10 @@ from typing import Any
 import pytest
 from bridges import Bridge
 from joining import create
-from messages import request
+from messages import FIRST, request
+
+
+LEVELS = {1: "NORMAL", 2: "FULL"}  # as SQLite numbers them
 
 
 @pytest.fixture
@@ -14,8 +17,9 @@ def events(monkeypatch: pytest.MonkeyPatch) -> Callable[..., Any]:
     """Yields a function that returns what a bridge does from now on: SQL statements and messages to
     bsched."""
 
-    def watched(bridge: Bridge) -> list[str]:
-        seen: list[str] = []
+    def watched(bridge: Bridge) -> list[Any]:
+        level = bridge.file._connection.execute("PRAGMA synchronous").fetchone()[0]
+        seen = [f"PRAGMA synchronous = {LEVELS[level]}"]
         bridge.file._connection.set_trace_callback(seen.append)
         exchange = bridge.application.scheduler._exchange
 
@@ -32,10 +36,9 @@ def events(monkeypatch: pytest.MonkeyPatch) -> Callable[..., Any]:
 def last_commit(seen: list[str]) -> tuple[bool, list[str]]:
     """Returns whether the last transaction was synced, and its statements that write."""
     end = max(place for place, one in enumerate(seen) if one == "COMMIT")
-    start = max(place for place, one in enumerate(seen[:end]) if one.startswith("PRAGMA synchronous"))
-    return seen[start].endswith("FULL"), [
-        one for one in seen[start:end] if one.startswith(("INSERT", "UPDATE"))
-    ]
+    start = max(place for place, one in enumerate(seen[:end]) if one.startswith("BEGIN"))
+    level = [one for one in seen[:start] if one.startswith("PRAGMA synchronous")][-1]
+    return level.endswith("FULL"), [one for one in seen[start:end] if one.startswith(("INSERT", "UPDATE"))]
 
 
 def before(seen: list[str], what: str) -> list[str]:
@@ -72,3 +75,22 @@ def test_an_answer_is_not_synced(bridge: Bridge, events: Callable[..., Any]) -> 
     bridge.twin.faults = [json.dumps({"error": "hosts_full", "number": 12})]
     bridge.call(request(cpid="c2"))
     assert not last_commit(seen)[0]
+
+
+def test_a_usual_call_takes_two_transactions(bridge: Bridge, events: Callable[..., Any]) -> None:
+    """Of a host that is known, it reads the row, writes the call, and then the answer."""
+    bridge.call(request())
+    bridge.call(request(hostid=FIRST, listed=["u1_0"], seconds=0))
+    seen = events(bridge)
+    bridge.call(request(hostid=FIRST, listed=[], reports=[("u1_0", "42")]))
+    statements = [one.split()[0] for one in seen if not one.startswith("PRAGMA")]
+    assert statements == [
+        "SELECT",
+        "BEGIN",
+        "UPDATE",
+        "COMMIT",
+        "SEND",
+        "BEGIN",
+        "UPDATE",
+        "COMMIT",
+    ]

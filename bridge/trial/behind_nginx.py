@@ -53,7 +53,7 @@ UNLIMITED = """
 TEMPLATES = BRIDGE.parent / "packaging" / "nginx"
 LIMITS = (TEMPLATES / "limits.conf").read_text()
 LOCATIONS = (TEMPLATES / "locations.conf").read_text()
-UNIT = BRIDGE.parent / "debian" / "bsched-tools@.bsched-bridge.service"
+UNIT = Path("debian", "bsched-tools@.bsched-bridge.service")
 
 
 def nginx_lines(folder: Path, port: int, bridge_port: int, most: int) -> str:
@@ -81,9 +81,10 @@ def filled(folder: Path, port: int, bridge_port: int, locations: str) -> str:
     return NGINX.format(folder=folder, port=port, limits=limits, locations=locations)
 
 
-def gunicorn_command(port: int) -> list[str]:
-    """Returns the command of the unit."""
-    line = re.search(r"^ExecStart=/usr/bin/(gunicorn .*)$", UNIT.read_text(), re.MULTILINE)
+def gunicorn_command(port: int, bridge: Path) -> list[str]:
+    """Returns the command of the unit of a clone."""
+    unit = (bridge.parent / UNIT).read_text()
+    line = re.search(r"^ExecStart=/usr/bin/(gunicorn .*)$", unit, re.MULTILINE)
     if line is None:
         raise TrialFault("the unit of the bridge runs no gunicorn")
     return shlex.split(line[1].replace("${BRIDGE_PORT}", str(port)))
@@ -92,15 +93,28 @@ def gunicorn_command(port: int) -> list[str]:
 class Project:
     """A project behind nginx and gunicorn."""
 
-    def __init__(self, program: str, folder: Path, most: int, has_limits: bool = False) -> None:
+    def __init__(
+        self,
+        program: str,
+        folder: Path,
+        most: int = 10**6,
+        has_limits: bool = False,
+        has_files: bool = True,
+        bridge: Path = BRIDGE,
+    ) -> None:
+        """Makes the files of a project with the bridge in a folder. With has_files its application has an
+        output file of at most `most` bytes.
+        """
         self.folder, self.port, bridge_port, scheduler_port = folder, free_port(), free_port(), free_port()
         project.make(folder, f"http://127.0.0.1:{self.port}/", bridge_port, scheduler_port)
-        catalogue = folder / "catalogue.toml"
-        catalogue.write_text(
-            catalogue.read_text().replace('title = "Sums"\n', OUTPUT_FILES.format(most=most))
-        )
-        with (folder / "bridge.toml").open("a") as file:
-            file.write(UPLOADS)
+        self.has_files = has_files
+        if has_files:
+            catalogue = folder / "catalogue.toml"
+            catalogue.write_text(
+                catalogue.read_text().replace('title = "Sums"\n', OUTPUT_FILES.format(most=most))
+            )
+            with (folder / "bridge.toml").open("a") as file:
+                file.write(UPLOADS)
         if has_limits:
             lines = package_lines(folder, self.port, bridge_port)
         else:
@@ -108,8 +122,8 @@ class Project:
         (folder / "nginx.conf").write_text(lines)
         self.most = most
         self.scheduler = Scheduler(program, folder, scheduler_port, project.OPERATOR_KEY)
-        self.bridge = Bridge(folder, bridge_port)
-        command = gunicorn_command(bridge_port)
+        self.bridge = Bridge(folder, bridge_port, bridge)
+        command = gunicorn_command(bridge_port, bridge)
         self.gunicorn = Program("gunicorn", command, folder, bridge_port, self.bridge.environment)
         words = [
             "nginx",
@@ -139,7 +153,8 @@ class Project:
                 break
             except (OSError, TrialFault):
                 time.sleep(0.1)
-        self.tokens = UploadTokens((self.folder / "uploads" / "secret").read_bytes())
+        if self.has_files:
+            self.tokens = UploadTokens((self.folder / "uploads" / "secret").read_bytes())
 
     def end(self) -> None:
         """Ends all programs."""

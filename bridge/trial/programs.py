@@ -50,6 +50,14 @@ class Program:
         """Returns what the program wrote to its log."""
         return (self.folder / f"{self.name}.log").read_text(errors="replace")
 
+    def processes(self) -> list[int]:
+        """Returns the numbers of the program's process and of those that it has started."""
+        if self.process is None:
+            raise TrialFault(f"{self.name} does not run")
+        number = self.process.pid
+        found = subprocess.run(["pgrep", "-P", str(number)], capture_output=True, text=True).stdout
+        return [number, *map(int, found.split())]
+
     def kill(self) -> None:
         """Kills the program, which gets no time to do anything."""
         if self.process is not None:
@@ -95,10 +103,14 @@ class Scheduler(Program):
 class Bridge(Program):
     """The bridge."""
 
-    def __init__(self, folder: Path, port: int):
+    def __init__(self, folder: Path, port: int, code: Path = BRIDGE):
         words = [sys.executable, "-m", "bsched_bridge", "--config", "bridge.toml"]
         super().__init__(
-            "bridge", words, folder, port, {"PYTHONPATH": PACKAGES, "PYTHONDONTWRITEBYTECODE": "1"}
+            "bridge",
+            words,
+            folder,
+            port,
+            {"PYTHONPATH": f"{code}:{PACKAGES}", "PYTHONDONTWRITEBYTECODE": "1"},
         )
 
     def order(self, *words: str) -> str:

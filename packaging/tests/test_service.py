@@ -1,5 +1,6 @@
 """Tests the scripts that the units run, and what bsched-project does without root."""
 import os
+import re
 import socket
 import subprocess
 import threading
@@ -78,6 +79,30 @@ def test_a_process_that_has_ended_ends_the_wait(listener: socket.socket) -> None
     ended = subprocess.Popen(["true"])
     ended.wait()
     assert done(SERVICE / "wait-for-port", str(port), MAINPID=str(ended.pid)).returncode == 1
+
+
+def test_a_long_start_is_shown(listener: socket.socket) -> None:
+    """Each second without an answer has a line, and so has the end."""
+    address = listener.getsockname()
+    listener.close()
+    waiting = subprocess.Popen(
+        [str(SERVICE / "wait-for-port"), str(address[1]), "1"],
+        env={**os.environ, "MAINPID": str(os.getpid())},
+        stdout=subprocess.PIPE,
+        text=True,
+    )
+    assert waiting.stdout is not None
+    line = f"process {os.getpid()} reads and checks its files, and port {address[1]} does not answer yet\n"
+    seconds = []
+    for _ in range(2):
+        found = re.fullmatch(r"starting for (\d+) seconds: (.*\n)", waiting.stdout.readline())
+        assert found and found[2] == line
+        seconds.append(int(found[1]))
+    assert 1 <= seconds[0] < seconds[1]
+    with socket.create_server(address):
+        rest = waiting.communicate(timeout=30)[0].splitlines()
+    assert waiting.returncode == 0
+    assert re.fullmatch(rf"started after \d+ seconds: port {address[1]} answers", rest[-1])
 
 
 # ---- The tick

@@ -17,6 +17,7 @@ members, averages, exports      users over several files, and the files that sta
 history, findings, plots, page  the page: what earlier reports counted, what it says, and how it is drawn
 month                 the plots of the last month for the bridge
 checks, settings_file, doctor   why bsched refuses a file
+starts                how long a start takes, and whether a process is still at it
 projects, volunteers  a project's folder, and which users agreed to be named, and how
 handing               new results for a program of the operator
 import_files, imports files that are imported: what is wrong with them, and how they are sent

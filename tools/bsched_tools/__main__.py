@@ -25,6 +25,7 @@ from .jobs import host_lines, workunit_lines
 from .members import agreed_in
 from .projects import PROGRAM, Project, project_of
 from .results import write_results
+from .starts import rows_in, start_text
 from .tables import opened
 from .volunteers import Volunteers, ask_bridge, volunteers_of
 from .work_commands import WORK_COMMANDS
@@ -163,6 +164,8 @@ def doctor(args: Arguments) -> int:
         print(fault)
     if not found:
         print("good: nothing is found that bsched refuses")
+        if args.tables is not None and (rows := rows_in(args.tables.resolve())) is not None:
+            print(start_text(rows))
     return FAULT if found else 0
 
 

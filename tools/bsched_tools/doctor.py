@@ -7,7 +7,7 @@ from contextlib import closing
 from itertools import islice
 from pathlib import Path
 
-from . import holders
+from . import holders, starts
 from .checks import wrong_rows
 from .faults import Fault
 from .settings_file import settings_faults
@@ -59,7 +59,9 @@ def holder_faults(path: Path) -> Iterator[str]:
     """Yields which processes have the file."""
     identity = holders.identity_of(path)
     for one in holders.all_open_files(identity) if identity else []:
-        if one.lock == "WRITE":
+        if one.lock == "WRITE" and (opening := starts.opening_text(one.pid, path)):
+            yield f"{one.process} has it, and {opening}: wait for it, or end it first"
+        elif one.lock == "WRITE":
             yield (
                 f"{one.process} has it, so no other program can open it: end that first; "
                 f"or send the message to it by HTTP, or look at a copy (`bsched-tools copy`)"

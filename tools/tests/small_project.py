@@ -25,7 +25,7 @@ SETTINGS = {
 }
 WORKUNITS = ",".join(KINDS["workunits"][0])
 LIMITS = "2,2,3,8,6,7200,3600000000000,1000,1000,5000"
-END = 10  # seconds
+END = 60  # seconds; a busy machine may take long
 
 
 def make_tables(path: Path, units: int = 20, users: int = 4, settings: dict[str, Any] = SETTINGS) -> Path:

@@ -3,10 +3,12 @@ import hashlib
 import json
 from pathlib import Path
 
+import pytest
 from hypothesis import given, strategies as st
 
 from bsched_tools import tables
-from bsched_tools.cursors import Cursor, Given, former_mark, numbers_of, ranges_of
+from bsched_tools.cursors import Cursor, Given, cursor_at, former_mark, numbers_of, ranges_of
+from bsched_tools.faults import Fault
 
 
 @given(st.sets(st.integers(1, 40)))
@@ -44,3 +46,11 @@ def test_why_a_run_printed_nothing(tmp_path: Path) -> None:
         why = cursor.why_nothing()
         assert (why is not None) == says
         assert why is None or "all 7 decided workunits" in why
+
+
+def test_cursors_that_can_not_be_used(tmp_path: Path) -> None:
+    with pytest.raises(Fault, match="its folder does not exist: make it first"):
+        with cursor_at(tmp_path / "none" / "cursor"):
+            pass
+    with pytest.raises(Fault, match="Is a directory"):
+        Cursor(tmp_path)

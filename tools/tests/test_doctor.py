@@ -2,6 +2,8 @@
 import os
 import re
 import sqlite3
+import subprocess
+import sys
 from collections.abc import Callable
 from contextlib import closing
 from pathlib import Path
@@ -12,7 +14,7 @@ from hypothesis import given, settings, strategies
 from lives import life_of, stored_life
 from small_project import SETTINGS, TOOLS, WORKUNITS, Twin, make_tables, request, tools
 
-from bsched_tools import doctor
+from bsched_tools import doctor, starts
 
 STORED_TESTS = TOOLS.parent / "crates" / "bsched" / "src" / "tests" / "stored.rt"
 
@@ -135,6 +137,53 @@ def test_who_has_the_tables(project: Path, twin: Twin) -> None:
     assert "has it, so no other program can open it" in line
 
 
+HOLDER = """
+import fcntl, struct, sys, time
+file = open(sys.argv[1], "r+b")
+lock = struct.pack("hhqqi", fcntl.F_WRLCK, 0, 1 << 30, 512, 0)
+fcntl.fcntl(file, fcntl.F_OFD_SETLK, lock)
+print(flush=True)
+time.sleep(600)
+"""
+
+
+def test_a_start_that_goes_on(tmp_path: Path) -> None:
+    """The process has the tables, and listens on no port yet."""
+    path = make_tables(tmp_path / "project.db")
+    process = subprocess.Popen([sys.executable, "-c", HOLDER, str(path)], stdout=subprocess.PIPE)
+    try:
+        assert process.stdout is not None and process.stdout.readline() == b"\n"
+        (line,) = findings_of(path)
+    finally:
+        process.kill()
+        process.wait()
+    assert re.fullmatch(
+        rf"process {process.pid} \(python3\S*\) has it, and it has run for \d+ seconds and does not serve yet"
+        r"(; a start takes a second or two)?: wait for it, or end it first",
+        line,
+    )
+
+
+@pytest.mark.parametrize(
+    "rows, seconds", [(50, "a second or two"), (500_000, "some 10 seconds, and two or three times")]
+)
+def test_how_long_a_start_takes(rows: int, seconds: str, monkeypatch: pytest.MonkeyPatch) -> None:
+    monkeypatch.setattr(starts, "ROWS_A_SECOND", 50_000)
+    assert seconds in starts.start_text(rows)
+
+
+def test_rows_of_an_opening(tmp_path: Path) -> None:
+    """There are two workunits, two instances of each, one host, and its call."""
+    path = short_life(tmp_path / "project.db")
+    with closing(sqlite3.connect(path)) as connection:
+        counts = [
+            connection.execute(f"SELECT count(*) FROM {name}").fetchone()[0]
+            for name in ("unit", "instance", "host", "kept4")
+        ]
+    assert counts[0] == 2 and starts.rows_in(path) == sum(counts)
+    assert starts.rows_in(tmp_path / "none.db") is None
+
+
 def test_files(tmp_path: Path) -> None:
     path = make_tables(tmp_path / "project.db")
     (line,) = findings_of(tmp_path / "none.db")
@@ -214,7 +263,8 @@ def test_settings_that_are_no_text(tmp_path: Path) -> None:
 
 
 def test_the_command_line(tmp_path: Path, project: Path) -> None:
-    assert tools("doctor", "--tables", project) == (0, "good: nothing is found that bsched refuses\n", "")
+    good = "good: nothing is found that bsched refuses\na start takes a second or two\n"
+    assert tools("doctor", "--tables", project) == (0, good, "")
     status, output, fault = tools("doctor", "--tables", tmp_path / "none", "--settings", tmp_path / "none")
     assert (status, fault) == (1, "") and len(output.splitlines()) == 2
     assert tools("doctor")[0] == 64

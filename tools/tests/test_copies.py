@@ -1,0 +1,74 @@
+"""What is done with a copy once it is taken: its place, its owner, and the folder in which it was made."""
+import os
+import shutil
+from pathlib import Path
+
+import pytest
+
+from bsched_tools import copies
+from bsched_tools.holders import identity_of
+from bsched_tools.taking import Source, Taken
+
+MOMENT = 1_000_000.5
+
+
+@pytest.fixture
+def source(project: Path) -> Source:
+    """The tables."""
+    identity = identity_of(project)
+    assert identity is not None
+    return Source(project, identity)
+
+
+@pytest.fixture
+def taken(project: Path, tmp_path: Path) -> Taken:
+    """A copy of them that has no place yet."""
+    (tmp_path / "work").mkdir()
+    return Taken(Path(shutil.copy(project, tmp_path / "work" / "taken.db")), MOMENT, None)
+
+
+def test_a_copy_has_the_time_at_which_it_was_taken(taken: Taken, source: Source, tmp_path: Path) -> None:
+    copies.place(taken, source, tmp_path / "copy.db")
+    assert (tmp_path / "copy.db").stat().st_mtime == MOMENT
+
+
+def test_a_copy_is_synced_before_it_has_its_name_and_its_folder_after(
+    taken: Taken, source: Source, tmp_path: Path, monkeypatch: pytest.MonkeyPatch
+) -> None:
+    done: list[object] = []
+    rename = os.rename
+
+    def renamed(old: Path, new: Path) -> None:
+        rename(old, new)
+        done.append("rename")
+
+    monkeypatch.setattr(copies, "sync", done.append)
+    monkeypatch.setattr(os, "rename", renamed)
+    copies.place(taken, source, tmp_path / "copy.db")
+    assert done == [taken.path, "rename", tmp_path]
+
+
+def test_the_folder_is_synced_after_older_copies_are_removed(
+    project: Path, tmp_path: Path, monkeypatch: pytest.MonkeyPatch
+) -> None:
+    folder = tmp_path / "copies"
+    folder.mkdir()
+    names = [folder / f"project-20260101T00000{number}.000Z.db" for number in range(3)]
+    for name in names:
+        shutil.copy(project, name)
+    left: list[tuple[object, list[Path]]] = []
+    monkeypatch.setattr(copies, "sync", lambda path: left.append((path, sorted(folder.glob("*.db")))))
+    assert sorted(copies.remove_older(names[-1], "project", 1)) == names[:-1]
+    assert left == [(folder, names[-1:])]
+
+
+def test_a_work_folder_that_somebody_removed_is_no_fault(tmp_path: Path) -> None:
+    with copies.work_folder(tmp_path) as made:
+        shutil.rmtree(made)
+    assert list(tmp_path.iterdir()) == []
+
+
+def test_the_owner_is_given_by_a_descriptor_that_is_closed(project: Path) -> None:
+    before = os.listdir("/proc/self/fd")
+    copies.give_to(project, project.stat())
+    assert os.listdir("/proc/self/fd") == before
