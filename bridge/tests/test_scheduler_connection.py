@@ -98,7 +98,6 @@ def test_of_a_long_body_is_one_byte_more_than_allowed() -> None:
         b"HTTP/1.1 200 OK\r\ncontent-length: -2\r\n\r\n{}",
         b"HTTP/2 200\r\ncontent-length: 2\r\n\r\n{}",
         b"SSH-2.0-OpenSSH_9.2p1\r\n\r\n",
-        b"HTTP/1.1 200 OK\r\n" + b"a: b\r\n" * (MOST_HEAD // 2),
     ],
     ids=[
         "nothing",
@@ -110,12 +109,16 @@ def test_of_a_long_body_is_one_byte_more_than_allowed() -> None:
         "a sign",
         "HTTP/2",
         "SSH",
-        "a long head",
     ],
 )
 def test_what_is_no_answer(text: bytes) -> None:
     with pytest.raises((FaultyAnswer, ConnectionError)):
         answer(text)
+
+
+def test_a_head_that_does_not_end() -> None:
+    with pytest.raises(FaultyAnswer, match="does not end"):
+        answer(b"HTTP/1.1 200 OK\r\n", b"a: b\r\n" * MOST_HEAD)
 
 
 def test_a_server_that_is_silent() -> None:
