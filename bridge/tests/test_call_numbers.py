@@ -75,7 +75,7 @@ def test_an_answer_closes_a_call_and_keeps_jobs(numbers: CallNumbers) -> None:
 
 
 def test_the_state_of_a_key(numbers: CallNumbers) -> None:
-    assert numbers.state(KEY) == KeyState()
+    assert numbers.state(KEY) == KeyState() == KeyState(None, "[]", 0, False, False, None)
     assert numbers.state(KEY).is_of_stranger
     numbers.open(KEY, lambda number: b"call")
     assert numbers.state(KEY) == KeyState(b"call", last_number=1)

@@ -1,6 +1,7 @@
 """A message over a connection of its own, and answers that come in pieces, or not as a whole."""
 import socket
 import threading
+import time
 from collections.abc import Iterator
 from contextlib import contextmanager
 
@@ -14,7 +15,7 @@ MOST = 100
 
 
 @contextmanager
-def served(*pieces: bytes) -> Iterator[tuple[Address, list[bytes]]]:
+def served(*pieces: bytes, pause: float = 0) -> Iterator[tuple[Address, list[bytes]]]:
     """Serves one connection: reads a message up to the end of its body, and sends the pieces of an answer."""
     with socket.create_server(("127.0.0.1", 0)) as listener:
         heard: list[bytes] = []
@@ -27,6 +28,7 @@ def served(*pieces: bytes) -> Iterator[tuple[Address, list[bytes]]]:
                 try:
                     for piece in pieces:
                         connection.sendall(piece)
+                        time.sleep(pause)
                 except OSError:
                     pass  # the other side does not read the rest
 
@@ -63,6 +65,13 @@ def test_an_answer_in_pieces_of_any_size(size: int) -> None:
     assert answer(*pieces) == (200, b"answer!")
 
 
+@pytest.mark.parametrize("sizes", [(99, 2), (1, 60, 40), (60, 1, 40), (100, 1)])
+def test_a_body_in_uneven_pieces(sizes: tuple[int, ...]) -> None:
+    head = b"HTTP/1.1 200 OK\r\ncontent-length: 101\r\n\r\n"
+    with served(head, *(b"x" * size for size in sizes), pause=0.05) as (address, _):
+        assert exchanged(address, b"GET / HTTP/1.1\r\n\r\n", 10, MOST) == (200, b"x" * 101)
+
+
 def test_bytes_after_the_body_are_ignored() -> None:
     assert answer(GOOD + b"answer! and more") == (200, b"answer!")
 
@@ -89,7 +98,6 @@ def test_of_a_long_body_is_one_byte_more_than_allowed() -> None:
         b"HTTP/1.1 200 OK\r\ncontent-length: -2\r\n\r\n{}",
         b"HTTP/2 200\r\ncontent-length: 2\r\n\r\n{}",
         b"SSH-2.0-OpenSSH_9.2p1\r\n\r\n",
-        b"HTTP/1.1 200 OK\r\n" + b"a: b\r\n" * (MOST_HEAD // 2),
     ],
     ids=[
         "nothing",
@@ -101,12 +109,16 @@ def test_of_a_long_body_is_one_byte_more_than_allowed() -> None:
         "a sign",
         "HTTP/2",
         "SSH",
-        "a long head",
     ],
 )
 def test_what_is_no_answer(text: bytes) -> None:
     with pytest.raises((FaultyAnswer, ConnectionError)):
         answer(text)
+
+
+def test_a_head_that_does_not_end() -> None:
+    with pytest.raises(FaultyAnswer, match="does not end"):
+        answer(b"HTTP/1.1 200 OK\r\n", b"a: b\r\n" * MOST_HEAD)
 
 
 def test_a_server_that_is_silent() -> None:
