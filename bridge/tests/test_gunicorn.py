@@ -94,7 +94,7 @@ def test_no_log_has_an_address(project: Path, twin: Twin, fields: str, status: b
     assert ("could not handle a message" in log) == ("/elsewhere" in fields)
 
 
-# ---- The worker whose threads take connections
+# ---- Several clients, a slow one, and the end
 
 
 def call(hostid: int, number: int) -> str:
@@ -114,7 +114,6 @@ def test_several_clients_at_once(project: Path, twin: Twin) -> None:
 
 
 def test_a_client_that_sends_slowly(project: Path, twin: Twin) -> None:
-    """A thread looks each second whether the worker ends, but not while it reads a message."""
     with served(project, twin) as (port, _):
         text = call(0, 1).encode()
         with socket.create_connection(("127.0.0.1", port), timeout=60) as connection:
