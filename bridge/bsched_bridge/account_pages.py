@@ -110,14 +110,15 @@ class AccountPages:
         """Changes the name of an account, and whether statistics may show it. The owner sends the key."""
         sent, client = self._sent(message)
         name, is_exported = clean_name(sent.text("name")), sent.text("is_exported") == "1"
+        is_anonymous = sent.text("is_anonymous") == "1"
         try:
             with self.places.taken(client):
                 member = self.accounts.of_owner(sent.text("key"), client)
                 if not name:
                     sent.faults["name"] = "Give a name."
                     return self._account(member, sent=sent)
-                self.accounts.members.change(member, name, is_exported)
-                member = replace(member, name=name, is_exported=is_exported)
+                self.accounts.members.change(member, name, is_exported, is_anonymous)
+                member = replace(member, name=name, is_exported=is_exported, is_anonymous=is_anonymous)
                 return self._account(member, "Your changes are saved.")
         except AccountFault as fault:
             return self._entrance(Form(faults={"key": fault.fault.text}))

@@ -15,7 +15,9 @@ from .barring import Barring
 from .call_numbers import CallNumbers
 from .catalogue import Catalogue
 from .client_replies import ReplyWriter
+from .credit_days import CreditDays
 from .current_catalogue import CatalogueReader
+from .directory import Directory
 from .downloads import Downloads
 from .exchange import Exchange, Resending
 from .handed_out import HandedOut
@@ -41,6 +43,7 @@ from .upload_store import UploadStore, open_store
 from .upload_tokens import UploadTokens
 from .uploads import PATH as UPLOAD_PATH
 from .uploads import Uploads
+from .volunteer_pages import VolunteerPages
 
 KEPT_THREADS = 2  # for pages and files, which need nothing of bsched
 
@@ -101,7 +104,11 @@ class Application:
         self.statements = Statements(hosts, self.members, scheduler, key, settings.counts, archives, recent)
         self.templates = Templates(settings)
         self.pictures = Pictures(settings)
-        self.pages = Pages(settings, self.templates, self.statements, self.pictures)
+        directory = Directory(file)
+        self.pages = Pages(settings, self.templates, self.statements, self.pictures, directory)
+        self.volunteers = VolunteerPages(
+            settings, self.templates, directory, CreditDays(file), self.statements
+        )
         self.routes = Routes(settings.path, [*self._routes(), *self._account_routes()])
 
     @property
@@ -119,6 +126,10 @@ class Application:
             Route("lookup_account.php", messages.look_up, ("GET",)),
             Route("create_account.php", messages.create, ("GET",)),
             Route("status", self.pages.status),
+            Route("users", self.volunteers.users),
+            Route("user/<number:number>", self.volunteers.user),
+            Route("computers", self.volunteers.computers),
+            Route("computer/<number:number>", self.volunteers.computer),
             Route("download/<path:name>", self.downloads.send),
             Route(self.templates.style_name, self.templates.style),
             Route("picture/<name>", self.pictures.answer),

@@ -10,8 +10,9 @@ from collections.abc import Callable
 from dataclasses import asdict, dataclass
 from typing import cast
 
+from .credit_days import record_host, record_member
 from .hosts import COUNTED, MOST_NUMBER, Key, new_hostid
-from .members import first_heard
+from .members import heard
 from .scheduler import Job, Reply
 from .state_file import StateFile
 
@@ -149,8 +150,12 @@ class CallNumbers:
                 "UPDATE host SET open_call = NULL WHERE authenticator = ? AND host_cpid = ?", values
             )
 
-    def record_answer(self, key: Key, reply: Reply, jobs_in_hand: list[Job]) -> None:
-        """Closes the open call of a key after a reply. From now on these jobs are in hand."""
+    def record_answer(
+        self, key: Key, reply: Reply, jobs_in_hand: list[Job], about: str | None = None
+    ) -> None:
+        """Closes the open call of a key after a reply. From now on these jobs are in hand. What the computer
+        said of itself is stored, too, if it is known.
+        """
         jobs, now = json.dumps([asdict(job) for job in jobs_in_hand]), int(time.time())
         with self.file.transaction(is_synced=False) as connection:
             # if bsched's tables were restored from an older copy, bsched may give a number a second time
@@ -159,9 +164,10 @@ class CallNumbers:
                 "WHERE authenticator = ? AND scheduler_hostid = ? AND host_cpid <> ?",
                 (key.authenticator, reply.hostid, key.host_cpid),
             )
-            connection.execute(
+            host = connection.execute(
                 "UPDATE host SET open_call = NULL, jobs_in_hand = ?, scheduler_hostid = ?, user_name = ?, "
-                "user_credit = ?, host_credit = ?, heard_at = ? WHERE authenticator = ? AND host_cpid = ?",
+                "user_credit = ?, host_credit = ?, heard_at = ?, about = coalesce(?, about) "
+                "WHERE authenticator = ? AND host_cpid = ? RETURNING hostid",
                 (
                     jobs,
                     reply.hostid,
@@ -169,11 +175,18 @@ class CallNumbers:
                     reply.user_total_credit,
                     reply.host_total_credit,
                     now,
+                    about,
                     key.authenticator,
                     key.host_cpid,
                 ),
-            )
-            first_heard(connection, key.authenticator, reply.user_name, now)
+            ).fetchone()
+            if host is None:  # the account was deleted just now
+                return
+            credit = reply.user_total_credit
+            member = heard(connection, key.authenticator, reply.user_name, now, credit)
+            record_member(connection, member, now, credit)
+            if host[0] is not None:
+                record_host(connection, host[0], now, reply.host_total_credit)
 
     def give_hostid(self, key: Key) -> int | None:
         """Returns the number of a host, which its client gets with this reply. The host has one if a

@@ -12,6 +12,8 @@ from xml.etree.ElementTree import Element, ParseError, TreeBuilder
 from defusedxml import DefusedXmlException  # type: ignore[import]
 from defusedxml.ElementTree import DefusedXMLParser  # type: ignore[import]
 
+from .descriptions import MOST_COPROCS as SHOWN_COPROCS
+from .descriptions import Description, client_text, one_line, processor_text
 from .request_parts import MOST_OUTPUT, Parts, RequestFault
 from .words import cut_to_bytes, is_word
 
@@ -83,6 +85,7 @@ class ClientRequest:
     p_ncpus: int = 1
     cpu_req_secs: int = 0  # the part of work_req_seconds that is for processors
     coprocs: tuple[Coproc, ...] = ()
+    about: str | None = None  # what the computer says of itself, for people
 
 
 # ---- Elements
@@ -196,6 +199,24 @@ def coprocs_of(root: Element) -> tuple[Coproc, ...]:
     return tuple(found)
 
 
+def about_of(root: Element, coprocs: tuple[Coproc, ...]) -> str:
+    """Returns what a computer says of itself, as the state file has it."""
+
+    def text(path: str) -> str:
+        return text_of(root, path) or ""
+
+    return Description(
+        processor=processor_text(text),
+        processors=whole_of(root, "host_info/p_ncpus", 0, 10_000, 0),
+        system=one_line(f"{text('host_info/os_name')} {text('host_info/os_version')}"),
+        client=client_text(text),
+        memory=whole_of(root, "host_info/m_nbytes", 0, MOST_NUMBER, 0),
+        disk=whole_of(root, "host_info/d_free", 0, MOST_NUMBER, 0),
+        speed=whole_of(root, "host_info/p_fpops", 0, MOST_NUMBER, 0),
+        coprocessors=[one_line(f"{one.count} × {one.type}") for one in coprocs[:SHOWN_COPROCS]],
+    ).written()
+
+
 # ---- The request
 
 
@@ -252,6 +273,7 @@ def read_request(blocks: Iterable[bytes]) -> ClientRequest:
         names = (text_of(item, "name") for item in has.findall("other_result"))
         other = tuple(name for name in names if name is not None and is_result_name(name))
     platforms = (text_of(item, "name") for item in root.findall("alt_platform"))
+    coprocs = coprocs_of(root)
     alternatives = (name for name in platforms if name is not None and is_word(name))
     return ClientRequest(
         authenticator=word_of(root, "authenticator"),
@@ -270,5 +292,6 @@ def read_request(blocks: Iterable[bytes]) -> ClientRequest:
         has_messages=parts.has_messages,
         p_ncpus=whole_of(root, "host_info/p_ncpus", 1, 10_000, 1),
         cpu_req_secs=whole_of(root, "cpu_req_secs", 0, MOST_SECONDS, seconds, up=True),
-        coprocs=coprocs_of(root),
+        coprocs=coprocs,
+        about=about_of(root, coprocs),
     )

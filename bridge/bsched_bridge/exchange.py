@@ -383,9 +383,8 @@ class Exchange:
                 return too_many_hosts(many.count)
             answer = self._answer(key, call)
             if isinstance(answer, Reply):
-                self.numbers.record_answer(
-                    key, answer, [] if request.other_results is None else answer.results
-                )
+                jobs = [] if request.other_results is None else answer.results
+                self.numbers.record_answer(key, answer, jobs, request.about)
                 return replace(answer, results=jobs_with(answer, in_hand))
             refusal = answer
             self.numbers.record_refusal(key)

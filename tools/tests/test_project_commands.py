@@ -11,7 +11,7 @@ from made_project import SETTINGS, TWIN, MadeProject
 from small_project import LIMITS, WORKUNITS, rows_of, tools
 
 from bsched_bridge.barring import Barring
-from bsched_bridge.members import Members, first_heard
+from bsched_bridge.members import Members, heard
 from bsched_bridge.state_file import StateFile
 from bsched_tools import imports, projects
 from bsched_tools.faults import Fault
@@ -249,7 +249,7 @@ def test_names_that_volunteers_chose(project: MadeProject, tmp_path: Path) -> No
     members = Members(file)
     for user in (1, 2, 3):
         with file.transaction() as connection:
-            first_heard(connection, f"k{user}", f"User {user}", 1000)
+            heard(connection, f"k{user}", f"User {user}", 1000, 0)
         members.change(members.of_key(f"k{user}"), f"Chosen {user}", user == 1)
     Barring(file).delete("k3", 2000)
     project.serve()
@@ -269,6 +269,14 @@ def test_names_that_volunteers_chose(project: MadeProject, tmp_path: Path) -> No
     assert project.tools("report")[0] == 0
     page = (tmp_path / "report" / "index.html").read_text()
     assert "<h1>Sums &amp; more: status</h1>" in page and "Chosen 2" not in page
+    # who is anonymous is called so, with and without an agreement
+    members.change(members.of_key("k1"), "Chosen 1", True, True)
+    members.change(members.of_key("k2"), "Chosen 2", False, True)
+    rows = [line.split(",")[-2] for line in project.tools("results")[1].splitlines()[1:]]
+    assert rows == ["anonymous", "anonymous"]
+    assert "4 users, 1 of them named, and 3 computers" in project.tools("statistics")[1]
+    users = gzip.decompress((tmp_path / "stats" / "user.gz").read_bytes()).decode()
+    assert "<name>anonymous</name>" in users and "Chosen" not in users
     file.close()
 
 
