@@ -38,6 +38,8 @@ from .scheduler_messages import SchedulerMessages
 from .settings import HostRules, Settings, read_settings
 from .state_file import StateFile
 from .statements import Statements
+from .team_pages import TeamPages
+from .teams import Teams
 from .templates import Templates
 from .upload_store import UploadStore, open_store
 from .upload_tokens import UploadTokens
@@ -67,6 +69,7 @@ class Application:
         self.current = current = (lambda: catalogue) if isinstance(catalogue, Catalogue) else catalogue
         key, archives, barring = settings.operator_key, read_archives(settings.archives), Barring(file)
         hosts, self.members, recent = Hosts(file), Members(file), RecentCredit(settings.averages)
+        self.teams, self.directory = Teams(file), Directory(file)
         half = max(1, settings.threads // 2)
         self.places = Places(max(1, settings.threads - KEPT_THREADS))
         self.account_places = AccountPlaces(Places(half, self.places))
@@ -99,15 +102,14 @@ class Application:
             current(), settings.name, settings.url, tokens, has_accounts=self.accounts is not None
         )
         self.requests = SchedulerMessages(
-            self.exchange, current, self.writer, self.members, recent, self.places
+            self.exchange, current, self.writer, self.members, recent, self.places, self.teams
         )
         self.statements = Statements(hosts, self.members, scheduler, key, settings.counts, archives, recent)
         self.templates = Templates(settings)
         self.pictures = Pictures(settings)
-        directory = Directory(file)
-        self.pages = Pages(settings, self.templates, self.statements, self.pictures, directory)
+        self.pages = Pages(settings, self.templates, self.statements, self.pictures, self.directory)
         self.volunteers = VolunteerPages(
-            settings, self.templates, directory, CreditDays(file), self.statements
+            settings, self.templates, self.directory, CreditDays(file), self.statements, self.teams
         )
         self.routes = Routes(settings.path, [*self._routes(), *self._account_routes()])
 
@@ -143,9 +145,13 @@ class Application:
         if self.accounts is None:
             return [Route("get_passwd.php", self.pages.no_passwords)]
         people = AccountPages(
-            self.settings, self.templates, self.accounts, self.statements, self.account_places
+            self.settings, self.templates, self.accounts, self.statements, self.account_places, self.teams
         )
+        teams = TeamPages(self.templates, self.teams, self.directory)
         return [
+            Route("teams", teams.list),
+            Route("team/<number:number>", teams.team),
+            Route("account_team", people.team, ("POST",)),
             Route("account", people.account, FORMS),
             Route("account_finish.php", people.finish, FORMS),
             Route("get_passwd.php", people.password, FORMS),

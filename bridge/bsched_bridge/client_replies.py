@@ -112,13 +112,16 @@ class ReplyWriter:
         hostid: int | None = None,
         notice: str | None = None,
         recent: Recent | None = None,
+        team: str | None = None,
     ) -> bytes:
-        """Returns the reply to a request, with a notice for the volunteer. It has a hostid only for a client
-        that did not send it: a client that has one takes any as a sign that it was copied, takes a new
-        host_cpid and counts its requests anew.
+        """Returns the reply to a request, with a notice for the volunteer and the name of the user's team. It
+        has a hostid only for a client that did not send it: a client that has one takes any as a sign that it
+        was copied, takes a new host_cpid and counts its requests anew.
         """
         root = self._begun(reply.request_delay)
         add(root, "user_name", reply.user_name)
+        if team is not None:
+            add(root, "team_name", team)
         add(root, "user_total_credit", f"{reply.user_total_credit / MILLICREDITS:.3f}")
         add(root, "host_total_credit", f"{reply.host_total_credit / MILLICREDITS:.3f}")
         if recent is not None:

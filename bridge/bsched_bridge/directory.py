@@ -16,7 +16,7 @@ MANY, KEPT_SECONDS = 10_000, 60.0  # computers that take long to count, so their
 CALLED = "scheduler_hostid IS NOT NULL AND hostid IS NOT NULL"
 USER = (
     "SELECT id, authenticator, name, is_anonymous, credit, created_at, (SELECT count(*) FROM host WHERE "
-    f"host.authenticator = member.authenticator AND {CALLED}) FROM member"
+    f"host.authenticator = member.authenticator AND {CALLED}), team FROM member"
 )
 COMPUTER = (
     "SELECT hostid, host.authenticator, host_cpid, scheduler_hostid, host_credit, heard_at, about, "
@@ -40,6 +40,7 @@ class User:
     credit: int
     created_at: int
     computers: int
+    team: int | None
 
 
 @dataclass(frozen=True, slots=True)
@@ -64,7 +65,7 @@ def shown_name(name: object, is_anonymous: object) -> str:
 
 def user_of(row: tuple[object, ...]) -> User:
     """Returns the user in a row."""
-    number, authenticator, name, is_anonymous, credit, created_at, computers = row
+    number, authenticator, name, is_anonymous, credit, created_at, computers, team = row
     return User(
         cast(int, number),
         cast(str, authenticator),
@@ -73,6 +74,7 @@ def user_of(row: tuple[object, ...]) -> User:
         cast("int | None", credit) or 0,
         cast(int, created_at),
         cast(int, computers),
+        cast("int | None", team),
     )
 
 

@@ -14,7 +14,7 @@ from .state_file import StateFile
 
 COLUMNS = (
     "id, authenticator, email, salt, secret, cost, name, batch, is_imported, cpid, consent_at, is_exported, "
-    "created_at, is_anonymous"
+    "created_at, is_anonymous, team"
 )
 INSERT = (
     "INSERT INTO member (authenticator, email, salt, secret, cost, name, batch, cpid, consent_at, "
@@ -51,6 +51,7 @@ class Member:
     is_exported: bool
     created_at: int
     is_anonymous: bool = False
+    team: int | None = None
 
     @property
     def shown_name(self) -> str:
@@ -75,6 +76,7 @@ def member_of(row: tuple[object, ...]) -> Member:
         is_exported,
         made,
         is_anonymous,
+        team,
     ) = row
     return Member(
         id=cast(int, number),
@@ -89,6 +91,7 @@ def member_of(row: tuple[object, ...]) -> Member:
         is_exported=bool(is_exported),
         created_at=cast(int, made),
         is_anonymous=bool(is_anonymous),
+        team=cast("int | None", team),
     )
 
 

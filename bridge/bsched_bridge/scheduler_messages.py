@@ -14,6 +14,7 @@ from .limits import NoPlace, Places
 from .members import Members
 from .recent_credit import Recent, RecentCredit
 from .request_parts import RequestFault
+from .teams import Teams
 
 # Reading the XML of a request takes many times its bytes. A large one waits for its turn before it is read.
 LARGE_BYTES, LARGE_SECONDS = 256 * 1024, 5.0
@@ -48,9 +49,10 @@ class SchedulerMessages:
         members: Members,
         recent: RecentCredit,
         places: Places,
+        teams: Teams,
     ) -> None:
         self.exchange, self.catalogue, self.writer = exchange, catalogue, writer
-        self.members, self.recent, self.places = members, recent, places
+        self.members, self.recent, self.places, self.teams = members, recent, places, teams
         self.reader = RequestReader()
 
     def answer(self, message: Request) -> Response:
@@ -75,7 +77,8 @@ class SchedulerMessages:
         reply = answered.reply if member is None else replace(answered.reply, user_name=member.name)
         recent = self._recent(request.authenticator, reply.hostid)
         writer = self.writer.with_catalogue(self.catalogue())
-        return answer(XML, writer.reply(request, reply, answered.hostid, answered.notice, recent))
+        team = None if member is None else self.teams.name_of(member.team)
+        return answer(XML, writer.reply(request, reply, answered.hostid, answered.notice, recent, team))
 
     def _recent(self, authenticator: str, scheduler_hostid: int) -> Recent | None:
         """Returns the recent average credit that a reply has; None if the operator has no file of it."""

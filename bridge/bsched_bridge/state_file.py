@@ -1,8 +1,8 @@
 """The state file: what must outlive a stop of the bridge, in SQLite.
 
-Five modules keep their rows in it: `hosts` and `call_numbers` the keys of bsched with their numbers and
-their calls, `members` the accounts, `barring` those whose computers are refused, and `credit_days` credit by
-days. Pages read on a connection of their own, so calls don't wait for them.
+Six modules keep their rows in it: `hosts` and `call_numbers` the keys of bsched with their numbers and their
+calls, `members` the accounts, `barring` those whose computers are refused, `credit_days` credit by days, and
+`teams` the teams. Pages read on a connection of their own, so calls don't wait for them.
 
 One bridge has the file: it holds the lock file next to it. Commands of the operator work on the file while
 the bridge serves it; each of their transactions takes a part of a second.
@@ -16,7 +16,7 @@ from contextlib import contextmanager
 from pathlib import Path
 
 # the name of the format, in the file's header: "bscb"
-APPLICATION_ID, SCHEMA_VERSION = 0x62736362, 5
+APPLICATION_ID, SCHEMA_VERSION = 0x62736362, 6
 HOSTS = """
 CREATE TABLE host (
   -- the key; the host_cpid is the one with which the host was made
@@ -94,6 +94,17 @@ CREATE INDEX member_by_credit ON member (credit DESC) WHERE credit IS NOT NULL;
 CREATE INDEX host_by_credit ON host (host_credit DESC, hostid)
   WHERE scheduler_hostid IS NOT NULL AND hostid IS NOT NULL;
 """
+TEAMS = """
+CREATE TABLE team (
+  id INTEGER PRIMARY KEY AUTOINCREMENT,
+  name TEXT NOT NULL,
+  folded TEXT NOT NULL UNIQUE,  -- what names that look alike have in common
+  founder INTEGER NOT NULL,     -- the number of a user
+  created_at INTEGER NOT NULL
+) STRICT;
+ALTER TABLE member ADD COLUMN team INTEGER;
+CREATE INDEX member_of_team ON member (team, credit) WHERE team IS NOT NULL;
+"""
 CREDIT_OF_MEMBERS = """
 UPDATE member SET credit = (
     SELECT coalesce(user_credit, 0) FROM host WHERE host.authenticator = member.authenticator
@@ -126,13 +137,14 @@ INSERT INTO host (authenticator, host_cpid, has_former_number, scheduler_hostid,
 DROP TABLE host_of_version_2;
 """
 )
-NEW_FILE = HOSTS + NUMBERS + MEMBERS + BARRED + PEOPLE
+NEW_FILE = HOSTS + NUMBERS + MEMBERS + BARRED + PEOPLE + TEAMS
 # the statements from each version to the next
 UPGRADES = {
     1: MEMBERS + HEARD_MEMBERS,
     2: HOSTS_OF_VERSION_2 + NUMBERS,
     3: BARRED,
     4: PEOPLE + CREDIT_OF_MEMBERS,
+    5: TEAMS,
 }
 BUSY_SECONDS = 10.0  # for a transaction of another process
 

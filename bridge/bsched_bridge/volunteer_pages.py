@@ -8,6 +8,7 @@ from .http_messages import query_of
 from .page_numbers import PageOf, page_of
 from .settings import Settings
 from .statements import Statements
+from .teams import Teams
 from .templates import Templates
 from .texts import RESULT_WORDS
 
@@ -26,8 +27,10 @@ class VolunteerPages:
         directory: Directory,
         days: CreditDays,
         statements: Statements,
+        teams: Teams,
     ) -> None:
         self.templates, self.directory, self.days, self.statements = templates, directory, days, statements
+        self.teams = teams
         self._has_average = settings.averages is not None
 
     def _search(self, message: Request) -> str:
@@ -72,6 +75,7 @@ class VolunteerPages:
             place=self.directory.place(user),
             of=self.directory.count_users(),
             average=self.average_of(user),
+            team=self.teams.team(user.team),
             chart=chart_of(self.days.of_member(number)),
             computers=self.directory.computers_of(user, MOST_COMPUTERS),
         )

@@ -309,7 +309,7 @@ def test_how_to_join(project: Path, open_bridge: Bridge) -> None:
     page = page_of(open_bridge.got("/p/"))
     assert "No, new user" in page.text and "http://127.0.0.1:8081/p/" in page.text
     assert page.links == ["https://boinc.berkeley.edu/download.php"]
-    assert page.header == ["", "status", "users", "computers", "account"]
+    assert page.header == ["", "status", "users", "computers", "teams", "account"]
     (project / "terms.txt").write_text("Be kind.\n")
     with (project / "bridge.toml").open("a") as file:
         file.write('terms = "terms.txt"\n')

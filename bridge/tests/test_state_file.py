@@ -218,7 +218,7 @@ def test_a_newer_file_is_refused_and_not_changed(tmp_path: Path) -> None:
     with pytest.raises(StateFault) as raised:
         StateFile(path)
     assert str(raised.value) == (
-        f"{path}: a newer bridge wrote this file (format 6, and this bridge knows 5): run that bridge"
+        f"{path}: a newer bridge wrote this file (format 7, and this bridge knows 6): run that bridge"
     )
     assert contents(path) == before
 
@@ -257,7 +257,7 @@ def test_a_file_of_version_1_gets_accounts(tmp_path: Path) -> None:
     kept = contents(path)
     StateFile(path).close()  # no upgrade is needed
     assert contents(path) == kept
-    assert kept[1] == 5
+    assert kept[1] == 6
 
 
 @pytest.mark.parametrize("version", [1, 2])
@@ -287,7 +287,7 @@ def test_a_new_file_and_an_upgraded_one_have_the_same_tables(tmp_path: Path) -> 
         kept = file.rows("SELECT type, name FROM sqlite_schema WHERE name NOT LIKE 'sqlite_%' ORDER BY name")
         shapes.append([(kind, table, file.rows(f"PRAGMA table_xinfo({table})")) for kind, table in kept])
         file.close()
-    assert shapes[0] == shapes[1] == shapes[2] == shapes[3] and len(shapes[0]) == 18
+    assert shapes[0] == shapes[1] == shapes[2] == shapes[3] and len(shapes[0]) == 20
 
 
 def file_of_version_4(path: Path) -> None:
