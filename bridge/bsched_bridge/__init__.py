@@ -47,6 +47,13 @@ Pages for people go through these:
 
 pages            the project's page and the status page
 account_pages    an account, for its owner
+volunteer_pages  users and computers, for everybody
+team_pages       teams, for everybody
+teams            what users do with teams (team_rows), and teams by credit and by name
+page_numbers     long lists on several pages
+directory        users and computers by credit and by name
+credit_days      credit by days, and charts of it
+descriptions     what computers say of themselves
 statements       the status of hosts and users, by bsched's statements
 templates        Jinja2's templates, in the folder templates/, with one style sheet
 pictures         the project's picture, and plots of the last month

@@ -4,9 +4,11 @@ There are no cookies. Each form sends the key or the password that it needs, so 
 with its visitors' accounts. Nor can it try passwords by its visitors: what browsers say comes from another
 site is refused.
 """
+import time
 from dataclasses import dataclass, field, replace
 from typing import Any
 
+from werkzeug.exceptions import BadRequest
 from werkzeug.wrappers import Request, Response
 
 from .account_messages import LEAST_PASSWORD, client_of
@@ -16,6 +18,7 @@ from .members import Member
 from .passwords import client_hash
 from .settings import Settings
 from .statements import MOST_HOSTS, Statements
+from .teams import TeamFault, Teams
 from .templates import Templates
 from .texts import RESULT_WORDS
 from .words import in_small_letters
@@ -49,9 +52,10 @@ class AccountPages:
         accounts: Accounts,
         statements: Statements,
         places: AccountPlaces,
+        teams: Teams,
     ) -> None:
         self.settings, self.templates, self.accounts = settings, templates, accounts
-        self.statements, self.places = statements, places
+        self.statements, self.places, self.teams = statements, places, teams
         self._field = settings.accounts.address_field if settings.accounts else None
         self._is_name_told = settings.accounts is not None and settings.accounts.is_name_told
 
@@ -110,17 +114,50 @@ class AccountPages:
         """Changes the name of an account, and whether statistics may show it. The owner sends the key."""
         sent, client = self._sent(message)
         name, is_exported = clean_name(sent.text("name")), sent.text("is_exported") == "1"
+        is_anonymous = sent.text("is_anonymous") == "1"
         try:
             with self.places.taken(client):
                 member = self.accounts.of_owner(sent.text("key"), client)
                 if not name:
                     sent.faults["name"] = "Give a name."
                     return self._account(member, sent=sent)
-                self.accounts.members.change(member, name, is_exported)
-                member = replace(member, name=name, is_exported=is_exported)
+                self.accounts.members.change(member, name, is_exported, is_anonymous)
+                member = replace(member, name=name, is_exported=is_exported, is_anonymous=is_anonymous)
                 return self._account(member, "Your changes are saved.")
         except AccountFault as fault:
             return self._entrance(Form(faults={"key": fault.fault.text}))
+
+    def team(self, message: Request) -> Response:
+        """Lets a user make, join or leave a team, or remove a member from it. The owner sends the key."""
+        sent, client = self._sent(message)
+        try:
+            with self.places.taken(client):
+                member = self.accounts.of_owner(sent.text("key"), client)
+                try:
+                    done = self._change_team(member, sent)
+                except TeamFault as fault:
+                    sent.faults["member" if sent.text("action") == "remove" else "team"] = str(fault)
+                    return self._account(member, sent=sent)
+                return self._account(self.accounts.of_owner(sent.text("key"), client), done)
+        except AccountFault as fault:
+            return self._entrance(Form(faults={"key": fault.fault.text}))
+
+    def _change_team(self, member: Member, sent: Form) -> str:
+        """Does what a form about a team says, and returns what was done."""
+        action, text = sent.text("action"), sent.text("team")
+        if action == "make":
+            self.teams.make(member, text, int(time.time()))
+            return "Your team is made."
+        if action == "join":
+            self.teams.join(member, text)
+            return "You are in the team."
+        if action == "leave":
+            self.teams.leave(member)
+            return "You left the team."
+        if action == "remove":
+            self.teams.remove(member, sent.text("member"))
+            return "The member is removed."
+        raise BadRequest
 
     def _account(self, member: Member, done: str = "", sent: Form | None = None) -> Response:
         """Returns the page of an account."""
@@ -130,6 +167,7 @@ class AccountPages:
             status=self.statements.of_account(member.authenticator),
             done=done,
             sent=sent or Form(),
+            team=self.teams.team(member.team),
             most_hosts=MOST_HOSTS,
             result_words=RESULT_WORDS,
         )

@@ -15,7 +15,9 @@ from .barring import Barring
 from .call_numbers import CallNumbers
 from .catalogue import Catalogue
 from .client_replies import ReplyWriter
+from .credit_days import CreditDays
 from .current_catalogue import CatalogueReader
+from .directory import Directory
 from .downloads import Downloads
 from .exchange import Exchange, Resending
 from .handed_out import HandedOut
@@ -36,11 +38,14 @@ from .scheduler_messages import SchedulerMessages
 from .settings import HostRules, Settings, read_settings
 from .state_file import StateFile
 from .statements import Statements
+from .team_pages import TeamPages
+from .teams import Teams
 from .templates import Templates
 from .upload_store import UploadStore, open_store
 from .upload_tokens import UploadTokens
 from .uploads import PATH as UPLOAD_PATH
 from .uploads import Uploads
+from .volunteer_pages import VolunteerPages
 
 KEPT_THREADS = 2  # for pages and files, which need nothing of bsched
 
@@ -64,6 +69,7 @@ class Application:
         self.current = current = (lambda: catalogue) if isinstance(catalogue, Catalogue) else catalogue
         key, archives, barring = settings.operator_key, read_archives(settings.archives), Barring(file)
         hosts, self.members, recent = Hosts(file), Members(file), RecentCredit(settings.averages)
+        self.teams, self.directory = Teams(file), Directory(file)
         half = max(1, settings.threads // 2)
         self.places = Places(max(1, settings.threads - KEPT_THREADS))
         self.account_places = AccountPlaces(Places(half, self.places))
@@ -101,7 +107,10 @@ class Application:
         self.statements = Statements(hosts, self.members, scheduler, key, settings.counts, archives, recent)
         self.templates = Templates(settings)
         self.pictures = Pictures(settings)
-        self.pages = Pages(settings, self.templates, self.statements, self.pictures)
+        self.pages = Pages(settings, self.templates, self.statements, self.pictures, self.directory)
+        self.volunteers = VolunteerPages(
+            settings, self.templates, self.directory, CreditDays(file), self.statements, self.teams
+        )
         self.routes = Routes(settings.path, [*self._routes(), *self._account_routes()])
 
     @property
@@ -119,6 +128,10 @@ class Application:
             Route("lookup_account.php", messages.look_up, ("GET",)),
             Route("create_account.php", messages.create, ("GET",)),
             Route("status", self.pages.status),
+            Route("users", self.volunteers.users),
+            Route("user/<number:number>", self.volunteers.user),
+            Route("computers", self.volunteers.computers),
+            Route("computer/<number:number>", self.volunteers.computer),
             Route("download/<path:name>", self.downloads.send),
             Route(self.templates.style_name, self.templates.style),
             Route("picture/<name>", self.pictures.answer),
@@ -132,9 +145,13 @@ class Application:
         if self.accounts is None:
             return [Route("get_passwd.php", self.pages.no_passwords)]
         people = AccountPages(
-            self.settings, self.templates, self.accounts, self.statements, self.account_places
+            self.settings, self.templates, self.accounts, self.statements, self.account_places, self.teams
         )
+        teams = TeamPages(self.templates, self.teams, self.directory)
         return [
+            Route("teams", teams.list),
+            Route("team/<number:number>", teams.team),
+            Route("account_team", people.team, ("POST",)),
             Route("account", people.account, FORMS),
             Route("account_finish.php", people.finish, FORMS),
             Route("get_passwd.php", people.password, FORMS),

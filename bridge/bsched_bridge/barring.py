@@ -9,12 +9,14 @@ import sqlite3
 from enum import Enum
 from typing import cast
 
+from .credit_days import forget_days
 from .state_file import StateFile
+from .team_rows import leave_by_key
 
 DELETED_NAME = "deleted"
 FORGET_MEMBER = (
     "UPDATE member SET email = NULL, salt = NULL, secret = NULL, cost = NULL, name = ?, cpid = ?, "
-    "consent_at = NULL, is_exported = 0 WHERE authenticator = ?"
+    "consent_at = NULL, is_exported = 0, is_anonymous = 0, credit = NULL WHERE authenticator = ?"
 )
 
 
@@ -68,6 +70,8 @@ class Barring:
 
 def forget(connection: sqlite3.Connection, authenticator: str, now: int) -> None:
     """Does the same within a transaction. The row of `barred` comes last: with it the account is fixed."""
+    leave_by_key(connection, authenticator)
+    forget_days(connection, authenticator)
     connection.execute(FORGET_MEMBER, (DELETED_NAME, secrets.token_hex(16), authenticator))
     connection.execute("DELETE FROM host WHERE authenticator = ?", (authenticator,))
     connection.execute(

@@ -12,22 +12,34 @@ from dataclasses import dataclass, fields
 from typing import cast
 
 from .barring import Barred
+from .credit_days import DAY, HOST_TABLE, MEMBER_TABLE, StoredDay
 from .hosts import COUNTED, MOST_NUMBER, Key, new_hostid
-from .members import first_heard
+from .members import first_heard, store_credit
 from .scheduler import Job, Reply
 from .state_file import StateFile
 
 
-STATE = (
-    "open_call, jobs_in_hand, last_number, scheduler_hostid IS NOT NULL, hostid IS NOT NULL, "
-    "(SELECT name FROM member WHERE member.authenticator = host.authenticator)"
+# what a state has of the account, with the credit of a day (?1)
+ACCOUNT = "member.id, member.name, team.name, member.credit, member_day.credit"
+OF_ACCOUNT = (
+    "LEFT JOIN team ON team.id = member.team "
+    "LEFT JOIN member_day ON member_day.member = member.id AND member_day.day = ?1"
 )
-OF_KEY = f"SELECT {STATE} FROM host WHERE authenticator = ? AND host_cpid = ?"
+STATE = (
+    "open_call, jobs_in_hand, last_number, scheduler_hostid IS NOT NULL, host.hostid, host_day.credit, "
+    f"{ACCOUNT}"
+)
+OF_HOST = (
+    "FROM host LEFT JOIN host_day ON host_day.hostid = host.hostid AND host_day.day = ?1 "
+    f"LEFT JOIN member ON member.authenticator = host.authenticator {OF_ACCOUNT}"
+)
+OF_KEY = f"SELECT {STATE} {OF_HOST} WHERE host.authenticator = ?2 AND host_cpid = ?3"
 OF_NUMBER = (
     "SELECT host_cpid, coalesce(client_seqno, 0), "
     "(SELECT is_deleted FROM barred WHERE barred.authenticator = host.authenticator), "
-    f"{STATE} FROM host WHERE authenticator = ? AND hostid = ?"
+    f"{STATE} {OF_HOST} WHERE host.authenticator = ?2 AND host.hostid = ?3"
 )
+OF_NEW_KEY = f"SELECT {ACCOUNT} FROM member {OF_ACCOUNT} WHERE member.authenticator = ?2"
 OPENED = (
     "UPDATE host SET last_number = ?1, open_call = ?2, "
     "client_seqno = CASE WHEN ?3 > ifnull(client_seqno, -1) THEN ?3 ELSE client_seqno END "
@@ -39,7 +51,8 @@ OPENED_AS = (
 )
 ANSWERED = (
     "UPDATE host SET open_call = NULL, jobs_in_hand = ?, scheduler_hostid = ?, user_name = ?, "
-    "user_credit = ?, host_credit = ?, heard_at = ? WHERE authenticator = ? AND host_cpid = ?"
+    "user_credit = ?, host_credit = ?, heard_at = ?, about = coalesce(?, about) "
+    "WHERE authenticator = ? AND host_cpid = ?"
 )
 JOB_MEMBERS = [member.name for member in fields(Job)]
 # Open calls of accounts that the bridge does not know. Somebody may have made these accounts up, and each
@@ -68,6 +81,16 @@ class ClientState:
 
 
 @dataclass(frozen=True, slots=True)
+class AccountState:
+    """What the state file has of an account that the bridge knows."""
+
+    name: str
+    team: str | None  # the name of the user's team
+    credit: int | None  # by the latest reply to one of its hosts
+    day: StoredDay
+
+
+@dataclass(frozen=True, slots=True)
 class KeyState:
     """What the state file has of a key."""
 
@@ -75,13 +98,13 @@ class KeyState:
     jobs_text: str = "[]"  # the jobs in hand, as they are stored
     last_number: int = 0  # of its calls
     has_host: bool = False  # whether bsched has the host, by its last reply
-    has_number: bool = False  # whether a client has the host's number
-    name: str | None = None  # of the account; None if the bridge does not know the account
+    day: StoredDay | None = None  # None if no client has the host's number
+    account: AccountState | None = None  # None if the bridge does not know the account
 
     @property
     def is_of_stranger(self) -> bool:
         """Whether the bridge knows neither the host nor its account."""
-        return not self.has_host and not self.has_number and self.name is None
+        return not self.has_host and self.day is None and self.account is None
 
     @property
     def jobs_in_hand(self) -> list[Job]:
@@ -100,17 +123,32 @@ class KnownHost:
     state: KeyState
 
 
-def state_of(row: tuple[object, ...]) -> KeyState:
-    """Returns the state in the columns of STATE."""
-    call, jobs, number, has_host, has_number, name = row
+def account_of(row: tuple[object, ...], day: int) -> AccountState | None:
+    """Returns the account in the columns of ACCOUNT, which were read for a day."""
+    if row[0] is None:
+        return None
+    number, name, team, credit, credit_of_day = cast(
+        "tuple[int, str, str | None, int | None, int | None]", row
+    )
+    return AccountState(name, team, credit, StoredDay(number, day, credit_of_day))
+
+
+def state_of(row: tuple[object, ...], day: int) -> KeyState:
+    """Returns the state in the columns of STATE, which were read for a day."""
+    call, jobs, number, has_host, hostid, credit = row[:6]
     return KeyState(
         cast("bytes | None", call),
         cast(str, jobs),
         cast(int, number),
         bool(has_host),
-        bool(has_number),
-        cast("str | None", name),
+        None if hostid is None else StoredDay(cast(int, hostid), day, cast("int | None", credit)),
+        account_of(row[6:], day),
     )
+
+
+def today() -> int:
+    """Returns the day, in UTC, since 1970."""
+    return int(time.time()) // DAY
 
 
 def text_of_jobs(jobs: Iterable[Job]) -> str:
@@ -126,23 +164,25 @@ class CallNumbers:
 
     def of_number(self, authenticator: str, hostid: int) -> KnownHost | None:
         """Returns the account's host with a number that a client was told."""
-        row = self.file.row(OF_NUMBER, authenticator, hostid)
+        day = today()
+        row = self.file.row(OF_NUMBER, day, authenticator, hostid)
         if row is None:
             return None
-        host_cpid, seqno, is_deleted, *state = row
+        host_cpid, seqno, is_deleted = row[:3]
         barred = None if is_deleted is None else Barred(is_deleted)
         key = Key(authenticator, cast(str, host_cpid))
-        return KnownHost(key, cast(int, seqno), barred, state_of(tuple(state)))
+        return KnownHost(key, cast(int, seqno), barred, state_of(row[3:], day))
 
     def state(self, key: Key) -> KeyState:
         """Returns what the state file has of a key. While the key is held, its calls and its jobs in hand
         stay so.
         """
-        row = self.file.row(OF_KEY, key.authenticator, key.host_cpid)
+        day = today()
+        row = self.file.row(OF_KEY, day, key.authenticator, key.host_cpid)
         if row is not None:
-            return state_of(row)
-        row = self.file.row("SELECT name FROM member WHERE authenticator = ?", key.authenticator)
-        return KeyState(name=None if row is None else cast(str, row[0]))
+            return state_of(row, day)
+        row = self.file.row(OF_NEW_KEY, day, key.authenticator)
+        return KeyState(account=None if row is None else account_of(row, day))
 
     def open_call(self, key: Key) -> bytes | None:
         """Returns the call of a key that has no answer yet."""
@@ -254,11 +294,21 @@ class CallNumbers:
             )
 
     def record_answer(
-        self, key: Key, reply: Reply, jobs_in_hand: list[Job], has_account: bool = False
+        self,
+        key: Key,
+        reply: Reply,
+        jobs_in_hand: list[Job],
+        state: KeyState | None = None,
+        about: str | None = None,
     ) -> None:
-        """Closes the open call of a key after a reply. From now on these jobs are in hand. The account is
-        inserted, unless the bridge has it already.
+        """Closes the open call of a key after a reply. From now on these jobs are in hand. What the computer
+        said of itself is stored, too, if it is known.
+
+        The state of the key is what was read before the call. The account is inserted unless the state has
+        it. Credit that the state has already is not written.
         """
+        if state is None:
+            state = self.state(key)
         now = int(time.time())
         values = (
             text_of_jobs(jobs_in_hand),
@@ -267,12 +317,13 @@ class CallNumbers:
             reply.user_total_credit,
             reply.host_total_credit,
             now,
+            about,
             key.authenticator,
             key.host_cpid,
         )
         with self.file.transaction(is_synced=False) as connection:
             try:
-                connection.execute(ANSWERED, values)
+                is_stored = connection.execute(ANSWERED, values).rowcount == 1
             except sqlite3.IntegrityError:
                 # Another host of the account had the number. If bsched's tables were restored from an older
                 # copy, bsched may give a number a second time.
@@ -281,9 +332,9 @@ class CallNumbers:
                     "WHERE authenticator = ? AND scheduler_hostid = ?",
                     (key.authenticator, reply.hostid),
                 )
-                connection.execute(ANSWERED, values)
-            if not has_account:
-                first_heard(connection, key.authenticator, reply.user_name, now)
+                is_stored = connection.execute(ANSWERED, values).rowcount == 1
+            if is_stored:  # else the account was deleted just now
+                record_credit(connection, key, reply, state, now)
 
     def give_hostid(self, key: Key) -> int | None:
         """Returns the number of a host, which its client gets with this reply. The host has one if a
@@ -311,3 +362,19 @@ class CallNumbers:
                 "UPDATE host SET jobs_in_hand = ? WHERE authenticator = ? AND host_cpid = ?",
                 (text_of_jobs(jobs), key.authenticator, key.host_cpid),
             )
+
+
+def record_credit(connection: sqlite3.Connection, key: Key, reply: Reply, state: KeyState, now: int) -> None:
+    """Stores the credit in a reply, for the account and by days, within a transaction. What the state has
+    already is not written.
+    """
+    account, credit, day = state.account, reply.user_total_credit, now // DAY
+    if account is None:
+        number = first_heard(connection, key.authenticator, reply.user_name, now, credit)
+        MEMBER_TABLE.record(connection, StoredDay(number, day, None), day, credit)
+    else:
+        if account.credit != credit:
+            store_credit(connection, account.day.number, credit)
+        MEMBER_TABLE.record(connection, account.day, day, credit)
+    if state.day is not None:
+        HOST_TABLE.record(connection, state.day, day, reply.host_total_credit)

@@ -151,6 +151,8 @@ class ReplyWriter:
         """
         xml = self._begun(reply.request_delay)
         xml.add("user_name", reply.user_name)
+        if reply.team_name is not None:
+            xml.add("team_name", reply.team_name)
         xml.add("user_total_credit", f"{reply.user_total_credit / MILLICREDITS:.3f}")
         xml.add("host_total_credit", f"{reply.host_total_credit / MILLICREDITS:.3f}")
         if recent is not None:

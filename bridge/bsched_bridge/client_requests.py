@@ -17,6 +17,7 @@ from xml.etree.ElementTree import Element, ParseError, TreeBuilder, XMLParser
 from defusedxml import DefusedXmlException  # type: ignore[import]
 from defusedxml.ElementTree import DefusedXMLParser  # type: ignore[import]
 
+from .descriptions import described
 from .request_parts import MOST_OUTPUT, Parts, RequestFault
 from .words import cut_to_bytes, is_word
 
@@ -106,6 +107,7 @@ class ClientRequest:
     p_ncpus: int = 1
     cpu_req_secs: int = 0  # the part of work_req_seconds that is for processors
     coprocs: tuple[Coproc, ...] = ()
+    about: str | None = None  # what the computer says of itself, for people
 
 
 # ---- Elements
@@ -325,14 +327,20 @@ def read_request(blocks: Iterable[bytes]) -> ClientRequest:
     seconds = fields.whole("work_req_seconds", 0, MOST_SECONDS, 0, up=True)
     has = root.find("other_results")
     other = None if has is None else tuple(filter(is_result_name, names_in(has.findall("other_result"))))
+    coprocs = coprocs_of(root)
+    p_ncpus = host.whole("p_ncpus", 0, 10_000, 0)
+    p_fpops = host.whole("p_fpops", 0, MOST_NUMBER, 0)
+    m_nbytes = host.whole("m_nbytes", 0, MOST_NUMBER, 0)
+    d_free = host.whole("d_free", 0, MOST_NUMBER, 0)
+    shown = [f"{one.count} × {one.type}" for one in coprocs]
     return ClientRequest(
         authenticator=fields.word("authenticator"),
         hostid=fields.whole("hostid", 0, 2**31 - 1, 0),
         rpc_seqno=fields.whole("rpc_seqno", 0, 2**31 - 1, 0),
         host_cpid=host.word("host_cpid"),
-        p_fpops=host.whole("p_fpops", 1, MOST_NUMBER, 1),
-        m_nbytes=host.whole("m_nbytes", 0, MOST_NUMBER, 0),
-        d_free=host.whole("d_free", 0, MOST_NUMBER, 0),
+        p_fpops=max(1, p_fpops),
+        m_nbytes=m_nbytes,
+        d_free=d_free,
         platform_name=fields.word("platform_name"),
         alt_platforms=tuple(filter(is_word, names_in(root.findall("alt_platform"))))[:MOST_PLATFORMS],
         work_req_seconds=seconds,
@@ -340,7 +348,8 @@ def read_request(blocks: Iterable[bytes]) -> ClientRequest:
         results=tuple(filter(None, map(report_of, root.findall("result")))),
         code_sign_key="".join((fields.text("code_sign_key") or "").split()),
         has_messages=parts.has_messages,
-        p_ncpus=host.whole("p_ncpus", 1, 10_000, 1),
+        p_ncpus=max(1, p_ncpus),
         cpu_req_secs=fields.whole("cpu_req_secs", 0, MOST_SECONDS, seconds, up=True),
-        coprocs=coprocs_of(root),
+        coprocs=coprocs,
+        about=described(root, p_ncpus, m_nbytes, d_free, p_fpops, shown),
     )

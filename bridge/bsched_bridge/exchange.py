@@ -16,7 +16,15 @@ from dataclasses import dataclass, replace
 
 from .archives import Archives
 from .barring import Barred, Barring
-from .call_numbers import CallNumbers, ClientState, CountEnded, KeyState, KnownHost, TooManyHosts
+from .call_numbers import (
+    AccountState,
+    CallNumbers,
+    ClientState,
+    CountEnded,
+    KeyState,
+    KnownHost,
+    TooManyHosts,
+)
 from .calls import call_text
 from .client_requests import ClientRequest, Report
 from .host_search import HostSearch, TooManySearches
@@ -328,9 +336,7 @@ class Exchange:
             log.warning("a call of %s that was sent again is refused as %s", key.host_cpid, answer.error)
             self.numbers.record_refusal(key)
         else:
-            self.numbers.record_answer(
-                key, answer, jobs_with(answer, state.jobs_in_hand), state.name is not None
-            )
+            self.numbers.record_answer(key, answer, jobs_with(answer, state.jobs_in_hand), state)
         return self.numbers.state(key)
 
     def _answer(self, key: Key, call: bytes) -> Reply | Refusal:
@@ -382,8 +388,8 @@ class Exchange:
     def _send(
         self, key: Key, request: ClientRequest, client: ClientState, state: KeyState, is_sure: bool
     ) -> Reply | PutOff:
-        """Returns the reply to a request, with the name that the user chose. The key is held, and has no open
-        call. Raises StateChanged.
+        """Returns the reply to a request, with the name that the user chose and that of the user's team. The
+        key is held, and has no open call. Raises StateChanged.
         """
         if self._is_made_up(key, state):
             return put_off_by(Refusal("bad_account"))
@@ -404,11 +410,8 @@ class Exchange:
             answer = self._answer(key, call)
             if isinstance(answer, Reply):
                 jobs = [] if request.other_results is None else answer.results
-                self.numbers.record_answer(key, answer, jobs, state.name is not None)
-                name = answer.user_name if state.name is None else state.name
-                if name == answer.user_name and not in_hand:
-                    return answer
-                return replace(answer, user_name=name, results=jobs_with(answer, in_hand))
+                self.numbers.record_answer(key, answer, jobs, state, request.about)
+                return shown(answer, state.account, in_hand)
             refusal = answer
             self.numbers.record_refusal(key)
             if refusal.error == "bad_account" and self.import_again(key.authenticator):
@@ -470,6 +473,16 @@ def jobs_with(reply: Reply, in_hand: list[Job]) -> list[Job]:
     """
     settled = {*reply.result_abort, *reply.result_ack, *(job.name for job in reply.results)}
     return [job for job in in_hand if job.name not in settled] + reply.results
+
+
+def shown(reply: Reply, account: AccountState | None, in_hand: list[Job]) -> Reply:
+    """Returns a reply with the name that the user chose, that of the user's team, and the jobs in hand."""
+    if account is None:
+        return replace(reply, results=jobs_with(reply, in_hand)) if in_hand else reply
+    if account.name == reply.user_name and account.team is None and not in_hand:
+        return reply
+    results = jobs_with(reply, in_hand)
+    return replace(reply, user_name=account.name, team_name=account.team, results=results)
 
 
 class Resending(threading.Thread):

@@ -5,7 +5,7 @@ knows an operator's account after the first reply to one of its hosts.
 """
 import secrets
 import sqlite3
-from collections.abc import Iterator
+from collections.abc import Iterable, Iterator
 from dataclasses import dataclass, replace
 from typing import cast
 
@@ -14,7 +14,7 @@ from .state_file import StateFile
 
 COLUMNS = (
     "id, authenticator, email, salt, secret, cost, name, batch, is_imported, cpid, consent_at, is_exported, "
-    "created_at"
+    "created_at, is_anonymous, team"
 )
 INSERT = (
     "INSERT INTO member (authenticator, email, salt, secret, cost, name, batch, cpid, consent_at, "
@@ -22,6 +22,7 @@ INSERT = (
 )
 # Rows of the operator's accounts have no batch. Accounts that a clock made which was ahead don't count later.
 MADE_BETWEEN = "SELECT count(*) FROM member WHERE batch IS NOT NULL AND created_at > ? AND created_at <= ?"
+ANONYMOUS = "anonymous"  # how pages and statistics call a user who chose so
 DAY = 86400
 ROWS_AT_ONCE = 1000
 
@@ -49,6 +50,13 @@ class Member:
     consent_at: int | None
     is_exported: bool
     created_at: int
+    is_anonymous: bool = False
+    team: int | None = None
+
+    @property
+    def shown_name(self) -> str:
+        """The name by which others know the user."""
+        return ANONYMOUS if self.is_anonymous else self.name
 
 
 def member_of(row: tuple[object, ...]) -> Member:
@@ -67,6 +75,8 @@ def member_of(row: tuple[object, ...]) -> Member:
         consent_at,
         is_exported,
         made,
+        is_anonymous,
+        team,
     ) = row
     return Member(
         id=cast(int, number),
@@ -80,6 +90,8 @@ def member_of(row: tuple[object, ...]) -> Member:
         consent_at=cast("int | None", consent_at),
         is_exported=bool(is_exported),
         created_at=cast(int, made),
+        is_anonymous=bool(is_anonymous),
+        team=cast("int | None", team),
     )
 
 
@@ -88,13 +100,22 @@ def new_batch_name() -> str:
     return "account-" + secrets.token_hex(16)
 
 
-def first_heard(connection: sqlite3.Connection, authenticator: str, name: str, now: int) -> None:
-    """Inserts the account that a reply is for, if it is not known yet, within a transaction."""
-    connection.execute(
-        "INSERT INTO member (authenticator, name, is_imported, cpid, created_at) VALUES (?, ?, 1, ?, ?) "
-        "ON CONFLICT (authenticator) DO NOTHING",
-        (authenticator, name, secrets.token_hex(16), now),
-    )
+def first_heard(connection: sqlite3.Connection, authenticator: str, name: str, now: int, credit: int) -> int:
+    """Inserts the account that a reply is for, unless another reply has inserted it, and stores its credit,
+    within a transaction. Returns the account's number.
+    """
+    row = connection.execute(
+        "INSERT INTO member (authenticator, name, is_imported, cpid, created_at, credit) "
+        "VALUES (?, ?, 1, ?, ?, ?) ON CONFLICT (authenticator) DO UPDATE SET credit = excluded.credit "
+        "RETURNING id",
+        (authenticator, name, secrets.token_hex(16), now, credit),
+    ).fetchone()
+    return cast(int, row[0])
+
+
+def store_credit(connection: sqlite3.Connection, number: int, credit: int) -> None:
+    """Stores the credit of an account, by its number, within a transaction."""
+    connection.execute("UPDATE member SET credit = ? WHERE id = ?", (credit, number))
 
 
 class Members:
@@ -147,10 +168,14 @@ class Members:
         )
         return list(map(member_of, rows))
 
-    def names(self) -> dict[str, str]:
-        """Returns the name of each account, by its key."""
-        rows = self.file.rows("SELECT authenticator, name FROM member")
-        return {cast(str, row[0]): cast(str, row[1]) for row in rows}
+    def shown(self, authenticators: Iterable[str]) -> dict[str, tuple[int, str]]:
+        """Returns the numbers of some accounts, with the names by which others know them."""
+        found = {}
+        for authenticator in set(authenticators):
+            member = self.of_key(authenticator)
+            if member is not None:
+                found[authenticator] = member.id, member.shown_name
+        return found
 
     # ---- Making an account
 
@@ -219,11 +244,14 @@ class Members:
 
     # ---- What a user changes
 
-    def change(self, member: Member, name: str, is_exported: bool) -> None:
-        """Stores the name that the user chose, and whether statistics sites may show it."""
+    def change(self, member: Member, name: str, is_exported: bool, is_anonymous: bool = False) -> None:
+        """Stores the name that the user chose, whether statistics sites may show it, and whether others know
+        the user as anonymous.
+        """
         with self.file.transaction() as connection:
             connection.execute(
-                "UPDATE member SET name = ?, is_exported = ? WHERE id = ?", (name, is_exported, member.id)
+                "UPDATE member SET name = ?, is_exported = ?, is_anonymous = ? WHERE id = ?",
+                (name, is_exported, is_anonymous, member.id),
             )
 
     def set_password(self, member: Member, email: str, secret: Secret) -> None:

@@ -130,6 +130,7 @@ def show(state: State, args: argparse.Namespace) -> Iterator[str]:
         "made": moment_text(member.created_at),
         "agreed to the terms": consent or "no",
         "may be named": "yes" if member.is_exported else "no",
+        "is anonymous": "yes" if member.is_anonymous else "no",
         "credit": credits_text(heard[0].user_credit if heard else 0),
         "state": state.barred(member) or "good",
     }
@@ -149,21 +150,17 @@ def host_line(host: HeardHost) -> str:
 
 def consented(state: State, args: argparse.Namespace) -> Iterator[str]:
     """Yields the accounts whose users agreed to be named, by key and name. As JSON it also has the accounts
-    that were deleted, whose names in bsched's tables nobody should show.
+    that were deleted and those of anonymous users, whose names in bsched's tables nobody should show.
     """
     barred = state.barring.all()
-    rows = [
-        (member, barred.get(member.authenticator) is Barred.DELETED)
-        for member in state.members.all()
-        if member.is_exported or barred.get(member.authenticator) is Barred.DELETED
-    ]
-    if args.json:
-        for member, is_deleted in rows:
-            yield json.dumps(
-                {"authenticator": member.authenticator, "name": member.name, "is_deleted": is_deleted}
-            )
-        return
-    yield from as_csv((member.authenticator, member.name) for member, is_deleted in rows if not is_deleted)
+    for member in state.members.all():
+        is_deleted = barred.get(member.authenticator) is Barred.DELETED
+        is_agreed = member.is_exported and not is_deleted
+        if args.json and (is_agreed or is_deleted or member.is_anonymous):
+            row = {"authenticator": member.authenticator, "name": member.shown_name}
+            yield json.dumps({**row, "is_deleted": is_deleted, "is_agreed": is_agreed})
+        elif is_agreed and not args.json:
+            yield from as_csv([(member.authenticator, member.shown_name)])
 
 
 def as_csv(rows: Iterable[tuple[str, str]]) -> Iterator[str]:

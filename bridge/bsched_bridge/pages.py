@@ -1,24 +1,22 @@
 """The project's pages for people: the master page and the status page."""
-import re
 from dataclasses import dataclass
 
 from werkzeug.wrappers import Request, Response
 
-from .http_messages import query_of
+from .directory import Directory
 from .pictures import Pictures
 from .settings import Settings
 from .statements import Statements, UnitCounts, read_unit_counts
 from .templates import Templates
 from .texts import RESULT_WORDS
 
-USERS_ON_A_PAGE = 100
+LEADERS = 10
 # how volunteers read why workunits failed, by the names of `bsched-tools counts`
 FAILED = {
     "failed by errors": "failed: too many errors",
     "failed by successes": "failed: results that do not agree",
     "failed by the total": "failed: too many results in all",
 }
-PAGE_NUMBER = re.compile("[1-9][0-9]{0,5}")
 BAR = 1000  # the width of the bar in its own units
 
 
@@ -73,20 +71,19 @@ def progress_of(units: UnitCounts | None) -> Progress | None:
     return Progress(parts, total, units.counted_at)
 
 
-def page_number(message: Request, pages: int) -> int:
-    """Returns the number of the page that a message asks for: one of those that exist."""
-    text = query_of(message).get("page", "")
-    return min(int(text), max(1, pages)) if PAGE_NUMBER.fullmatch(text) else 1
-
-
 class Pages:
     """Answers people who ask about the project."""
 
     def __init__(
-        self, settings: Settings, templates: Templates, statements: Statements, pictures: Pictures
+        self,
+        settings: Settings,
+        templates: Templates,
+        statements: Statements,
+        pictures: Pictures,
+        directory: Directory,
     ) -> None:
         self.settings, self.templates, self.statements = settings, templates, statements
-        self.pictures = pictures
+        self.pictures, self.directory = pictures, directory
 
     def project(self, _message: Request) -> Response:
         """Returns the page at the master URL. The client reads the scheduler's URL there, in one of two
@@ -102,23 +99,18 @@ class Pages:
             plots=self.pictures.plots(),
             progress=progress_of(read_unit_counts(self.settings.counts)),
             silent_since=self.statements.scheduler.silent_since,
+            leaders=self.directory.users(0, LEADERS),
         )
 
-    def status(self, message: Request) -> Response:
-        """Returns the status page: workunits, credit by user, and hosts with their results."""
+    def status(self, _message: Request) -> Response:
+        """Returns the status page: workunits, and the hosts that called last with their results."""
         status = self.statements.status()
-        pages = max(1, -(-len(status.ranking) // USERS_ON_A_PAGE))
-        number = page_number(message, pages)
-        first = (number - 1) * USERS_ON_A_PAGE
         return self.templates.page(
             "status.html",
             status=status,
-            units=status.units,
             failed=FAILED,
-            users=status.ranking[first : first + USERS_ON_A_PAGE],
-            first=first,
-            number=number,
-            pages=pages,
+            count_of_users=self.directory.count_users(),
+            count_of_hosts=self.directory.count_computers(),
             result_words=RESULT_WORDS,
         )
 

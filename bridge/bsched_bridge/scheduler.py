@@ -64,6 +64,7 @@ class Reply:
     result_abort: list[str]
     results: list[Job]
     rpc_seqno: int
+    team_name: str | None = None  # of the user's team, which the bridge adds
 
 
 @dataclass(frozen=True, slots=True)
@@ -74,7 +75,7 @@ class Refusal:
     members: dict[str, Any] = field(default_factory=dict)
 
 
-REPLY_MEMBERS = frozenset(member.name for member in fields(Reply))
+REPLY_MEMBERS = frozenset(member.name for member in fields(Reply)) - {"team_name"}
 JOB_MEMBERS = frozenset(member.name for member in fields(Job))
 
 

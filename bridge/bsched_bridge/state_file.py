@@ -1,7 +1,8 @@
 """The state file: what must outlive a stop of the bridge, in SQLite.
 
-Four modules keep their rows in it: `hosts` and `call_numbers` the keys of bsched with their numbers and
-their calls, `members` the accounts, and `barring` those whose computers are refused.
+Six modules keep their rows in it: `hosts` and `call_numbers` the keys of bsched with their numbers and their
+calls, `members` the accounts, `barring` those whose computers are refused, `credit_days` credit by days, and
+`teams` the teams. Pages read on a connection of their own, so calls don't wait for them.
 
 One bridge has the file: it holds the lock file next to it. Commands of the operator work on the file while
 the bridge serves it; each of their transactions takes a part of a second.
@@ -13,7 +14,7 @@ import threading
 from pathlib import Path
 
 # the name of the format, in the file's header: "bscb"
-APPLICATION_ID, SCHEMA_VERSION = 0x62736362, 4
+APPLICATION_ID, SCHEMA_VERSION = 0x62736362, 6
 HOSTS = """
 CREATE TABLE host (
   -- the key; the host_cpid is the one with which the host was made
@@ -73,6 +74,41 @@ CREATE TRIGGER member_of_deleted BEFORE UPDATE ON member
   WHEN EXISTS (SELECT 1 FROM barred WHERE authenticator = NEW.authenticator AND is_deleted = 1)
   BEGIN SELECT RAISE(IGNORE); END;
 """
+# what pages show of users and computers
+PEOPLE = """
+-- what the computer said of itself in its last request, as JSON
+ALTER TABLE host ADD COLUMN about TEXT;
+-- as the latest reply to one of the user's hosts told it; NULL before the first one
+ALTER TABLE member ADD COLUMN credit INTEGER;
+-- whether others know the user as anonymous
+ALTER TABLE member ADD COLUMN is_anonymous INTEGER NOT NULL DEFAULT 0;
+CREATE TABLE host_day (          -- credit at the last call of a day (since 1970, in UTC)
+  hostid INTEGER NOT NULL, day INTEGER NOT NULL, credit INTEGER NOT NULL, PRIMARY KEY (hostid, day)
+) STRICT, WITHOUT ROWID;
+CREATE TABLE member_day (        -- the same of an account, by its number
+  member INTEGER NOT NULL, day INTEGER NOT NULL, credit INTEGER NOT NULL, PRIMARY KEY (member, day)
+) STRICT, WITHOUT ROWID;
+CREATE INDEX member_by_credit ON member (credit DESC) WHERE credit IS NOT NULL;
+CREATE INDEX host_by_credit ON host (host_credit DESC, hostid)
+  WHERE scheduler_hostid IS NOT NULL AND hostid IS NOT NULL;
+"""
+TEAMS = """
+CREATE TABLE team (
+  id INTEGER PRIMARY KEY AUTOINCREMENT,
+  name TEXT NOT NULL,
+  folded TEXT NOT NULL UNIQUE,  -- what names that look alike have in common
+  founder INTEGER NOT NULL,     -- the number of a user
+  created_at INTEGER NOT NULL
+) STRICT;
+ALTER TABLE member ADD COLUMN team INTEGER;
+CREATE INDEX member_of_team ON member (team, credit) WHERE team IS NOT NULL;
+"""
+CREDIT_OF_MEMBERS = """
+UPDATE member SET credit = (
+    SELECT coalesce(user_credit, 0) FROM host WHERE host.authenticator = member.authenticator
+      AND scheduler_hostid IS NOT NULL ORDER BY heard_at DESC LIMIT 1
+  );
+"""
 # inserts the accounts of hosts that had a reply before the table member existed
 HEARD_MEMBERS = """
 INSERT INTO member (authenticator, name, is_imported, cpid, created_at)
@@ -99,9 +135,15 @@ INSERT INTO host (authenticator, host_cpid, has_former_number, scheduler_hostid,
 DROP TABLE host_of_version_2;
 """
 )
-NEW_FILE = HOSTS + NUMBERS + MEMBERS + BARRED
+NEW_FILE = HOSTS + NUMBERS + MEMBERS + BARRED + PEOPLE + TEAMS
 # the statements from each version to the next
-UPGRADES = {1: MEMBERS + HEARD_MEMBERS, 2: HOSTS_OF_VERSION_2 + NUMBERS, 3: BARRED}
+UPGRADES = {
+    1: MEMBERS + HEARD_MEMBERS,
+    2: HOSTS_OF_VERSION_2 + NUMBERS,
+    3: BARRED,
+    4: PEOPLE + CREDIT_OF_MEMBERS,
+    5: TEAMS,
+}
 BUSY_SECONDS = 10.0  # for a transaction of another process
 
 
@@ -141,6 +183,8 @@ class StateFile:
     def __init__(self, path: Path, is_guest: bool = False) -> None:
         self._lock, self._held = threading.Lock(), None
         self._is_synced: bool | None = None  # whether SQLite syncs a commit now; None: as it does by default
+        self._look_lock = threading.Lock()
+        self._looking: sqlite3.Connection | None = None
         try:
             if is_guest:
                 path.stat()
@@ -166,6 +210,10 @@ class StateFile:
                 check(self._connection)
                 with self.transaction() as connection:
                     prepare(connection)
+            self._looking = sqlite3.connect(
+                path, isolation_level=None, check_same_thread=False, timeout=BUSY_SECONDS
+            )
+            self._looking.execute("PRAGMA query_only = ON").fetchall()
         except StateFault as fault:
             self.close()
             raise StateFault(f"{path}: {fault}") from None
@@ -224,8 +272,19 @@ class StateFile:
         with self._lock:
             return self._connection.execute(statement, values).fetchall()
 
+    def looked(self, statement: str, *values: object) -> list[tuple[object, ...]]:
+        """Returns the rows of a query for a page. Calls don't wait for it, even if it takes long."""
+        with self._look_lock:
+            if self._looking is None:
+                raise sqlite3.ProgrammingError("the file is closed")
+            return self._looking.execute(statement, values).fetchall()
+
     def close(self) -> None:
         """Closes the file."""
+        with self._look_lock:
+            if self._looking is not None:
+                self._looking.close()
+                self._looking = None
         with self._lock:
             self._connection.close()
             self._release()

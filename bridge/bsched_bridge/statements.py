@@ -6,14 +6,16 @@ import io
 import json
 import threading
 import time
-from collections import Counter, OrderedDict
+from collections import Counter, OrderedDict, deque
 from dataclasses import dataclass, replace
 from decimal import Decimal, InvalidOperation
 from pathlib import Path
 
 from .archives import Archives
+from .directory import Computer
 from .hosts import HeardHost
 from .hosts import Hosts as KnownHosts
+from .limits import NoPlace, Places, RecentCounts
 from .members import Members
 from .recent_credit import RecentCredit
 from .scheduler import NoAnswer, Scheduler
@@ -21,7 +23,12 @@ from .scheduler import NoAnswer, Scheduler
 MOST_HOSTS = 50
 KEPT_SECONDS = 60  # how long what was read is shown again, so that a page costs bsched nothing
 READ_SECONDS = 30.0  # for the statements of a page
+OLD_SECONDS = 600  # after which nobody gets what was read any more
 MOST_KEPT = 200  # accounts whose hosts are kept for that time
+MOST_RESULTS, MOST_KEPT_RESULTS = 500, 50  # results of a host on its page, and hosts whose results are kept
+# Statements that pages of hosts read in KEPT_SECONDS, and at once: bsched has calls to answer, and if it
+# hangs, other pages still find a thread.
+MOST_READ, MOST_READING = 120, 2
 MOST_COUNTS = 1_048_576  # bytes of a file of counts
 MOST_MOMENT = 250_000_000_000  # seconds; years have four digits
 NO_REPLY, SUCCESS = "4", "1"
@@ -59,6 +66,19 @@ class AccountStatus:
 
 
 @dataclass(frozen=True, slots=True)
+class Result:
+    """A result of a host."""
+
+    name: str
+    app: str
+    sent: str
+    deadline: str
+    state: str  # as in the tables of hosts
+    words: str  # the same for people, with the reason if it was not valid
+    credit: str
+
+
+@dataclass(frozen=True, slots=True)
 class UnitCounts:
     """How many workunits have each status, in a copy of bsched's tables."""
 
@@ -72,12 +92,9 @@ class Status:
     """The status of the project."""
 
     recent: Hosts  # the hosts that called last
-    count_of_hosts: int
-    # each user's name, credit and recent average credit, the greatest credit first
-    ranking: list[tuple[str, int, float]]
     units: UnitCounts | None
     silent_since: float | None  # since when bsched gives no answer
-    has_recent: bool = False  # whether recent average credit is known
+    users: dict[str, tuple[int, str]]  # the number and the name of each host's user
 
 
 def standing(row: dict[str, str]) -> str:
@@ -90,6 +107,47 @@ def standing(row: dict[str, str]) -> str:
     if (outcome, verdict) == (SUCCESS, "1"):
         return "done"
     return "waiting" if (outcome, verdict) == (SUCCESS, "0") else "failed"
+
+
+REASONS = {
+    "out": "The computer has it, and has not reported it yet.",
+    "waiting": "Reported. Other results of the same work are not there yet.",
+    "done": "Valid: it agrees with other results of the same work, or needs none.",
+    "late": "No report came before the deadline.",
+}
+
+
+def words_of(row: dict[str, str], state: str) -> str:
+    """Returns the state of a result in words, and why it is not valid."""
+    if state != "failed":
+        return REASONS[state]
+    if row["validate_state"] == "2":
+        return "Invalid: enough other results of the same work agree, and this one differs."
+    if row["validate_state"] == "3":
+        return "Not compared: the work had failed before the report."
+    return "An error: the computer reported that the program failed, or that a file was lost."
+
+
+def read_results(text: str) -> list[Result]:
+    """Reads the latest results of a statement, the latest first. Its last line is the credit."""
+    try:
+        rows = deque(csv.DictReader(io.StringIO(text)), MOST_RESULTS + 1)
+        rows.pop()
+        states = [standing(row) for row in rows]
+        return [
+            Result(
+                row["result"],
+                row["app"],
+                row["sent"],
+                row["deadline"],
+                state,
+                words_of(row, state),
+                row["credit"],
+            )
+            for row, state in zip(reversed(rows), reversed(states))
+        ]
+    except (IndexError, KeyError, TypeError, csv.Error):
+        raise NoAnswer("the statement of a host can't be read") from None
 
 
 def read_statement(host: HeardHost, text: str) -> HostStatus:
@@ -143,20 +201,65 @@ class Statements:
         self._lock, self._accounts_lock = threading.Lock(), threading.Lock()
         self._kept: tuple[Status, float] | None = None  # with the moment until which it is shown
         self._accounts: OrderedDict[str, tuple[AccountStatus, float]] = OrderedDict()
+        self._results: OrderedDict[int, tuple[list[Result], float]] = OrderedDict()
+        self._results_lock = threading.Lock()
+        self._reads, self._reading = RecentCounts(MOST_READ, KEPT_SECONDS), Places(MOST_READING)
 
     def status(self) -> Status:
-        """Returns the status of the project. What was read a short time ago is shown again. While
-        somebody else reads, the older status is shown. If there is none, what replies said is shown.
+        """Returns the status of the project. What was read a short time ago is shown again. After that it is
+        shown once more, while a thread reads it anew. What is old is not shown: then the page waits. While
+        somebody else reads, and nothing was read before, what replies said is shown.
         """
-        kept = self._kept
+        kept, now = self._kept, time.monotonic()
+        if kept is not None and now <= kept[1]:
+            return kept[0]
         if not self._lock.acquire(blocking=False):
             return self._read(with_statements=False) if kept is None else kept[0]
+        if kept is not None and now <= kept[1] + OLD_SECONDS:
+            threading.Thread(target=self._read_anew, daemon=True).start()  # the lock allows one
+            return kept[0]
+        return self._read_anew()
+
+    def _read_anew(self) -> Status:
+        """Reads the status of the project, and gives up the lock of the reader."""
         try:
-            if self._kept is None or time.monotonic() > self._kept[1]:
-                self._kept = self._read(), time.monotonic() + KEPT_SECONDS
-            return self._kept[0]
+            status = self._read()
+            self._kept = status, time.monotonic() + KEPT_SECONDS
+            return status
         finally:
             self._lock.release()
+
+    def results_of(self, computer: Computer) -> list[Result] | None:
+        """Returns the latest results of a host. What was read a short time ago is shown again. None if bsched
+        gives no answer, or was asked by many pages just now, or without the operator's key.
+        """
+        with self._results_lock:
+            kept = self._results.get(computer.number)
+        if kept is not None and time.monotonic() <= kept[1]:
+            return kept[0]
+        if self.operator_key is None or self.scheduler.is_slow or not self._reads.take("results"):
+            return None
+        try:
+            with self._reading.taken():
+                results = self._read_results(computer, self.operator_key)
+        except (NoAnswer, NoPlace):
+            return None
+        with self._results_lock:
+            self._results[computer.number] = results, time.monotonic() + KEPT_SECONDS
+            self._results.move_to_end(computer.number)
+            if len(self._results) > MOST_KEPT_RESULTS:
+                self._results.popitem(last=False)
+        return results
+
+    def _read_results(self, computer: Computer, operator_key: str) -> list[Result]:
+        """Reads the results of a host. If its number is that of an earlier file, it has none in this one."""
+        number = computer.scheduler_hostid
+        if not self.scheduler.has_host(computer.authenticator, computer.host_cpid, number):
+            return []
+        statement = self.scheduler.statement(number, operator_key)
+        if statement is None:
+            raise NoAnswer("the statement is refused")
+        return read_results(statement)
 
     def of_account(self, authenticator: str) -> AccountStatus:
         """Returns the status of an account. What was read a short time ago is shown again."""
@@ -184,30 +287,20 @@ class Statements:
         shown = sum(one.credit for one in recent.hosts)
         others = self.archives.users[authenticator] - sum(self.archives.hosts[host.key] for host in heard)
         replied = heard[0].user_credit if heard else 0
-        average = None if self.recent.path is None else self._recent(authenticator)
+        average = None if self.recent.path is None else self.average_of(authenticator)
         return AccountStatus(recent, max(replied, shown + others), average)
 
     def _read(self, with_statements: bool = True) -> Status:
         """Reads the status of the project."""
-        names = self.members.names()
-        heard = [
-            replace(host, user_name=names.get(host.authenticator, "?"))
-            for host in self.hosts.heard(MOST_HOSTS)
-        ]
-        recent = self._hosts(heard) if with_statements else self._heard_only(heard)
-        ranking = [
-            (names.get(key, "?"), credit, self._recent(key)) for key, credit in self.hosts.user_credits()
-        ]
+        heard = self.hosts.heard(MOST_HOSTS)
         return Status(
-            recent,
-            self.hosts.count(),
-            sorted(ranking, key=lambda user: (-user[1], user[0])),
+            self._hosts(heard) if with_statements else self._heard_only(heard),
             read_unit_counts(self.unit_counts),
             self.scheduler.silent_since,
-            self.recent.path is not None,
+            self.members.shown(host.authenticator for host in heard),
         )
 
-    def _recent(self, authenticator: str) -> float:
+    def average_of(self, authenticator: str) -> float:
         """Returns the recent average credit of an account."""
         if self.recent.path is None:
             return 0.0

@@ -12,7 +12,7 @@ from werkzeug.wrappers import Request, Response
 
 from .http_messages import CSS, FOR_GOOD, HTML, NO_STORE, answer
 from .settings import Settings
-from .texts import credits_text, moment_text
+from .texts import bytes_text, credits_text, moment_text
 
 FOLDER = Path(__file__).with_name("templates")
 HASH_DIGITS = 16
@@ -69,7 +69,12 @@ class Templates:
             auto_reload=False,
         )
         self._environment.filters.update(
-            credits=credits_text, moment=moment_text, linked=linked, paragraphs=paragraphs, whole=whole
+            bytes=bytes_text,
+            credits=credits_text,
+            linked=linked,
+            moment=moment_text,
+            paragraphs=paragraphs,
+            whole=whole,
         )
         accounts = settings.accounts
         self._environment.globals.update(

@@ -15,6 +15,11 @@ def credits_text(millicredits: int) -> str:
     return f"{millicredits / MILLICREDITS:,.3f}"
 
 
+def bytes_text(number: int) -> str:
+    """Returns a number of bytes as text."""
+    return f"{number / 1e9:,.1f} GB"
+
+
 def moment_text(seconds: float) -> str:
     """Returns a moment as text, in UTC."""
     return datetime.fromtimestamp(seconds, timezone.utc).strftime("%Y-%m-%d %H:%M:%S")

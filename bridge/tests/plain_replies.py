@@ -76,6 +76,8 @@ class PlainReplies:
         """
         root = self._begun(reply.request_delay)
         add(root, "user_name", reply.user_name)
+        if reply.team_name is not None:
+            add(root, "team_name", reply.team_name)
         add(root, "user_total_credit", f"{reply.user_total_credit / MILLICREDITS:.3f}")
         add(root, "host_total_credit", f"{reply.host_total_credit / MILLICREDITS:.3f}")
         if recent is not None:

@@ -79,20 +79,24 @@ def cells(page: str, before: str, place: int) -> list[str]:
 def test_the_status_page(bridge: Bridge) -> None:
     bridge.call(request())
     page = bridge.got("/p/status")[2].decode()
-    assert '<td>Ann</td><td class="number">0.000</td>' in page
     # credit, out, waiting, done, late, failed
-    assert cells(page, "<td>Ann</td>", 2) == ["5.000", "1", "1", "1", "1", "1"]
+    assert cells(page, '<a href="/p/user/1">Ann</a>', 1) == ["5.000", "1", "1", "1", "1", "1"]
     bridge.call(request(key="bob-key", cpid="c2"))
-    assert "Bob" not in bridge.got("/p/status")[2].decode()  # the page is not read anew each time
+    page = bridge.got("/p/status")[2].decode()
+    assert "Bob" not in page  # the computers are not read anew each time
+    assert "Users with computers that called: 2." in page
 
 
 def test_users_of_one_name_are_two(bridge: Bridge) -> None:
     bridge.twin.service.imported("accounts", "second", "authenticator,name\nann-two,Ann\n")
     bridge.call(request())
     bridge.call(request(key="ann-two", cpid="c2"))
-    page = bridge.got("/p/status")[2].decode()
-    assert page.count('<td>Ann</td><td class="number">0.000</td>') == 2
-    assert "ann-two" not in page
+    page = bridge.got("/p/users")[2].decode()
+    for number in (1, 2):
+        assert page.count(f'<td><a href="/p/user/{number}">Ann</a></td><td class="number">0.000</td>') == 1
+    for path in ("users", "user/1", "user/2", "computers", "status", f"computer/{FIRST}", ""):
+        page = bridge.got(f"/p/{path}")[2].decode()
+        assert "ann-two" not in page and "ann-key" not in page and "c2" not in page, path
 
 
 def test_the_status_page_of_no_hosts(bridge: Bridge) -> None:
@@ -151,7 +155,8 @@ def test_a_name_of_any_characters(bridge: Bridge) -> None:
     bridge.twin.service.imported("accounts", "second", 'authenticator,name\ncid,"<C> &\x01\n\U0001f600"\n')
     reply = bridge.call(request(key="cid"))
     assert ElementTree.fromstring(reply).findtext("user_name") == "<C> &\ufffd\n\U0001f600"
-    assert "&lt;C&gt; &amp;" in bridge.got("/p/status")[2].decode()
+    for path in ("status", "users", "user/1", "computers", f"computer/{FIRST}", ""):
+        assert "&lt;C&gt; &amp;" in bridge.got(f"/p/{path}")[2].decode(), path
 
 
 @pytest.mark.parametrize(
@@ -259,17 +264,17 @@ TOO_MANY_FIELDS = "&".join(["page=1"] * 40)
 @pytest.mark.parametrize(
     "status, fields",
     [
-        ("200 OK", {"SCRIPT_NAME": "/p", "PATH_INFO": "/status"}),
-        ("200 OK", {"SCRIPT_NAME": "/p/sta", "PATH_INFO": "tus"}),
-        ("404 Not Found", {"SCRIPT_NAME": "/x", "PATH_INFO": "/p/status"}),
-        ("404 Not Found", {"SCRIPT_NAME": "/p/status", "PATH_INFO": "/p/status"}),
-        ("404 Not Found", {"PATH_INFO": "//p/status"}),
-        ("404 Not Found", {"PATH_INFO": "/p//status"}),
+        ("200 OK", {"SCRIPT_NAME": "/p", "PATH_INFO": "/users"}),
+        ("200 OK", {"SCRIPT_NAME": "/p/us", "PATH_INFO": "ers"}),
+        ("404 Not Found", {"SCRIPT_NAME": "/x", "PATH_INFO": "/p/users"}),
+        ("404 Not Found", {"SCRIPT_NAME": "/p/users", "PATH_INFO": "/p/users"}),
+        ("404 Not Found", {"PATH_INFO": "//p/users"}),
+        ("404 Not Found", {"PATH_INFO": "/p//users"}),
         ("404 Not Found", {"PATH_INFO": "/p"}),
-        ("404 Not Found", {"PATH_INFO": "/p/status/"}),
-        ("404 Not Found", {"PATH_INFO": "/p/../p/status"}),
+        ("404 Not Found", {"PATH_INFO": "/p/users/"}),
+        ("404 Not Found", {"PATH_INFO": "/p/../p/users"}),
         ("404 Not Found", {"PATH_INFO": "/p/\xff\xfe\x00"}),
-        ("404 Not Found", {"PATH_INFO": "/p/status|"}),
+        ("404 Not Found", {"PATH_INFO": "/p/users|"}),
         ("404 Not Found", {"PATH_INFO": "/p/" + "a/" * 50_000}),
         ("404 Not Found", {"PATH_INFO": ""}),
         ("200 OK", {"QUERY_STRING": "page=%ff%fe&\xff=\xfe&%&=&&"}),
@@ -289,7 +294,7 @@ def test_hostile_messages_have_the_status_that_they_had(
     bridge: Bridge, status: str, fields: dict[str, str]
 ) -> None:
     began = time.monotonic()
-    assert bridge.got("/p/status", **fields)[0] == status
+    assert bridge.got("/p/users", **fields)[0] == status
     assert time.monotonic() - began < 2
 
 

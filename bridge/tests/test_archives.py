@@ -108,12 +108,14 @@ def test_replies_and_the_page_have_the_credit(project: Path, bridge: Bridge) -> 
     reply = bridge.call(request(hostid=FIRST))
     assert (value(reply, "user_total_credit"), value(reply, "host_total_credit")) == ("6.500", "4.000")
     # the user's credit in the latest reply; the host's credit by its statement, which is 5.000 in the twin
-    assert shown(bridge, "status") == ["1", "6.500", str(FIRST), "9.000", *"11111", "all", "", *"11111"]
+    assert shown(bridge, "status") == [str(FIRST), "9.000", *"11111", "all", "", *"11111"]
+    assert shown(bridge, "users") == ["1", "6.500", "1"]
 
 
 def shown(bridge: Bridge, page: str) -> list[str]:
     """Returns the numbers in the tables of a page."""
-    return re.findall('<td class="number">([^<]*)</td>', bridge.got(f"/p/{page}")[2].decode())
+    text = bridge.got(f"/p/{page}")[2].decode()
+    return re.findall('<td class="number">(?:<a [^>]*>)?([^<]*)(?:</a>)?</td>', text)
 
 
 ANN = "account_finish.php?auth=ann-key"

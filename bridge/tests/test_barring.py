@@ -117,6 +117,7 @@ def test_who_agreed_to_be_named(project: Path, open_bridge: Bridge) -> None:
         "authenticator": key,
         "name": 'Zoë, "Z"',
         "is_deleted": False,
+        "is_agreed": True,
     }
 
 
@@ -197,7 +198,7 @@ def test_the_operator_deletes_an_account(project: Path, open_bridge: Bridge) -> 
     assert "was deleted" in refused(project, "unbar", key)
     assert "deleted" in done(project, "bar", key)
     output = json.loads(done(project, "consented", "--json"))
-    assert output == {"authenticator": key, "name": "deleted", "is_deleted": True}
+    assert output == {"authenticator": key, "name": "deleted", "is_deleted": True, "is_agreed": False}
     assert done(project, "consented") == "" and "0 users" not in done(project, "members")
 
 

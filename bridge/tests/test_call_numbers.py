@@ -10,6 +10,7 @@ import pytest
 
 from bsched_bridge.barring import Barred, Barring
 from bsched_bridge.call_numbers import (
+    AccountState,
     CallNumbers,
     ClientState,
     CountEnded,
@@ -17,6 +18,7 @@ from bsched_bridge.call_numbers import (
     KnownHost,
     TooManyHosts,
 )
+from bsched_bridge.credit_days import DAY, CreditDay, CreditDays, StoredDay
 from bsched_bridge.hosts import FIRST_KEY, MOST_NUMBER, Hosts, Key
 from bsched_bridge.scheduler import Job, Reply
 from bsched_bridge.state_file import StateFile
@@ -74,24 +76,92 @@ def test_an_answer_closes_a_call_and_keeps_jobs(numbers: CallNumbers) -> None:
     assert Hosts(numbers.file).heard(10)[0].user_name == "Ann"
 
 
-def test_the_state_of_a_key(numbers: CallNumbers) -> None:
-    assert numbers.state(KEY) == KeyState() == KeyState(None, "[]", 0, False, False, None)
+TODAY = 20_000
+
+
+@pytest.fixture
+def today(monkeypatch: pytest.MonkeyPatch) -> None:
+    """Lets it be this day."""
+    monkeypatch.setattr("time.time", lambda: TODAY * DAY + 10.0)
+
+
+def test_the_state_of_a_key(numbers: CallNumbers, today: None) -> None:
+    assert numbers.state(KEY) == KeyState()
     assert numbers.state(KEY).is_of_stranger
     numbers.open(KEY, lambda number: b"call")
     assert numbers.state(KEY) == KeyState(b"call", last_number=1)
     assert numbers.state(KEY).is_of_stranger
     numbers.record_answer(KEY, reply(), [JOB])
     state = numbers.state(KEY)
-    assert replace(state, jobs_text="[]") == KeyState(last_number=1, has_host=True, name="Ann")
+    ann = AccountState("Ann", None, 5, StoredDay(1, TODAY, 5))
+    assert replace(state, jobs_text="[]") == KeyState(last_number=1, has_host=True, account=ann)
     assert state.jobs_in_hand == [JOB] and not state.is_of_stranger
-    hostid = numbers.give_hostid(KEY)
-    known = numbers.of_number("ann-key", hostid or 0)
-    assert known == KnownHost(KEY, 0, None, replace(state, has_number=True))
-    assert not KeyState(has_number=True).is_of_stranger
+    hostid = numbers.give_hostid(KEY) or 0
+    day = StoredDay(hostid, TODAY, None)
+    assert numbers.of_number("ann-key", hostid) == KnownHost(KEY, 0, None, replace(state, day=day))
+    assert not KeyState(day=day).is_of_stranger
+    numbers.record_answer(KEY, reply(), [JOB])
+    day = replace(day, credit=5)
+    assert numbers.of_number("ann-key", hostid) == KnownHost(KEY, 0, None, replace(state, day=day))
     # another host of the account, and another account
-    assert numbers.state(Key("ann-key", "c2")) == KeyState(name="Ann")
-    assert not KeyState(name="Ann").is_of_stranger
-    assert numbers.of_number("bob-key", hostid or 0) is None
+    assert numbers.state(Key("ann-key", "c2")) == KeyState(account=ann)
+    assert not KeyState(account=ann).is_of_stranger
+    assert numbers.of_number("bob-key", hostid) is None
+
+
+def test_the_state_of_a_key_on_another_day(
+    numbers: CallNumbers, today: None, monkeypatch: pytest.MonkeyPatch
+) -> None:
+    """The row of yesterday is not that of today."""
+    numbers.open(KEY, lambda number: b"call")
+    numbers.record_answer(KEY, reply(), [])
+    monkeypatch.setattr("time.time", lambda: (TODAY + 1) * DAY + 10.0)
+    account = AccountState("Ann", None, 5, StoredDay(1, TODAY + 1, None))
+    assert numbers.state(KEY).account == numbers.state(Key("ann-key", "c2")).account == account
+
+
+def test_the_team_of_a_key(numbers: CallNumbers, today: None) -> None:
+    numbers.open(KEY, lambda number: b"call")
+    numbers.record_answer(KEY, reply(), [])
+    with numbers.file.transaction() as connection:
+        connection.execute("INSERT INTO team (name, folded, founder, created_at) VALUES ('A', 'a', 1, 0)")
+        connection.execute("UPDATE member SET team = 1")
+    for key in (KEY, Key("ann-key", "c2")):
+        account = numbers.state(key).account
+        assert account is not None and account.team == "A"
+
+
+def test_credit_of_a_state_that_was_read_on_the_day_before(
+    numbers: CallNumbers, today: None, monkeypatch: pytest.MonkeyPatch
+) -> None:
+    """The call begins before midnight, and its answer comes after it."""
+    numbers.open(KEY, lambda number: b"call")
+    numbers.record_answer(KEY, reply(), [])
+    hostid = numbers.give_hostid(KEY) or 0
+    numbers.record_answer(KEY, reply(), [])
+    state = numbers.state(KEY)
+    monkeypatch.setattr("time.time", lambda: (TODAY + 1) * DAY + 0.0)
+    numbers.record_answer(KEY, reply(), [], state)
+    kept, days = CreditDays(numbers.file), [CreditDay(TODAY, 5), CreditDay(TODAY + 1, 5)]
+    assert kept.of_host(hostid) == kept.of_member(1) == days
+
+
+def test_what_a_computer_says_of_itself_stays_if_a_call_is_sent_again(numbers: CallNumbers) -> None:
+    numbers.open(KEY, lambda number: b"call")
+    numbers.record_answer(KEY, reply(), [], about="{}")
+    numbers.record_answer(KEY, reply(), [])
+    assert numbers.file.row("SELECT about FROM host") == ("{}",)
+    numbers.record_answer(KEY, reply(), [], about='{"processors":2}')
+    assert numbers.file.row("SELECT about FROM host") == ('{"processors":2}',)
+
+
+def test_an_answer_after_the_deletion_of_its_account_inserts_nothing(numbers: CallNumbers) -> None:
+    numbers.open(KEY, lambda number: b"call")
+    state = numbers.state(KEY)
+    Barring(numbers.file).delete("ann-key", 1000)
+    numbers.record_answer(KEY, reply(), [], state, "{}")
+    for table in ("host", "member", "member_day"):
+        assert numbers.file.row(f"SELECT count(*) FROM {table}") == (0,)
 
 
 def test_a_barred_account_of_a_known_host(numbers: CallNumbers) -> None:
@@ -154,9 +224,11 @@ def test_the_last_number_of_a_state_that_was_seen(numbers: CallNumbers) -> None:
 
 def test_an_account_that_the_bridge_has_is_not_inserted(numbers: CallNumbers) -> None:
     numbers.open(KEY, lambda number: b"call")
-    numbers.record_answer(KEY, reply(), [], has_account=True)
+    account = AccountState("Ann", None, 5, StoredDay(1, int(time.time()) // DAY, 5))
+    numbers.record_answer(KEY, reply(), [], KeyState(account=account))
     assert numbers.file.row("SELECT count(*) FROM member") == (0,)
-    numbers.record_answer(KEY, reply(), [])
+    numbers.record_answer(KEY, reply(), [], KeyState())
+    numbers.record_answer(KEY, reply(), [], KeyState())  # another host's first reply was recorded meanwhile
     numbers.record_answer(KEY, reply(), [])
     assert numbers.file.rows("SELECT authenticator, name FROM member") == [("ann-key", "Ann")]
 

@@ -101,6 +101,7 @@ REPLIES = st.builds(
     result_abort=st.lists(TEXTS, max_size=3),
     results=st.lists(JOBS, max_size=5),
     rpc_seqno=NUMBERS,
+    team_name=st.none() | TEXTS,
 )
 REQUESTS = [
     read_request([text.encode()])

@@ -299,7 +299,7 @@ def test_the_operators_own_words(project: Path, bridge: Bridge) -> None:
     bridge.restart()
     page = page_of(bridge.got("/p/"))
     assert "We add <numbers>." in page.text and "account key" in page.text
-    assert (page.header, page.links) == (["", "status"], [])
+    assert (page.header, page.links) == (["", "status", "users", "computers"], [])
     lines = bridge.got("/p/")[2].decode().split("\n")
     assert "<scheduler>http://127.0.0.1:8081/p/cgi</scheduler>" in lines
     assert '<link rel="boinc_scheduler" href="http://127.0.0.1:8081/p/cgi">' in lines
@@ -309,7 +309,7 @@ def test_how_to_join(project: Path, open_bridge: Bridge) -> None:
     page = page_of(open_bridge.got("/p/"))
     assert "No, new user" in page.text and "http://127.0.0.1:8081/p/" in page.text
     assert page.links == ["https://boinc.berkeley.edu/download.php"]
-    assert page.header == ["", "status", "account"]
+    assert page.header == ["", "status", "users", "computers", "teams", "account"]
     (project / "terms.txt").write_text("Be kind.\n")
     with (project / "bridge.toml").open("a") as file:
         file.write('terms = "terms.txt"\n')
@@ -389,8 +389,8 @@ def test_a_name_and_consent_are_changed(open_bridge: Bridge) -> None:
     assert (member.name, member.is_exported) == ("Ann <A>", True)
     reply = open_bridge.call(request(key=key, cpid="c1")).decode()
     assert "<user_name>Ann &lt;A&gt;</user_name>" in reply
-    shown = open_bridge.got("/p/status")[2].decode()
-    assert shown.count("<td>Ann &lt;A&gt;</td>") == 2  # once for the user, once for the host
+    for path in ("status", "users", "computers"):
+        assert open_bridge.got(f"/p/{path}")[2].decode().count(">Ann &lt;A&gt;</a></td>") == 1
     posted(open_bridge, "account_finish.php", key=key, name="Ann")
     assert open_bridge.members.of_key(key).is_exported is False
 
@@ -499,40 +499,6 @@ def test_what_is_no_form(open_bridge: Bridge) -> None:
 
 
 # ---- The status page
-
-
-def test_a_ranking_of_all_users(open_bridge: Bridge, twin: Twin) -> None:
-    twin.service.imported(
-        "accounts", "many", "authenticator,name\n" + "".join(f"k{n},User {n:03}\n" for n in range(130))
-    )
-    with open_bridge.file.transaction() as connection:
-        for number in range(130):
-            connection.execute(
-                "INSERT INTO host (authenticator, host_cpid, scheduler_hostid, last_number, user_name, "
-                "user_credit, "
-                "host_credit, heard_at) "
-                "VALUES (?, 'c', ?, 1, ?, ?, 0, ?)",
-                (f"k{number}", number + 1, f"User {number:03}", number * 1000, number),
-            )
-            connection.execute(
-                "INSERT INTO member (authenticator, name, is_imported, cpid, created_at) VALUES (?, ?, 1, "
-                "'c', 0)",
-                (f"k{number}", f"User {number:03}"),
-            )
-    page = page_of(open_bridge.got("/p/status"))
-    assert (
-        "Users with computers that called: 130." in page.text
-        and "Computers that called: 130. The last 50 of them:" in page.text
-    )
-    assert "User 129" in page.text and "User 030" in page.text and "User 029" not in page.text
-    assert page.links == ["status?page=2"]
-    page = page_of(open_bridge.got("/p/status?page=2"))
-    assert "User 029" in page.text and "101User 029" in page.text and page.links == ["status?page=1"]
-    for text in ("0", "-1", "x", "99999999", "", "٣", "3"):
-        assert page_of(open_bridge.got(f"/p/status?page={text}")).links in (
-            ["status?page=1"],
-            ["status?page=2"],
-        )
 
 
 def test_a_scheduler_that_is_silent(open_bridge: Bridge, twin: Twin) -> None:

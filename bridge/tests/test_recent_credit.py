@@ -68,13 +68,13 @@ def test_replies_and_pages_have_it(project: Path, bridge: Bridge) -> None:
         "10.000000",
         "8.000000",
     )
-    text = bridge.got("/p/status")[2].decode()
+    text = bridge.got("/p/users")[2].decode()
     assert "recent average credit" in text and ">10.00<" in text
 
 
 def test_without_a_file_nothing_is_said(bridge: Bridge) -> None:
     assert value(bridge.call(request()), "user_expavg_credit") is None
-    assert "recent average" not in bridge.got("/p/status")[2].decode()
+    assert "recent average" not in bridge.got("/p/users")[2].decode()
 
 
 def test_a_page_that_does_not_exist(bridge: Bridge) -> None:

@@ -7,6 +7,8 @@ from pathlib import Path
 import pytest
 
 from bsched_bridge.call_numbers import CallNumbers
+from bsched_bridge.descriptions import Description
+from bsched_bridge.directory import Directory
 from bsched_bridge.hosts import Hosts, Key
 from bsched_bridge.members import Members
 from bsched_bridge.state_file import SCHEMA_VERSION, StateFault, StateFile
@@ -47,6 +49,73 @@ CREATE INDEX member_created ON member (created_at) WHERE batch IS NOT NULL;
 INSERT INTO member (authenticator, name, is_imported, cpid, created_at)
   VALUES ('ann-key', 'Ann', 1, 'x', 100);
 PRAGMA user_version = 2;
+"""
+# the tables of version 4, as a bridge of 2026-11-28 made them
+VERSION_4 = """
+CREATE TABLE host (
+  -- the key; the host_cpid is the one with which the host was made
+  authenticator TEXT NOT NULL, host_cpid TEXT NOT NULL,
+  hostid INTEGER,             -- the bridge's number of the host, once a client was told it
+  -- the client's rpc_seqno in its last request with that number; NULL before the first one
+  client_seqno INTEGER,
+  copy_of INTEGER,            -- the hostid of the computer that the host is a copy of
+  has_former_number INTEGER NOT NULL DEFAULT 0,  -- 1: a former version told a number, which is not known
+  scheduler_hostid INTEGER,   -- bsched's number of the host in its tables, by the last reply
+  last_number INTEGER NOT NULL,  -- the rpc_seqno of the last call
+  open_call BLOB,             -- its bytes, where no answer came yet
+  jobs_in_hand TEXT NOT NULL DEFAULT '[]',  -- those that the client may lack, as JSON, as replies have them
+  -- as the last reply told them, and when
+  user_name TEXT, user_credit INTEGER, host_credit INTEGER, heard_at INTEGER,
+  PRIMARY KEY (authenticator, host_cpid)
+) STRICT;
+CREATE UNIQUE INDEX host_by_number ON host (hostid);
+CREATE UNIQUE INDEX host_by_scheduler_number ON host (authenticator, scheduler_hostid);
+CREATE INDEX host_of_copy ON host (authenticator, copy_of) WHERE copy_of IS NOT NULL;
+CREATE INDEX host_with_open_call ON host (authenticator, host_cpid) WHERE open_call IS NOT NULL;
+CREATE INDEX host_of_stranger ON host (authenticator)
+  WHERE open_call IS NOT NULL AND scheduler_hostid IS NULL AND hostid IS NULL;
+CREATE INDEX host_heard ON host (heard_at) WHERE scheduler_hostid IS NOT NULL;
+
+CREATE TABLE numbers (last_hostid INTEGER NOT NULL) STRICT;
+INSERT INTO numbers (last_hostid) VALUES (100000);
+
+CREATE TABLE member (
+  id INTEGER PRIMARY KEY AUTOINCREMENT,  -- the user's number for statistics sites
+  authenticator TEXT NOT NULL UNIQUE,
+  email TEXT UNIQUE, salt BLOB, secret BLOB, cost TEXT,  -- NULL for an operator's account without a password
+  name TEXT NOT NULL,
+  batch TEXT UNIQUE,          -- the name of the import that makes the account; NULL for an operator's account
+  is_imported INTEGER NOT NULL,  -- 0 until bsched answered that import
+  cpid TEXT NOT NULL,         -- a random text, by which statistics sites know a user of several projects
+  consent_at INTEGER,         -- when the user agreed to the terms
+  is_exported INTEGER NOT NULL DEFAULT 0,  -- whether the user agreed to be shown by statistics sites
+  created_at INTEGER NOT NULL
+) STRICT;
+CREATE INDEX member_open ON member (id) WHERE is_imported = 0;
+CREATE INDEX member_created ON member (created_at) WHERE batch IS NOT NULL;
+
+CREATE TABLE barred (            -- accounts whose computers are refused
+  authenticator TEXT PRIMARY KEY, barred_at INTEGER NOT NULL,
+  is_deleted INTEGER NOT NULL    -- 1 if the account was deleted, 0 if the operator barred it
+) STRICT, WITHOUT ROWID;
+-- a message that was in work when its account was deleted writes nothing of what was forgotten
+CREATE TRIGGER host_of_deleted BEFORE INSERT ON host
+  WHEN EXISTS (SELECT 1 FROM barred WHERE authenticator = NEW.authenticator AND is_deleted = 1)
+  BEGIN SELECT RAISE(IGNORE); END;
+CREATE TRIGGER member_of_deleted BEFORE UPDATE ON member
+  WHEN EXISTS (SELECT 1 FROM barred WHERE authenticator = NEW.authenticator AND is_deleted = 1)
+  BEGIN SELECT RAISE(IGNORE); END;
+PRAGMA application_id = 1651729250;
+PRAGMA user_version = 4;
+INSERT INTO member (authenticator, name, is_imported, cpid, created_at, is_exported)
+  VALUES ('ann-key', 'Ann', 1, 'x', 100, 1), ('bob-key', 'Bob', 1, 'y', 100, 0),
+    ('new-key', 'New', 1, 'z', 100, 0);
+INSERT INTO host (authenticator, host_cpid, hostid, client_seqno, scheduler_hostid, last_number, user_name,
+    user_credit, host_credit, heard_at)
+  VALUES ('ann-key', 'c1', 100001, 3, 1, 7, 'Ann', 5000, 4000, 300),
+    ('ann-key', 'c2', 100002, 0, 2, 9, 'Ann', 6000, 2000, 400),
+    ('bob-key', 'c3', 100003, 0, 3, 1, 'Bob', 0, 0, 100),
+    ('new-key', 'c4', NULL, NULL, NULL, 1, NULL, NULL, NULL, NULL);
 """
 ROWS = [
     ("ann-key", "c1", 1, 7, None, "Ann", 5000, 5000, 200),
@@ -149,7 +218,7 @@ def test_a_newer_file_is_refused_and_not_changed(tmp_path: Path) -> None:
     with pytest.raises(StateFault) as raised:
         StateFile(path)
     assert str(raised.value) == (
-        f"{path}: a newer bridge wrote this file (format 5, and this bridge knows 4): run that bridge"
+        f"{path}: a newer bridge wrote this file (format 7, and this bridge knows 6): run that bridge"
     )
     assert contents(path) == before
 
@@ -190,7 +259,7 @@ def test_a_file_of_version_1_gets_accounts(tmp_path: Path) -> None:
     kept = contents(path)
     StateFile(path).close()  # no upgrade is needed
     assert contents(path) == kept
-    assert kept[1] == 4
+    assert kept[1] == 6
 
 
 @pytest.mark.parametrize("version", [1, 2])
@@ -213,10 +282,57 @@ def test_an_upgrade_that_is_stopped_changes_nothing(
 def test_a_new_file_and_an_upgraded_one_have_the_same_tables(tmp_path: Path) -> None:
     old_file(tmp_path / "1.db")
     old_file(tmp_path / "2.db", 2)
+    file_of_version_4(tmp_path / "4.db")
     shapes = []
-    for name in ("1.db", "2.db", "new.db"):
+    for name in ("1.db", "2.db", "4.db", "new.db"):
         file = StateFile(tmp_path / name)
         kept = file.rows("SELECT type, name FROM sqlite_schema WHERE name NOT LIKE 'sqlite_%' ORDER BY name")
         shapes.append([(kind, table, file.rows(f"PRAGMA table_xinfo({table})")) for kind, table in kept])
         file.close()
-    assert shapes[0] == shapes[1] == shapes[2] and len(shapes[0]) == 14
+    assert shapes[0] == shapes[1] == shapes[2] == shapes[3] and len(shapes[0]) == 20
+
+
+def file_of_version_4(path: Path) -> None:
+    """Makes a state file of version 4."""
+    connection = sqlite3.connect(path)
+    connection.executescript(VERSION_4)
+    connection.close()
+
+
+def test_a_file_of_version_4_gets_what_pages_show(tmp_path: Path) -> None:
+    path = tmp_path / "state.db"
+    file_of_version_4(path)
+    file = StateFile(path)
+    people = Directory(file)
+    # the credit of the latest reply
+    assert [(user.name, user.credit, user.computers) for user in people.users(0, 9)] == [
+        ("Ann", 6000, 2),
+        ("Bob", 0, 1),
+    ]
+    assert [computer.number for computer in people.computers(0, 9)] == [100_001, 100_002, 100_003]
+    computer, ann = people.computer(100_001), Members(file).of_key("ann-key")
+    known = CallNumbers(file).of_number("ann-key", 100_001)
+    assert computer is not None and ann is not None and known is not None
+    assert computer.about == Description()
+    assert (ann.is_exported, ann.is_anonymous, ann.shown_name) == (True, False, "Ann")
+    assert known.client_seqno == 3
+    file.close()
+    kept = contents(path)
+    StateFile(path).close()
+    assert contents(path) == kept
+
+
+def test_a_stopped_upgrade_of_version_4_changes_nothing(
+    tmp_path: Path, monkeypatch: pytest.MonkeyPatch
+) -> None:
+    path = tmp_path / "state.db"
+    file_of_version_4(path)
+    before = contents(path)
+    from bsched_bridge import state_file
+
+    statements = [part for part in state_file.UPGRADES[4].split(";\n") if part.strip()]
+    for count in range(len(statements) + 1):
+        monkeypatch.setitem(state_file.UPGRADES, 4, ";\n".join([*statements[:count], "SELECT stop()"]))
+        with pytest.raises(StateFault):
+            StateFile(path)
+        assert contents(path) == before

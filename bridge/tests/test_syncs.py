@@ -1,6 +1,7 @@
 """What must outlive a power failure is synced before somebody else learns of it."""
 import json
 from collections.abc import Callable
+from itertools import groupby
 from typing import Any
 
 import pytest
@@ -83,14 +84,37 @@ def test_a_usual_call_takes_two_transactions(bridge: Bridge, events: Callable[..
     bridge.call(request(hostid=FIRST, listed=["u1_0"], seconds=0))
     seen = events(bridge)
     bridge.call(request(hostid=FIRST, listed=[], reports=[("u1_0", "42")]))
-    statements = [one.split()[0] for one in seen if not one.startswith("PRAGMA")]
-    assert statements == [
-        "SELECT",
-        "BEGIN",
-        "UPDATE",
-        "COMMIT",
-        "SEND",
-        "BEGIN",
-        "UPDATE",
-        "COMMIT",
-    ]
+    assert kinds(seen) == [*CALL, "BEGIN", "UPDATE", "COMMIT"]
+
+
+def kinds(seen: list[str]) -> list[str]:
+    """Returns what each statement does, and when the call is sent. SQLite traces one with a trigger twice."""
+    statements = [one for one, _ in groupby(seen) if not one.startswith("PRAGMA")]
+    return [one.split()[0] for one in statements]
+
+
+CALL = ["SELECT", "BEGIN", "UPDATE", "COMMIT", "SEND"]
+
+
+def test_another_credit_takes_three_statements(bridge: Bridge, events: Callable[..., Any]) -> None:
+    """One is for the account, and one each for the days of the host and the account."""
+    bridge.call(request())
+    bridge.call(request(hostid=FIRST))
+    with bridge.file.transaction() as connection:
+        for table in ("member", "member_day", "host_day"):
+            connection.execute(f"UPDATE {table} SET credit = 1")
+    seen = events(bridge)
+    bridge.call(request(hostid=FIRST))
+    assert kinds(seen) == [*CALL, "BEGIN", "UPDATE", "UPDATE", "INSERT", "INSERT", "COMMIT"]
+    assert bridge.file.row("SELECT count(*) FROM member_day WHERE credit = 1") == (0,)
+
+
+def test_the_first_call_of_a_day_forgets_days(bridge: Bridge, events: Callable[..., Any]) -> None:
+    bridge.call(request())
+    bridge.call(request(hostid=FIRST))
+    with bridge.file.transaction() as connection:
+        for table in ("member_day", "host_day"):
+            connection.execute(f"UPDATE {table} SET day = day - 1")
+    seen = events(bridge)
+    bridge.call(request(hostid=FIRST))
+    assert kinds(seen) == [*CALL, "BEGIN", "UPDATE", *["INSERT", "DELETE"] * 2, "COMMIT"]

@@ -16,7 +16,8 @@ class Volunteers:
     """What volunteers chose."""
 
     agreed: frozenset[str] = frozenset()  # the authenticators of those who agreed to be named
-    names: dict[str, str] = field(default_factory=dict)  # by authenticator; those of deleted accounts, too
+    # by authenticator; those of deleted accounts and of anonymous users, too
+    names: dict[str, str] = field(default_factory=dict)
 
 
 def command_of_bridge() -> list[str]:
@@ -48,6 +49,6 @@ def volunteers_of(project: Project) -> Volunteers:
     output = ask_bridge(["consented", "--config", str(project.bridge_file), "--json"])
     rows = [json.loads(line) for line in output.splitlines()]
     return Volunteers(
-        frozenset(row["authenticator"] for row in rows if not row["is_deleted"]),
+        frozenset(row["authenticator"] for row in rows if row["is_agreed"]),
         {row["authenticator"]: row["name"] for row in rows},
     )

@@ -249,7 +249,7 @@ def test_names_that_volunteers_chose(project: MadeProject, tmp_path: Path) -> No
     members = Members(file)
     for user in (1, 2, 3):
         with file.transaction() as connection:
-            first_heard(connection, f"k{user}", f"User {user}", 1000)
+            first_heard(connection, f"k{user}", f"User {user}", 1000, 0)
         member = members.of_key(f"k{user}")
         assert member is not None
         members.change(member, f"Chosen {user}", user == 1)
@@ -271,6 +271,16 @@ def test_names_that_volunteers_chose(project: MadeProject, tmp_path: Path) -> No
     assert project.tools("report")[0] == 0
     page = (tmp_path / "report" / "index.html").read_text()
     assert "<h1>Sums &amp; more: status</h1>" in page and "Chosen 2" not in page
+    # who is anonymous is called so, with and without an agreement
+    for user in (1, 2):
+        member = members.of_key(f"k{user}")
+        assert member is not None
+        members.change(member, f"Chosen {user}", user == 1, True)
+    rows = [line.split(",")[-2] for line in project.tools("results")[1].splitlines()[1:]]
+    assert rows == ["anonymous", "anonymous"]
+    assert "4 users, 1 of them named, and 3 computers" in project.tools("statistics")[1]
+    users = gzip.decompress((tmp_path / "stats" / "user.gz").read_bytes()).decode()
+    assert "<name>anonymous</name>" in users and "Chosen" not in users
     file.close()
 
 

@@ -1,0 +1,46 @@
+"""The pages of teams, which everybody can see: a list by credit, and one page for each."""
+from werkzeug.wrappers import Request, Response
+
+from .directory import MOST_SEARCH, Directory, User
+from .http_messages import query_of
+from .page_numbers import PageOf, page_of
+from .teams import Team, Teams
+from .templates import Templates
+
+ON_A_PAGE = 100
+
+
+class TeamPages:
+    """Answers people who ask about teams."""
+
+    def __init__(self, templates: Templates, teams: Teams, directory: Directory) -> None:
+        self.templates, self.teams, self.directory = templates, teams, directory
+
+    def list(self, message: Request) -> Response:
+        """Lists the teams, those with the most credit first."""
+        name = query_of(message).get("name", "").strip()[:MOST_SEARCH]
+        page: PageOf[Team] = page_of(
+            message,
+            self.teams.count(name),
+            ON_A_PAGE,
+            lambda first, most: self.teams.teams(first, most, name),
+        )
+        return self.templates.page("teams.html", page=page, name=name)
+
+    def team(self, message: Request, number: int) -> Response:
+        """Returns the page of a team."""
+        team = self.teams.team(number)
+        if team is None:
+            return self.templates.page("not_found.html", http_status=404)
+        known = team
+        page: PageOf[User] = page_of(
+            message, team.members, ON_A_PAGE, lambda first, most: self.teams.members(known, first, most)
+        )
+        return self.templates.page(
+            "team.html",
+            team=team,
+            place=self.teams.place(team),
+            of=self.teams.count(),
+            page=page,
+            founder=self.directory.user(team.founder),
+        )

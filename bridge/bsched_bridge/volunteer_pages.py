@@ -1,0 +1,103 @@
+"""The pages of users and computers, which everybody can see: lists by credit, and one page for each."""
+from werkzeug.wrappers import Request, Response
+
+from .charts import chart_of
+from .credit_days import CreditDays
+from .directory import MOST_SEARCH, Computer, Directory, User
+from .http_messages import query_of
+from .page_numbers import PageOf, page_of
+from .settings import Settings
+from .statements import Statements
+from .teams import Teams
+from .templates import Templates
+from .texts import RESULT_WORDS
+
+ON_A_PAGE = 100
+RESULTS_ON_A_PAGE = 50
+MOST_COMPUTERS = 50  # on the page of a user
+
+
+class VolunteerPages:
+    """Answers people who ask about users and computers."""
+
+    def __init__(
+        self,
+        settings: Settings,
+        templates: Templates,
+        directory: Directory,
+        days: CreditDays,
+        statements: Statements,
+        teams: Teams,
+    ) -> None:
+        self.templates, self.directory, self.days, self.statements = templates, directory, days, statements
+        self.teams = teams
+        self._has_average = settings.averages is not None
+
+    def _search(self, message: Request) -> str:
+        """Returns the name that is searched for; empty if none is."""
+        return query_of(message).get("name", "").strip()[:MOST_SEARCH]
+
+    def users(self, message: Request) -> Response:
+        """Lists the users, those with the most credit first."""
+        name = self._search(message)
+        page: PageOf[User] = page_of(
+            message,
+            self.directory.count_users(name),
+            ON_A_PAGE,
+            lambda first, most: self.directory.users(first, most, name),
+        )
+        averages = [self.average_of(user) for user in page.rows] if self._has_average else []
+        return self.templates.page("users.html", page=page, name=name, averages=averages)
+
+    def computers(self, message: Request) -> Response:
+        """Lists the computers, those with the most credit first."""
+        name = self._search(message)
+        page: PageOf[Computer] = page_of(
+            message,
+            self.directory.count_computers(name),
+            ON_A_PAGE,
+            lambda first, most: self.directory.computers(first, most, name),
+        )
+        return self.templates.page("computers.html", page=page, name=name)
+
+    def average_of(self, user: User) -> float | None:
+        """Returns the recent average credit of a user, if the operator has it computed."""
+        return self.statements.average_of(user.authenticator) if self._has_average else None
+
+    def user(self, _message: Request, number: int) -> Response:
+        """Returns the page of a user."""
+        user = self.directory.user(number)
+        if user is None:
+            return self.templates.page("not_found.html", http_status=404)
+        return self.templates.page(
+            "user.html",
+            user=user,
+            place=self.directory.place(user),
+            of=self.directory.count_users(),
+            average=self.average_of(user),
+            team=self.teams.team(user.team),
+            chart=chart_of(self.days.of_member(number)),
+            computers=self.directory.computers_of(user, MOST_COMPUTERS),
+        )
+
+    def computer(self, message: Request, number: int) -> Response:
+        """Returns the page of a computer."""
+        computer = self.directory.computer(number)
+        if computer is None:
+            return self.templates.page("not_found.html", http_status=404)
+        page, results = None, self.statements.results_of(computer)
+        if results is not None:
+            kept = results
+            page = page_of(
+                message,
+                len(results),
+                RESULTS_ON_A_PAGE,
+                lambda first, most: kept[first : first + most],
+            )
+        return self.templates.page(
+            "computer.html",
+            computer=computer,
+            page=page,
+            chart=chart_of(self.days.of_host(number)),
+            result_words=RESULT_WORDS,
+        )
