@@ -64,8 +64,9 @@ def add_message(parent: Element, text: str, priority: str) -> None:
 def written(root: Element) -> bytes:
     """Returns the text of an element."""
     indent(root, "    ")
-    text: bytes = tostring(root, encoding="utf-8", xml_declaration=False, short_empty_elements=False)
-    return text + b"\n"
+    # as a str: the encoder of ElementTree takes longer than all else
+    text: str = tostring(root, encoding="unicode", short_empty_elements=False)
+    return f"{text}\n".encode()
 
 
 class ReplyWriter:

@@ -12,8 +12,7 @@ from xml.etree.ElementTree import Element, ParseError, TreeBuilder
 from defusedxml import DefusedXmlException  # type: ignore[import]
 from defusedxml.ElementTree import DefusedXMLParser  # type: ignore[import]
 
-from .descriptions import MOST_COPROCS as SHOWN_COPROCS
-from .descriptions import Description, client_text, one_line, processor_text
+from .descriptions import described
 from .request_parts import MOST_OUTPUT, Parts, RequestFault
 from .words import cut_to_bytes, is_word
 
@@ -199,24 +198,6 @@ def coprocs_of(root: Element) -> tuple[Coproc, ...]:
     return tuple(found)
 
 
-def about_of(root: Element, coprocs: tuple[Coproc, ...]) -> str:
-    """Returns what a computer says of itself, as the state file has it."""
-
-    def text(path: str) -> str:
-        return text_of(root, path) or ""
-
-    return Description(
-        processor=processor_text(text),
-        processors=whole_of(root, "host_info/p_ncpus", 0, 10_000, 0),
-        system=one_line(f"{text('host_info/os_name')} {text('host_info/os_version')}"),
-        client=client_text(text),
-        memory=whole_of(root, "host_info/m_nbytes", 0, MOST_NUMBER, 0),
-        disk=whole_of(root, "host_info/d_free", 0, MOST_NUMBER, 0),
-        speed=whole_of(root, "host_info/p_fpops", 0, MOST_NUMBER, 0),
-        coprocessors=[one_line(f"{one.count} × {one.type}") for one in coprocs[:SHOWN_COPROCS]],
-    ).written()
-
-
 # ---- The request
 
 
@@ -275,14 +256,19 @@ def read_request(blocks: Iterable[bytes]) -> ClientRequest:
     platforms = (text_of(item, "name") for item in root.findall("alt_platform"))
     coprocs = coprocs_of(root)
     alternatives = (name for name in platforms if name is not None and is_word(name))
+    p_ncpus = whole_of(root, "host_info/p_ncpus", 1, 10_000, 1)
+    p_fpops = whole_of(root, "host_info/p_fpops", 1, MOST_NUMBER, 1)
+    m_nbytes = whole_of(root, "host_info/m_nbytes", 0, MOST_NUMBER, 0)
+    d_free = whole_of(root, "host_info/d_free", 0, MOST_NUMBER, 0)
+    shown = [f"{one.count} × {one.type}" for one in coprocs]
     return ClientRequest(
         authenticator=word_of(root, "authenticator"),
         hostid=whole_of(root, "hostid", 0, 2**31 - 1, 0),
         rpc_seqno=whole_of(root, "rpc_seqno", 0, 2**31 - 1, 0),
         host_cpid=word_of(root, "host_info/host_cpid"),
-        p_fpops=whole_of(root, "host_info/p_fpops", 1, MOST_NUMBER, 1),
-        m_nbytes=whole_of(root, "host_info/m_nbytes", 0, MOST_NUMBER, 0),
-        d_free=whole_of(root, "host_info/d_free", 0, MOST_NUMBER, 0),
+        p_fpops=p_fpops,
+        m_nbytes=m_nbytes,
+        d_free=d_free,
         platform_name=word_of(root, "platform_name"),
         alt_platforms=tuple(alternatives)[:MOST_PLATFORMS],
         work_req_seconds=seconds,
@@ -290,8 +276,8 @@ def read_request(blocks: Iterable[bytes]) -> ClientRequest:
         results=tuple(filter(None, map(report_of, root.findall("result")))),
         code_sign_key="".join((text_of(root, "code_sign_key") or "").split()),
         has_messages=parts.has_messages,
-        p_ncpus=whole_of(root, "host_info/p_ncpus", 1, 10_000, 1),
+        p_ncpus=p_ncpus,
         cpu_req_secs=whole_of(root, "cpu_req_secs", 0, MOST_SECONDS, seconds, up=True),
         coprocs=coprocs,
-        about=about_of(root, coprocs),
+        about=described(root, p_ncpus, m_nbytes, d_free, p_fpops, shown),
     )

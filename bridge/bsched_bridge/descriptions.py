@@ -1,16 +1,22 @@
 """What a computer says of itself in a request, for people. Its name and its addresses are not kept."""
 import json
-from collections.abc import Callable
-from dataclasses import asdict, dataclass, field
+from collections.abc import Sequence
+from dataclasses import dataclass, field, fields
+from xml.etree.ElementTree import Element
 
 MOST_TEXT = 80  # characters of each text
 MOST_COPROCS = 4
+VERSION = ("core_client_major_version", "core_client_minor_version", "core_client_release")
+
+_written = json.JSONEncoder(ensure_ascii=False, separators=(",", ":")).encode
 
 
 def one_line(text: str) -> str:
     """Returns a text on one line, without what can't be seen, and not longer than it may be."""
-    seen = "".join(one if one.isprintable() else " " for one in text[: 4 * MOST_TEXT])
-    return " ".join(seen.split())[:MOST_TEXT].rstrip()
+    front = text[: 4 * MOST_TEXT]
+    if not front.isprintable():
+        front = "".join(one if one.isprintable() else " " for one in front)
+    return " ".join(front.split())[:MOST_TEXT].rstrip()
 
 
 @dataclass(frozen=True, slots=True)
@@ -28,8 +34,10 @@ class Description:
 
     def written(self) -> str:
         """Returns it as JSON, for the state file. What is not known is left out."""
-        known = {name: value for name, value in asdict(self).items() if value}
-        return json.dumps(known, ensure_ascii=False, separators=(",", ":"))
+        return _written({name: value for name in NAMES if (value := getattr(self, name))})
+
+
+NAMES = tuple(one.name for one in fields(Description))
 
 
 def read_description(text: str | None) -> Description:
@@ -37,15 +45,22 @@ def read_description(text: str | None) -> Description:
     return Description(**json.loads(text)) if text else Description()
 
 
-def processor_text(text_of: Callable[[str], str]) -> str:
-    """Returns the processor that a request describes. Some models begin with their vendor."""
-    vendor, model = one_line(text_of("host_info/p_vendor")), one_line(text_of("host_info/p_model"))
-    return model if model.lower().startswith(vendor.lower()) else one_line(f"{vendor} {model}")
-
-
-def client_text(text_of: Callable[[str], str]) -> str:
-    """Returns the version of the client, such as 7.20.5."""
-    parts = [
-        one_line(text_of(f"core_client_{part}")) for part in ("major_version", "minor_version", "release")
-    ]
-    return one_line(".".join(part for part in parts if part))
+def described(
+    root: Element, processors: int, memory: int, disk: int, speed: int, coprocessors: Sequence[str]
+) -> str:
+    """Returns what a request says of its computer, for the state file. Some models of processors begin with
+    their vendor.
+    """
+    host = root.find("host_info")
+    texts = {} if host is None else {one.tag: one.text or "" for one in host}
+    vendor, model = one_line(texts.get("p_vendor", "")), one_line(texts.get("p_model", ""))
+    return Description(
+        model if model.lower().startswith(vendor.lower()) else one_line(f"{vendor} {model}"),
+        processors,
+        one_line(f"{texts.get('os_name', '')} {texts.get('os_version', '')}"),
+        one_line(".".join(filter(None, ((root.findtext(tag) or "").strip() for tag in VERSION)))),
+        memory,
+        disk,
+        speed,
+        [one_line(text) for text in coprocessors[:MOST_COPROCS]],
+    ).written()
