@@ -53,6 +53,7 @@ page_numbers     long lists on several pages
 directory        users and computers by credit and by name
 credit_days      credit by days, and charts of it
 descriptions     what computers say of themselves
+badges           badges of users, by credit and by years
 statements       the status of hosts and users, by bsched's statements
 templates        Jinja2's templates, in the folder templates/, with one style sheet
 pictures         the project's picture, and plots of the last month
