@@ -61,6 +61,6 @@ texts            numbers and moments as people read them
 
 Requests and accounts keep their rows in the state_file, in SQLite. downloads sends files. The other modules
 are settings, host_rules (settings that are read again), limits, operator_files (TOML with the lines of its
-faults), http_messages (by Werkzeug), code_signing, recent_credit, operator_orders (the operator's commands on
-accounts), key_locks and words.
+faults), http_messages (by Werkzeug), code_signing, recent_credit, preferences (of users, for their clients),
+operator_orders (the operator's commands on accounts), key_locks and words.
 """

@@ -12,6 +12,7 @@ from .client_requests import ClientRequest
 from .exchange import PutOff
 from .output_files import upload_name
 from .plan_classes import PlanClass, split
+from .preferences import Preferences
 from .recent_credit import Recent
 from .scheduler import Job, Reply
 from .upload_tokens import UploadTokens
@@ -114,6 +115,7 @@ class ReplyWriter:
         notice: str | None = None,
         recent: Recent | None = None,
         team: str | None = None,
+        preferences: Preferences | None = None,
     ) -> bytes:
         """Returns the reply to a request, with a notice for the volunteer and the name of the user's team. It
         has a hostid only for a client that did not send it: a client that has one takes any as a sign that it
@@ -137,6 +139,8 @@ class ReplyWriter:
                 add(SubElement(root, what), "name", name)
         if request.has_messages:
             add(root, "message_ack", 1)
+        if preferences is not None:
+            preferences.add_to(root, self.url, request.preferences_time)
         self._add_key(root, request.code_sign_key)
         self._add_buttons(root)
         self._add_jobs(root, request, reply.results)

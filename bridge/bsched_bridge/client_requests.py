@@ -85,6 +85,8 @@ class ClientRequest:
     cpu_req_secs: int = 0  # the part of work_req_seconds that is for processors
     coprocs: tuple[Coproc, ...] = ()
     about: str | None = None  # what the computer says of itself, for people
+    # when the client's preferences were changed; None if it can't be read
+    preferences_time: int | None = 0
 
 
 # ---- Elements
@@ -198,6 +200,16 @@ def coprocs_of(root: Element) -> tuple[Coproc, ...]:
     return tuple(found)
 
 
+def preferences_time(root: Element) -> int | None:
+    """Returns when the client's preferences were changed, rounded up; 0 if it has none. Another project may
+    have written them, so a request is not refused for them.
+    """
+    try:
+        return whole_of(root, "global_preferences/mod_time", 0, MOST_NUMBER, 0, up=True)
+    except RequestFault:
+        return None
+
+
 # ---- The request
 
 
@@ -280,4 +292,5 @@ def read_request(blocks: Iterable[bytes]) -> ClientRequest:
         cpu_req_secs=whole_of(root, "cpu_req_secs", 0, MOST_SECONDS, seconds, up=True),
         coprocs=coprocs,
         about=described(root, p_ncpus, m_nbytes, d_free, p_fpops, shown),
+        preferences_time=preferences_time(root),
     )

@@ -12,6 +12,7 @@ from .http_messages import XML, answer, blocks_of, length_of
 from .key_locks import Busy, KeyLocks
 from .limits import NoPlace, Places
 from .members import Members
+from .preferences import read_preferences
 from .recent_credit import Recent, RecentCredit
 from .request_parts import RequestFault
 from .teams import Teams
@@ -78,7 +79,9 @@ class SchedulerMessages:
         recent = self._recent(request.authenticator, reply.hostid)
         writer = self.writer.with_catalogue(self.catalogue())
         team = None if member is None else self.teams.name_of(member.team)
-        return answer(XML, writer.reply(request, reply, answered.hostid, answered.notice, recent, team))
+        wants = None if member is None else read_preferences(member.preferences)
+        body = writer.reply(request, reply, answered.hostid, answered.notice, recent, team, wants)
+        return answer(XML, body)
 
     def _recent(self, authenticator: str, scheduler_hostid: int) -> Recent | None:
         """Returns the recent average credit that a reply has; None if the operator has no file of it."""
