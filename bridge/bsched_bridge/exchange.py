@@ -476,13 +476,20 @@ def jobs_with(reply: Reply, in_hand: list[Job]) -> list[Job]:
 
 
 def shown(reply: Reply, account: AccountState | None, in_hand: list[Job]) -> Reply:
-    """Returns a reply with the name that the user chose, that of the user's team, and the jobs in hand."""
+    """Returns a reply with the name that the user chose, that of the user's team, the user's preferences, and
+    the jobs in hand.
+    """
     if account is None:
         return replace(reply, results=jobs_with(reply, in_hand)) if in_hand else reply
-    if account.name == reply.user_name and account.team is None and not in_hand:
+    if (account.name, account.team, account.preferences) == (reply.user_name, None, None) and not in_hand:
         return reply
-    results = jobs_with(reply, in_hand)
-    return replace(reply, user_name=account.name, team_name=account.team, results=results)
+    return replace(
+        reply,
+        user_name=account.name,
+        team_name=account.team,
+        preferences=account.preferences,
+        results=jobs_with(reply, in_hand),
+    )
 
 
 class Resending(threading.Thread):
