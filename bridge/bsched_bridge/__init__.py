@@ -54,6 +54,7 @@ page_numbers     long lists on several pages
 directory        users and computers by credit and by name
 credit_days      credit by days, and charts of it
 descriptions     what computers say of themselves
+badges           badges of users, by credit and by years
 statements       the status of hosts and users, by bsched's statements
 templates        Jinja2's templates, in the folder templates/, with one style sheet
 pictures         the project's picture, and plots of the last month
@@ -61,6 +62,7 @@ texts            numbers and moments as people read them
 
 Requests and accounts keep their rows in the state_file, in SQLite. downloads sends files. The other modules
 are settings, host_rules (settings that are read again), limits, operator_files (TOML with the lines of its
-faults), http_messages (by Werkzeug), code_signing, recent_credit, operator_orders (the operator's commands on
-accounts), key_locks and words. gunicorn runs the application by gunicorn_worker and gunicorn_log.
+faults), http_messages (by Werkzeug), code_signing, recent_credit, preferences (of users, for their clients),
+operator_orders (the operator's commands on accounts), key_locks and words. gunicorn runs the application by
+gunicorn_worker and gunicorn_log.
 """

@@ -16,6 +16,7 @@ from .accounts import AccountFault, AccountPlaces, Accounts, Fault, clean_name, 
 from .http_messages import form_of, query_of, refuse_other_sites
 from .members import Member
 from .passwords import client_hash
+from .preferences import PreferenceFault, read_preferences, typed
 from .settings import Settings
 from .statements import MOST_HOSTS, Statements
 from .teams import TeamFault, Teams
@@ -142,6 +143,28 @@ class AccountPages:
         except AccountFault as fault:
             return self._entrance(Form(faults={"key": fault.fault.text}))
 
+    def change_preferences(self, message: Request) -> Response:
+        """Stores what a user wants of the clients, or that it is sent no more. The owner sends the key."""
+        sent, client = self._sent(message)
+        is_removed, is_only_idle = sent.text("action") == "remove", sent.text("is_only_idle") == "1"
+        try:
+            with self.places.taken(client):
+                member = self.accounts.of_owner(sent.text("key"), client)
+                try:
+                    share, processors = sent.text("share"), sent.text("processors")
+                    wants = None if is_removed else typed(share, processors, is_only_idle, int(time.time()))
+                except PreferenceFault as fault:
+                    sent.faults[fault.field] = str(fault)
+                    return self._account(member, sent=sent)
+                text = None if wants is None else wants.written()
+                self.accounts.members.change_preferences(member, text)
+                done = (
+                    "They are sent no more." if is_removed else "Your computers get them at their next calls."
+                )
+                return self._account(replace(member, preferences=text), done)
+        except AccountFault as fault:
+            return self._entrance(Form(faults={"key": fault.fault.text}))
+
     def _change_team(self, member: Member, sent: Form) -> str:
         """Does what a form about a team says, and returns what was done."""
         action, text = sent.text("action"), sent.text("team")
@@ -168,6 +191,7 @@ class AccountPages:
             done=done,
             sent=sent or Form(),
             team=self.teams.team(member.team),
+            wants=read_preferences(member.preferences),
             most_hosts=MOST_HOSTS,
             result_words=RESULT_WORDS,
         )

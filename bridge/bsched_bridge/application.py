@@ -152,6 +152,7 @@ class Application:
             Route("teams", teams.list),
             Route("team/<number:number>", teams.team),
             Route("account_team", people.team, ("POST",)),
+            Route("account_preferences", people.change_preferences, ("POST",)),
             Route("account", people.account, FORMS),
             Route("account_finish.php", people.finish, FORMS),
             Route("get_passwd.php", people.password, FORMS),

@@ -16,7 +16,8 @@ from .team_rows import leave_by_key
 DELETED_NAME = "deleted"
 FORGET_MEMBER = (
     "UPDATE member SET email = NULL, salt = NULL, secret = NULL, cost = NULL, name = ?, cpid = ?, "
-    "consent_at = NULL, is_exported = 0, is_anonymous = 0, credit = NULL WHERE authenticator = ?"
+    "consent_at = NULL, is_exported = 0, is_anonymous = 0, credit = NULL, preferences = NULL "
+    "WHERE authenticator = ?"
 )
 
 

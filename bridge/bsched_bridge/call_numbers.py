@@ -20,7 +20,7 @@ from .state_file import StateFile
 
 
 # what a state has of the account, with the credit of a day (?1)
-ACCOUNT = "member.id, member.name, team.name, member.credit, member_day.credit"
+ACCOUNT = "member.id, member.name, team.name, member.preferences, member.credit, member_day.credit"
 OF_ACCOUNT = (
     "LEFT JOIN team ON team.id = member.team "
     "LEFT JOIN member_day ON member_day.member = member.id AND member_day.day = ?1"
@@ -86,6 +86,7 @@ class AccountState:
 
     name: str
     team: str | None  # the name of the user's team
+    preferences: str | None  # of the user, as they are stored
     credit: int | None  # by the latest reply to one of its hosts
     day: StoredDay
 
@@ -127,10 +128,10 @@ def account_of(row: tuple[object, ...], day: int) -> AccountState | None:
     """Returns the account in the columns of ACCOUNT, which were read for a day."""
     if row[0] is None:
         return None
-    number, name, team, credit, credit_of_day = cast(
-        "tuple[int, str, str | None, int | None, int | None]", row
+    number, name, team, preferences, credit, credit_of_day = cast(
+        "tuple[int, str, str | None, str | None, int | None, int | None]", row
     )
-    return AccountState(name, team, credit, StoredDay(number, day, credit_of_day))
+    return AccountState(name, team, preferences, credit, StoredDay(number, day, credit_of_day))
 
 
 def state_of(row: tuple[object, ...], day: int) -> KeyState:

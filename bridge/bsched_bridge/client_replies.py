@@ -12,6 +12,7 @@ from .client_requests import ClientRequest
 from .exchange import PutOff
 from .output_files import upload_name
 from .plan_classes import PlanClass, split
+from .preferences import read_preferences
 from .recent_credit import Recent
 from .scheduler import Job, Reply
 from .upload_tokens import UploadTokens
@@ -62,8 +63,9 @@ def add(parent: Element, name: str, value: object) -> None:
 def written(root: Element) -> bytes:
     """Returns the text of an element."""
     indent(root, "    ")
-    text: bytes = tostring(root, encoding="utf-8", xml_declaration=False, short_empty_elements=False)
-    return text + b"\n"
+    # as a str: the encoder of ElementTree takes longer than all else
+    text: str = tostring(root, encoding="unicode", short_empty_elements=False)
+    return f"{text}\n".encode()
 
 
 # ---- Replies
@@ -168,6 +170,9 @@ class ReplyWriter:
                     xml.add("name", name)
         if request.has_messages:
             xml.add("message_ack", 1)
+        preferences = read_preferences(reply.preferences)
+        if preferences is not None:
+            preferences.add_to(xml, self.url, request.preferences_time)
         self._add_key(xml, request.code_sign_key)
         xml.add_lines(self._buttons)
         self._add_jobs(xml, request, reply.results)

@@ -14,7 +14,7 @@ from .state_file import StateFile
 
 COLUMNS = (
     "id, authenticator, email, salt, secret, cost, name, batch, is_imported, cpid, consent_at, is_exported, "
-    "created_at, is_anonymous, team"
+    "created_at, is_anonymous, team, preferences"
 )
 INSERT = (
     "INSERT INTO member (authenticator, email, salt, secret, cost, name, batch, cpid, consent_at, "
@@ -52,6 +52,7 @@ class Member:
     created_at: int
     is_anonymous: bool = False
     team: int | None = None
+    preferences: str | None = None  # as the state file has them
 
     @property
     def shown_name(self) -> str:
@@ -77,6 +78,7 @@ def member_of(row: tuple[object, ...]) -> Member:
         made,
         is_anonymous,
         team,
+        preferences,
     ) = row
     return Member(
         id=cast(int, number),
@@ -92,6 +94,7 @@ def member_of(row: tuple[object, ...]) -> Member:
         created_at=cast(int, made),
         is_anonymous=bool(is_anonymous),
         team=cast("int | None", team),
+        preferences=cast("str | None", preferences),
     )
 
 
@@ -253,6 +256,11 @@ class Members:
                 "UPDATE member SET name = ?, is_exported = ?, is_anonymous = ? WHERE id = ?",
                 (name, is_exported, is_anonymous, member.id),
             )
+
+    def change_preferences(self, member: Member, preferences: str | None) -> None:
+        """Stores what a user wants of the clients, or that it is sent no more."""
+        with self.file.transaction() as connection:
+            connection.execute("UPDATE member SET preferences = ? WHERE id = ?", (preferences, member.id))
 
     def set_password(self, member: Member, email: str, secret: Secret) -> None:
         """Stores the e-mail address and the password that the user chose."""

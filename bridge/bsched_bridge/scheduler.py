@@ -64,7 +64,9 @@ class Reply:
     result_abort: list[str]
     results: list[Job]
     rpc_seqno: int
-    team_name: str | None = None  # of the user's team, which the bridge adds
+    # what the bridge adds: the name of the user's team, and the user's preferences as the state file has them
+    team_name: str | None = None
+    preferences: str | None = None
 
 
 @dataclass(frozen=True, slots=True)
@@ -75,7 +77,7 @@ class Refusal:
     members: dict[str, Any] = field(default_factory=dict)
 
 
-REPLY_MEMBERS = frozenset(member.name for member in fields(Reply)) - {"team_name"}
+REPLY_MEMBERS = frozenset(member.name for member in fields(Reply)) - {"team_name", "preferences"}
 JOB_MEMBERS = frozenset(member.name for member in fields(Job))
 
 

@@ -14,7 +14,7 @@ import threading
 from pathlib import Path
 
 # the name of the format, in the file's header: "bscb"
-APPLICATION_ID, SCHEMA_VERSION = 0x62736362, 6
+APPLICATION_ID, SCHEMA_VERSION = 0x62736362, 7
 HOSTS = """
 CREATE TABLE host (
   -- the key; the host_cpid is the one with which the host was made
@@ -103,6 +103,9 @@ CREATE TABLE team (
 ALTER TABLE member ADD COLUMN team INTEGER;
 CREATE INDEX member_of_team ON member (team, credit) WHERE team IS NOT NULL;
 """
+PREFERENCES = """
+ALTER TABLE member ADD COLUMN preferences TEXT;  -- for the user's clients, as JSON; NULL if there are none
+"""
 CREDIT_OF_MEMBERS = """
 UPDATE member SET credit = (
     SELECT coalesce(user_credit, 0) FROM host WHERE host.authenticator = member.authenticator
@@ -135,7 +138,7 @@ INSERT INTO host (authenticator, host_cpid, has_former_number, scheduler_hostid,
 DROP TABLE host_of_version_2;
 """
 )
-NEW_FILE = HOSTS + NUMBERS + MEMBERS + BARRED + PEOPLE + TEAMS
+NEW_FILE = HOSTS + NUMBERS + MEMBERS + BARRED + PEOPLE + TEAMS + PREFERENCES
 # the statements from each version to the next
 UPGRADES = {
     1: MEMBERS + HEARD_MEMBERS,
@@ -143,6 +146,7 @@ UPGRADES = {
     3: BARRED,
     4: PEOPLE + CREDIT_OF_MEMBERS,
     5: TEAMS,
+    6: PREFERENCES,
 }
 BUSY_SECONDS = 10.0  # for a transaction of another process
 

@@ -1,6 +1,9 @@
 """The pages of users and computers, which everybody can see: lists by credit, and one page for each."""
+import time
+
 from werkzeug.wrappers import Request, Response
 
+from .badges import Badge, badges_of
 from .charts import chart_of
 from .credit_days import CreditDays
 from .directory import MOST_SEARCH, Computer, Directory, User
@@ -47,7 +50,18 @@ class VolunteerPages:
             lambda first, most: self.directory.users(first, most, name),
         )
         averages = [self.average_of(user) for user in page.rows] if self._has_average else []
-        return self.templates.page("users.html", page=page, name=name, averages=averages)
+        badges = [] if name else self.badges_of(page)
+        return self.templates.page("users.html", page=page, name=name, averages=averages, badges=badges)
+
+    def badges_of(self, page: PageOf[User]) -> list[list[Badge]]:
+        """Returns the badges of the users on a page of the ranking."""
+        now, found = time.time(), []
+        place, before = 0, -1
+        for at, user in enumerate(page.rows, page.first + 1):
+            if user.credit != before:  # users of equal credit have one place
+                place, before = self.directory.place(user) if at == page.first + 1 else at, user.credit
+            found.append(list(badges_of(user.credit, place, page.count, user.created_at, now)))
+        return found
 
     def computers(self, message: Request) -> Response:
         """Lists the computers, those with the most credit first."""
@@ -69,11 +83,13 @@ class VolunteerPages:
         user = self.directory.user(number)
         if user is None:
             return self.templates.page("not_found.html", http_status=404)
+        place, of = self.directory.place(user), self.directory.count_users()
         return self.templates.page(
             "user.html",
             user=user,
-            place=self.directory.place(user),
-            of=self.directory.count_users(),
+            badges=list(badges_of(user.credit, place, of, user.created_at, time.time())),
+            place=place,
+            of=of,
             average=self.average_of(user),
             team=self.teams.team(user.team),
             chart=chart_of(self.days.of_member(number)),

@@ -93,7 +93,7 @@ def test_the_state_of_a_key(numbers: CallNumbers, today: None) -> None:
     assert numbers.state(KEY).is_of_stranger
     numbers.record_answer(KEY, reply(), [JOB])
     state = numbers.state(KEY)
-    ann = AccountState("Ann", None, 5, StoredDay(1, TODAY, 5))
+    ann = AccountState("Ann", None, None, 5, StoredDay(1, TODAY, 5))
     assert replace(state, jobs_text="[]") == KeyState(last_number=1, has_host=True, account=ann)
     assert state.jobs_in_hand == [JOB] and not state.is_of_stranger
     hostid = numbers.give_hostid(KEY) or 0
@@ -116,19 +116,19 @@ def test_the_state_of_a_key_on_another_day(
     numbers.open(KEY, lambda number: b"call")
     numbers.record_answer(KEY, reply(), [])
     monkeypatch.setattr("time.time", lambda: (TODAY + 1) * DAY + 10.0)
-    account = AccountState("Ann", None, 5, StoredDay(1, TODAY + 1, None))
+    account = AccountState("Ann", None, None, 5, StoredDay(1, TODAY + 1, None))
     assert numbers.state(KEY).account == numbers.state(Key("ann-key", "c2")).account == account
 
 
-def test_the_team_of_a_key(numbers: CallNumbers, today: None) -> None:
+def test_the_team_and_the_preferences_of_a_key(numbers: CallNumbers, today: None) -> None:
     numbers.open(KEY, lambda number: b"call")
     numbers.record_answer(KEY, reply(), [])
     with numbers.file.transaction() as connection:
         connection.execute("INSERT INTO team (name, folded, founder, created_at) VALUES ('A', 'a', 1, 0)")
-        connection.execute("UPDATE member SET team = 1")
+        connection.execute("UPDATE member SET team = 1, preferences = '{}'")
     for key in (KEY, Key("ann-key", "c2")):
         account = numbers.state(key).account
-        assert account is not None and account.team == "A"
+        assert account is not None and (account.team, account.preferences) == ("A", "{}")
 
 
 def test_credit_of_a_state_that_was_read_on_the_day_before(
@@ -224,7 +224,7 @@ def test_the_last_number_of_a_state_that_was_seen(numbers: CallNumbers) -> None:
 
 def test_an_account_that_the_bridge_has_is_not_inserted(numbers: CallNumbers) -> None:
     numbers.open(KEY, lambda number: b"call")
-    account = AccountState("Ann", None, 5, StoredDay(1, int(time.time()) // DAY, 5))
+    account = AccountState("Ann", None, None, 5, StoredDay(1, int(time.time()) // DAY, 5))
     numbers.record_answer(KEY, reply(), [], KeyState(account=account))
     assert numbers.file.row("SELECT count(*) FROM member") == (0,)
     numbers.record_answer(KEY, reply(), [], KeyState())

@@ -150,6 +150,8 @@ def test_texts_have_enough_contrast(scheme: int) -> None:
         for behind in ("back", "panel"):
             assert contrast(found[name], found[behind]) >= 4.5, (name, behind)
     assert contrast(found["on-accent"], found["accent"]) >= 4.5
+    for name in ("gold", "silver", "bronze", "years"):
+        assert contrast(found["on-badge"], found[name]) >= 4.5, name
     for name in ("done", "out", "failed"):  # of plots
         assert contrast(found[name], found["back"]) >= 3, name
 

@@ -218,7 +218,7 @@ def test_a_newer_file_is_refused_and_not_changed(tmp_path: Path) -> None:
     with pytest.raises(StateFault) as raised:
         StateFile(path)
     assert str(raised.value) == (
-        f"{path}: a newer bridge wrote this file (format 7, and this bridge knows 6): run that bridge"
+        f"{path}: a newer bridge wrote this file (format 8, and this bridge knows 7): run that bridge"
     )
     assert contents(path) == before
 
@@ -259,7 +259,7 @@ def test_a_file_of_version_1_gets_accounts(tmp_path: Path) -> None:
     kept = contents(path)
     StateFile(path).close()  # no upgrade is needed
     assert contents(path) == kept
-    assert kept[1] == 6
+    assert kept[1] == 7
 
 
 @pytest.mark.parametrize("version", [1, 2])

@@ -213,7 +213,7 @@ def test_results_in_words(bridge: Bridge, twin: Twin) -> None:
     twin.statement = "\n".join(lines) + "\n"
     page = page_of(bridge.got(f"/p/computer/{FIRST}"))
     results = page.text.rpartition("deadline (UTC)")[2]
-    found = re.findall(r"(u\d_0)sum2026-01-01 00:00:002026-01-02 00:00:00(\w+ [A-Z]\w+ ?\w*)", results)
+    found = re.findall(r"(u\d_0)(\w+ [A-Z]\w+ ?\w*)[^_]*sum2026-01-01 00:00:002026-01-02", results)
     assert found == [  # the latest is first
         ("u7_0", "failed Not compared"),
         ("u6_0", "failed Invalid"),
