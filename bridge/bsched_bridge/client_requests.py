@@ -225,12 +225,12 @@ def coprocs_of(root: Element) -> tuple[Coproc, ...]:
     return tuple(found)
 
 
-def preferences_time(preferences: Fields) -> int | None:
+def preferences_time(root: Element) -> int | None:
     """Returns when the client's preferences were changed, rounded up; 0 if it has none. Another project may
     have written them, so a request is not refused for them.
     """
     try:
-        return preferences.whole("mod_time", 0, MOST_NUMBER, 0, up=True)
+        return Fields(*root.findall("global_preferences")).whole("mod_time", 0, MOST_NUMBER, 0, up=True)
     except RequestFault:
         return None
 
@@ -363,5 +363,5 @@ def read_request(blocks: Iterable[bytes]) -> ClientRequest:
         cpu_req_secs=fields.whole("cpu_req_secs", 0, MOST_SECONDS, seconds, up=True),
         coprocs=coprocs,
         about=described(root, p_ncpus, m_nbytes, d_free, p_fpops, shown),
-        preferences_time=preferences_time(Fields(*root.findall("global_preferences"))),
+        preferences_time=preferences_time(root),
     )

@@ -476,20 +476,14 @@ def jobs_with(reply: Reply, in_hand: list[Job]) -> list[Job]:
 
 
 def shown(reply: Reply, account: AccountState | None, in_hand: list[Job]) -> Reply:
-    """Returns a reply with the name that the user chose, that of the user's team, the user's preferences, and
-    the jobs in hand.
+    """Returns a reply with the name and the preferences that the user chose, the user's team, and the jobs in
+    hand.
     """
-    if account is None:
-        return replace(reply, results=jobs_with(reply, in_hand)) if in_hand else reply
-    if (account.name, account.team, account.preferences) == (reply.user_name, None, None) and not in_hand:
+    if in_hand:
+        reply = replace(reply, results=jobs_with(reply, in_hand))
+    if account is None or (account.name, account.team, account.preferences) == (reply.user_name, None, None):
         return reply
-    return replace(
-        reply,
-        user_name=account.name,
-        team_name=account.team,
-        preferences=account.preferences,
-        results=jobs_with(reply, in_hand),
-    )
+    return replace(reply, user_name=account.name, team_name=account.team, preferences=account.preferences)
 
 
 class Resending(threading.Thread):

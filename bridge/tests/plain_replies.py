@@ -1,4 +1,5 @@
 """The replies of the bridge as ElementTree writes them. Those of client_replies must have the same bytes."""
+import json
 from xml.etree.ElementTree import Element, SubElement
 
 from bsched_bridge.catalogue import App, Catalogue, MissingFile, Version, Work
@@ -92,12 +93,24 @@ class PlainReplies:
                 add(SubElement(root, what), "name", name)
         if request.has_messages:
             add(root, "message_ack", 1)
+        if reply.preferences is not None:
+            self._add_preferences(root, json.loads(reply.preferences), request.preferences_time)
         self._add_key(root, request.code_sign_key)
         self._add_buttons(root)
         self._add_jobs(root, request, reply.results)
         if request.work_req_seconds and not reply.results:
             add_message(root, NO_JOBS.get(reply.end_word, NO_JOBS["no_eligible_work"]), "low")
         return written(root)
+
+    def _add_preferences(self, root: Element, wants: dict[str, int], client_time: int | None) -> None:
+        """Adds what the user wants of the client. What counts for all projects must be newer than its own."""
+        add(SubElement(root, "project_preferences"), "resource_share", wants["share"])
+        if client_time is not None and wants["changed_at"] > client_time:
+            element = SubElement(root, "global_preferences")
+            add(element, "source_project", self.url)
+            add(element, "mod_time", wants["changed_at"])
+            add(element, "run_if_user_active", 0 if wants["is_only_idle"] else 1)
+            add(element, "max_ncpus_pct", wants["processors"])
 
     def _add_key(self, root: Element, has: str) -> None:
         """Adds the code signing key if the client has none. A client that has a key would take it for a

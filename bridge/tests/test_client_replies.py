@@ -16,10 +16,12 @@ from bsched_bridge.client_requests import ClientRequest, read_request
 from bsched_bridge.exchange import PutOff
 from bsched_bridge.output_files import OutputFile
 from bsched_bridge.plan_classes import PlanClass
+from bsched_bridge.preferences import Preferences
 from bsched_bridge.recent_credit import Recent
 from bsched_bridge.scheduler import Job, Reply
 from bsched_bridge.upload_tokens import UploadTokens
 
+written = Preferences.written
 # texts that must be escaped, that XML does not allow, and any others
 TEXTS = st.text(
     st.one_of(st.sampled_from("&<>\"'\r\n\t \0\x1f\x7f\ufffe\uffffé"), st.characters()), max_size=12
@@ -102,6 +104,7 @@ REPLIES = st.builds(
     results=st.lists(JOBS, max_size=5),
     rpc_seqno=NUMBERS,
     team_name=st.none() | TEXTS,
+    preferences=st.none() | st.builds(Preferences, NUMBERS, NUMBERS, st.booleans(), NUMBERS).map(written),
 )
 REQUESTS = [
     read_request([text.encode()])
@@ -111,6 +114,8 @@ REQUESTS = [
             seconds=0, extra="<code_sign_key>1024 00ff .</code_sign_key><msg_from_host>x</msg_from_host>"
         ),
         request(extra="<code_sign_key>another</code_sign_key><p_ncpus>4</p_ncpus>"),
+        request(extra="<global_preferences><mod_time>1e9</mod_time></global_preferences>"),
+        request(extra="<global_preferences><mod_time>x</mod_time></global_preferences>"),
     )
 ]
 TOKENS = UploadTokens(b"secret")
