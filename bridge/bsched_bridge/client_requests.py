@@ -207,7 +207,9 @@ def report_of(result: Element) -> Report | None:
     fault = upload_fault(files)
     if status == 0 and fault is not None:
         return Report(name, UPLOAD_STATUS, fault)
-    return Report(name, status, output_of(result), tuple(map(reported_file, files)))
+    # a program may end with an error and say nothing
+    output = output_of(result) or ("" if status == 0 else f"exit status {status}")
+    return Report(name, status, output, tuple(map(reported_file, files)))
 
 
 # ---- Coprocessors

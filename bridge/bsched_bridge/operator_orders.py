@@ -199,12 +199,20 @@ def unbar(state: State, args: argparse.Namespace) -> Iterator[str]:
     yield f"{member.name} ({shown_key(member.authenticator)}) is not barred"
 
 
+def is_agreed(question: str) -> bool:
+    """Asks on the terminal, and returns whether the answer is yes."""
+    try:
+        return input(question).lower().startswith("y")
+    except EOFError:
+        return False
+
+
 def delete(state: State, args: argparse.Namespace) -> Iterator[str]:
     """Deletes an account, after a question on a terminal."""
     member = state.find(args.account)
     shown = f"{member.name} ({shown_key(member.authenticator)}, {member.email or 'no address'})"
     if not args.yes:
-        if not sys.stdin.isatty() or not input(f"Delete {shown} for good? [y/N] ").lower().startswith("y"):
+        if not sys.stdin.isatty() or not is_agreed(f"Delete {shown} for good? [y/N] "):
             raise OrderFault("nothing was deleted: answer y, or give --yes")
     state.barring.delete(member.authenticator, int(time.time()))
     yield f"{shown} is deleted, and its key stays barred"

@@ -178,7 +178,9 @@ def test_tags_that_are_never_closed(tag: str) -> None:
 )
 def test_exit_statuses(exit_elements: str, status: int) -> None:
     body = request(reports=[("u1_0", "")]).replace("0</exit_status><state>5", exit_elements)
-    assert read_request(body.encode()).results[0].exit_status == status
+    (report,) = read_request(body.encode()).results
+    assert report.exit_status == status
+    assert report.output == ("" if status == 0 else f"exit status {status}")
 
 
 def test_a_result_that_can_have_no_name_is_passed_over() -> None:

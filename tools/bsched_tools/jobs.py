@@ -71,10 +71,10 @@ def credit_text(millicredits: int) -> str:
     return f"{millicredits // 1000}.{millicredits % 1000:03}"
 
 
-def state_of(one: Instance, lapse: int, is_queued: bool, status: int, verdict: bool | None) -> str:
-    """Returns the state of an instance in words."""
+def state_of(one: Instance, lapse: int, waits: str | None, status: int, verdict: bool | None) -> str:
+    """Returns the state of an instance in words; `waits` says for what it waits, if it does."""
     if one.host is None:
-        return "waits for a computer" if is_queued else "not sent: the workunit is decided"
+        return waits or "not sent: the workunit is decided"
     if one.outcome is None:
         if lapse == LATE:
             return "late: its deadline passed without a report"
@@ -96,10 +96,12 @@ def given_of(tables: Tables, unit: tuple[Any, ...]) -> tuple[list[Given], Instan
     judged = [one for one in instances if one.place is not None and one.outcome == SUCCESS]
     good = sorted(judged, key=lambda one: one.place or 0)
     best = canonical_of(agreement, min_quorum, good) if status == DONE else None
+    # no user gets two instances of one workunit
+    waits = "waits for a computer" + (" of another user" if any(one.host for one in instances) else "")
     given = []
     for one, (*_, sent, deadline, lapse, queued) in zip(instances, rows):
         verdict = agree(agreement, best.text, one.text) if best is not None and one in judged else None
-        given.append(Given(one, sent, deadline, state_of(one, lapse, bool(queued), status, verdict)))
+        given.append(Given(one, sent, deadline, state_of(one, lapse, waits if queued else None, status, verdict)))
     return given, best
 
 

@@ -155,7 +155,7 @@ def test_what_happened_to_a_workunit(project: MadeProject) -> None:
     ]
     output = project.tools("job", "w2")[1]
     assert "w2 of the application dock: open" in output and "in work; computer 3 of User 3" in output
-    assert "w2_1: waits for a computer" in output
+    assert "w2_1: waits for a computer of another user" in output
     output = project.tools("host", 1)[1]
     assert output.startswith("computer 1 of User 1 (h): 0.000 credit\n") and "w1_0: client error" in output
     assert project.tools("job", "none")[0] == 1 and project.tools("host", 9)[0] == 1
