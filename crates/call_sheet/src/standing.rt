@@ -88,11 +88,7 @@ fn put_one<S: Draft>(alloc: Global, sheet: &mut S, edit: &Edit) -> Result<(), Un
 }
 
 /// Makes edits in turn. A host must be at an existing number or at the next one.
-pub fn put_all<S: Draft>(
-    alloc: Global,
-    sheet: &mut S,
-    edits: &[Edit],
-) -> Result<(), Unavailable>
+pub fn put_all<S: Draft>(alloc: Global, sheet: &mut S, edits: &[Edit]) -> Result<(), Unavailable>
     ensures works { S.works sheet.old sheet.new }
     ensures put { Trusted S.Units sheet.old sheet.new (
         OnOk result (S.world sheet.new ≡ edited (S.world sheet.old) edits.now)) }

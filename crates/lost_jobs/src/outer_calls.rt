@@ -13,7 +13,7 @@ use crate::fates::{Fate, fates_on};
 use crate::missing::lost_on;
 use call_sheet::{Draft, Page, Sheet, put_all};
 use rpc_records::Request;
-use sched_book::{Edits, Desk, HostRow, Moment, Place, Unavailable};
+use sched_book::{Desk, Edits, HostRow, Moment, Place, Unavailable};
 use std::alloc::Global;
 use texts::Listed;
 

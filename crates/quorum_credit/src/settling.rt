@@ -14,7 +14,7 @@ use crate::host_quotas::new_quotas;
 use crate::late::lapse_on;
 use crate::scores::{Score, scores_of_units};
 use call_sheet::{Draft, Page, Sheet, put_all};
-use sched_book::{Edits, Desk, Place, Unavailable};
+use sched_book::{Desk, Edits, Place, Unavailable};
 use std::alloc::Global;
 use texts::Listed;
 

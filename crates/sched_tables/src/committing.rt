@@ -32,8 +32,8 @@ fn apps_with(apps: &Listed<App>, delta: &Delta) -> Result<Option<Listed<App>>, M
             all.append(more.clone()?)?;
             Ok(Some(all))
         }
-        Delta::Rows(Rows::Accounts(_) | Rows::Versions(_) | Rows::Workunits(_))
-        | Delta::Edits(_) => Ok(None),
+        Delta::Rows(Rows::Accounts(_) | Rows::Versions(_) | Rows::Workunits(_)) | Delta::Edits(_) =>
+            Ok(None),
     }
 }
 

@@ -153,11 +153,7 @@ fn import_accounts(
 }
 
 /// Appends the rows of new applications.
-fn import_apps(
-    apps: &[App],
-    count: Counts,
-    rows: &mut Listed<RowChange>,
-) -> Result<(), Unavailable>
+fn import_apps(apps: &[App], count: Counts, rows: &mut Listed<RowChange>) -> Result<(), Unavailable>
     ensures { (w v : World) → AreImported w v count rows.old → OnOk result (HaveImported w (with_rows v (kinds.Apps apps.now)) rows.new) }
 {
     let mut counted = count;

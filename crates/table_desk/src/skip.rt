@@ -34,11 +34,7 @@ fn later(place: Place, other: Place) -> Place
     ensures than_the_other { book.is_before result other ≡ false }
     ensures one_of_them { (result ≡ place) ⊎ (result ≡ other) }
 {
-    if place.is_before(other) {
-        other
-    } else {
-        place
-    }
+    if place.is_before(other) { other } else { place }
 }
 
 /// The earlier one of two places, if the second is not before `from`.
