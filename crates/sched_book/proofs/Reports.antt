@@ -1,12 +1,13 @@
--- The good reports of a workunit, by the steps of a loop.
-use Rattle.std.proofs.Common.{◌≡◌, ℕ, ◌+◌, ◌<◌, ◌≤◌, Bool, true, false, cond, List, [], ◌∷◌, length, drop, get_or, sym, refl, ap, ◌∙◌, arith}
-use Rattle.std.specs.Prelude.{count_by, fold, nat_le}
+-- The good reports of a workunit, and the leader of their shortest front, by the steps of a loop.
+use Rattle.std.proofs.Common.{◌≡◌, ℕ, ◌+◌, ◌<◌, ◌≤◌, Bool, true, false, cond, List, [], ◌∷◌, length, take, drop, get_or, Option, sym, refl, ap, ◌∙◌, arith}
+use Rattle.std.specs.Prelude.{count_by, fold, is_some, nat_le}
 use Rattle.std.specs.List.{prefix_len}
 use Rattle.std.proofs.lemmas.List.Edits.{length-insert}
 use Rattle.std.proofs.lemmas.List.Sums.{sum_by-cons, prefix_len-le-length}
-use Rattle.std.proofs.lemmas.List.{drop_all, drop_more}
-use Rattle.sched_book.specs.Count.{tells_success, place_of, numbers_from, put_by, good}
+use Rattle.std.proofs.lemmas.List.{drop_all, drop_more, take_more, take_all}
+use Rattle.sched_book.specs.Count.{tells_success, place_of, numbers_from, put_by, good, leader, first_leader}
 use Rattle.sched_book.specs.declared.instance.Instance.{Instance}
+use Rattle.sched_book.specs.declared.rows.Agreement.{Agreement}
 
 -- the good reports, if those below i were inserted already
 unfoldable pub put_from : List Instance → List ℕ → ℕ → List ℕ
@@ -44,6 +45,45 @@ pub put_from-all : (xs : List Instance) (reports : List ℕ) (i : ℕ) → lengt
 unfolding put_from
 put_from-all xs reports i past =
     ap (λ ys. fold (put_by (place_of xs)) reports (numbers_from i (λ x. tells_success x.report) ys)) (drop_all i xs past)
+
+-- the leader of the shortest front that has one, among fronts at least k long
+unfoldable pub leader_from : Agreement → List Instance → ℕ → List ℕ → ℕ → Option ℕ
+leader_from a xs enough reports k = first_leader a xs enough (take k reports) (drop k reports)
+
+pub leader_from-is : (a : Agreement) (xs : List Instance) (enough : ℕ) (reports : List ℕ) (k : ℕ)
+    → leader_from a xs enough reports k ≡ first_leader a xs enough (take k reports) (drop k reports)
+unfolding leader_from
+leader_from-is a xs enough reports k = refl
+
+leader_step : (a : Agreement) (xs : List Instance) (enough : ℕ) (reports : List ℕ) (k : ℕ) → k < length reports
+    → leader_from a xs enough reports k
+    ≡ cond (is_some (leader a xs enough (take k reports))) (leader a xs enough (take k reports)) (leader_from a xs enough reports (k + 1))
+unfolding leader_from
+leader_step a xs enough reports k within =
+    let front = take k reports in
+    ap (first_leader a xs enough front) (drop_more reports k 0 within)
+    ∙ ap (λ longer. cond (is_some (leader a xs enough front)) (leader a xs enough front) (first_leader a xs enough longer (drop (k + 1) reports)))
+    (sym (take_more reports k 0 within))
+
+pub leader_from-here : (a : Agreement) (xs : List Instance) (enough : ℕ) (reports : List ℕ) (k : ℕ) → k < length reports
+    → is_some (leader a xs enough (take k reports)) ≡ true
+    → leader_from a xs enough reports k ≡ leader a xs enough (take k reports)
+leader_from-here a xs enough reports k within found =
+    leader_step a xs enough reports k within
+    ∙ ap (λ (b : Bool). cond b (leader a xs enough (take k reports)) (leader_from a xs enough reports (k + 1))) found
+
+pub leader_from-later : (a : Agreement) (xs : List Instance) (enough : ℕ) (reports : List ℕ) (k : ℕ) → k < length reports
+    → is_some (leader a xs enough (take k reports)) ≡ false
+    → leader_from a xs enough reports k ≡ leader_from a xs enough reports (k + 1)
+leader_from-later a xs enough reports k within none =
+    leader_step a xs enough reports k within
+    ∙ ap (λ (b : Bool). cond b (leader a xs enough (take k reports)) (leader_from a xs enough reports (k + 1))) none
+
+pub leader_from-last : (a : Agreement) (xs : List Instance) (enough : ℕ) (reports : List ℕ) (k : ℕ) → length reports ≤ k
+    → leader_from a xs enough reports k ≡ leader a xs enough reports
+unfolding leader_from
+leader_from-last a xs enough reports k past =
+    ap (first_leader a xs enough (take k reports)) (drop_all k reports past) ∙ ap (leader a xs enough) (take_all k reports past)
 
 -- there are as many good reports as judged successes
 length_numbers : (n : ℕ) (p : Instance → Bool) (xs : List Instance) → length (numbers_from n p xs) ≡ count_by p xs
