@@ -101,7 +101,8 @@ def given_of(tables: Tables, unit: tuple[Any, ...]) -> tuple[list[Given], Instan
     given = []
     for one, (*_, sent, deadline, lapse, queued) in zip(instances, rows):
         verdict = agree(agreement, best.text, one.text) if best is not None and one in judged else None
-        given.append(Given(one, sent, deadline, state_of(one, lapse, waits if queued else None, status, verdict)))
+        state = state_of(one, lapse, waits if queued else None, status, verdict)
+        given.append(Given(one, sent, deadline, state))
     return given, best
 
 
