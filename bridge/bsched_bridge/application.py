@@ -101,9 +101,7 @@ class Application:
         self.writer = ReplyWriter(
             current(), settings.name, settings.url, tokens, has_accounts=self.accounts is not None
         )
-        self.requests = SchedulerMessages(
-            self.exchange, current, self.writer, self.members, recent, self.places
-        )
+        self.requests = SchedulerMessages(self.exchange, current, self.writer, recent, self.places)
         self.statements = Statements(hosts, self.members, scheduler, key, settings.counts, archives, recent)
         self.templates = Templates(settings)
         self.pictures = Pictures(settings)

@@ -10,7 +10,6 @@ from .exchange import HOUR, TOO_BUSY, Exchange, PutOff
 from .http_messages import XML, answer, blocks_of, length_of
 from .key_locks import Busy, KeyLocks
 from .limits import NoPlace, Places
-from .members import Members
 from .recent_credit import Recent, RecentCredit
 from .request_parts import RequestFault
 
@@ -44,12 +43,11 @@ class SchedulerMessages:
         exchange: Exchange,
         catalogue: Callable[[], Catalogue],
         writer: ReplyWriter,
-        members: Members,
         recent: RecentCredit,
         places: Places,
     ) -> None:
         self.exchange, self.catalogue, self.writer = exchange, catalogue, writer
-        self.members, self.recent, self.places = members, recent, places
+        self.recent, self.places = recent, places
         self.reader = RequestReader()
 
     def answer(self, message: Request) -> Response:
