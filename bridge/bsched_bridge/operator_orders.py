@@ -20,6 +20,7 @@ from .hosts import HeardHost, Hosts
 from .members import Member, Members
 from .settings import Settings, read_settings
 from .state_file import StateFile
+from .teams import MOST_TEAMS, Team, Teams
 from .texts import credits_text, moment_text
 from .words import shown_key
 
@@ -42,6 +43,7 @@ class State:
     members: Members
     hosts: Hosts
     barring: Barring
+    teams: Teams
 
     def barred(self, member: Member) -> str:
         """Returns why the computers of an account are refused, in a word; empty if they are not."""
@@ -76,7 +78,7 @@ def open_state(args: argparse.Namespace) -> State:
     if not settings.state.exists():
         raise OrderFault(f"{settings.state}: there is none: the bridge makes it at its first start")
     file = StateFile(settings.state, is_guest=True)
-    return State(settings, file, Members(file), Hosts(file), Barring(file))
+    return State(settings, file, Members(file), Hosts(file), Barring(file), Teams(file))
 
 
 # ---- Who there is
@@ -161,6 +163,29 @@ def consented(state: State, args: argparse.Namespace) -> Iterator[str]:
             yield json.dumps({**row, "is_deleted": is_deleted, "is_agreed": is_agreed})
         elif is_agreed and not args.json:
             yield from as_csv([(member.authenticator, member.shown_name)])
+
+
+def teams(state: State, args: argparse.Namespace) -> Iterator[str]:
+    """Yields the teams, those with the most credit first, as a table or as lines of JSON. As JSON a team has
+    the keys of its members."""
+    found = state.teams.teams(0, MOST_TEAMS)
+    if args.json:
+        yield from (json.dumps(team_row(team, state.teams.keys(team))) for team in found)
+    elif found:
+        heads = ["number", "name", "founder", "members", "credit", "made"]
+        yield from as_table([heads, *(team_fields(team) for team in found)])
+
+
+def team_row(team: Team, keys: list[str]) -> dict[str, object]:
+    """Returns a team, whose founder has the first of these keys, as a row of JSON."""
+    row = {"number": team.number, "name": team.name, "created": team.created_at}
+    return {**row, "founder": keys[0], "members": keys}
+
+
+def team_fields(team: Team) -> list[str]:
+    """Returns a team as a row of the list. The founder is a user's number."""
+    counted = [str(team.founder), str(team.members), credits_text(team.credit)]
+    return [str(team.number), team.name, *counted, moment_text(team.created_at)]
 
 
 def as_csv(rows: Iterable[tuple[str, str]]) -> Iterator[str]:
@@ -271,6 +296,7 @@ ORDERS: dict[str, tuple[Order, str]] = {
     "delete": (delete, "deletes an account"),
     "copy": (copy, "copies the state file"),
     "consented": (consented, "lists the keys and names of users who agreed to be named"),
+    "teams": (teams, "lists the teams"),
 }
 
 
@@ -285,7 +311,7 @@ def add_orders(orders: "argparse._SubParsersAction[AnyParser]") -> None:
             parser.add_argument(
                 "account", metavar="ACCOUNT", help="its address, its name, or the first characters of its key"
             )
-        if name in ("members", "consented"):
+        if name in ("members", "consented", "teams"):
             parser.add_argument("--json", action="store_true", help="lines of JSON")
         if name == "delete":
             parser.add_argument("--yes", action="store_true", help="without a question")

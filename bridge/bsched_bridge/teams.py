@@ -104,6 +104,11 @@ class Teams:
             map(user_of, self.file.looked(f"{USER} WHERE team = ? {order}", team.number, most, first))
         )
 
+    def keys(self, team: Team) -> list[str]:
+        """Returns the keys of the members of a team, the founder's first."""
+        query = "SELECT authenticator FROM member WHERE team = ? ORDER BY id <> ?, id"
+        return [cast(str, row[0]) for row in self.file.looked(query, team.number, team.founder)]
+
     # ---- What users do
 
     def make(self, member: Member, text: str, now: int) -> None:

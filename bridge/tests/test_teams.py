@@ -1,10 +1,13 @@
 """Teams: who makes, joins and leaves one, what others see of it, and what members' clients read."""
+import json
+from pathlib import Path
 from typing import Any
 
 import pytest
 from bridges import Bridge
 from joining import create
 from messages import FIRST, request, value
+from test_barring import done
 from test_pages import page_of, posted
 from test_volunteers import people
 
@@ -182,3 +185,25 @@ def test_no_accounts_no_teams(bridge: Bridge) -> None:
 
 def test_names_that_look_alike() -> None:
     assert fold("Straße") == fold("STRASSE") and fold("ﬁne") == fold("FINE") and fold("a") != fold("b")
+
+
+def test_the_operator_lists_the_teams(project: Path, open_bridge: Bridge) -> None:
+    assert done(project, "teams") == done(project, "teams", "--json") == ""
+    (ann, ann_id), (bob, _), (cid, cid_id) = accounts(open_bridge, 3)
+    acted(open_bridge, ann, "make", team="Summers")
+    acted(open_bridge, cid, "make", team='"The" <others>')
+    acted(open_bridge, bob, "join", team="Summers")
+    head, *lines = done(project, "teams").splitlines()
+    assert head.split() == ["number", "name", "founder", "members", "credit", "made"]
+    assert [line.split()[0] for line in lines] == ["1", "2"]
+    assert lines[0].split()[1:5] == ["Summers", str(ann_id), "2", "0.000"]
+    assert lines[1].split()[3:6] == [str(cid_id), "1", "0.000"]
+    rows = [json.loads(line) for line in done(project, "teams", "--json").splitlines()]
+    assert [(row["number"], row["name"], row["founder"], row["members"]) for row in rows] == [
+        (1, "Summers", ann, [ann, bob]),
+        (2, '"The" <others>', cid, [cid]),
+    ]
+    # the founder leaves: the member who is left is the founder
+    acted(open_bridge, ann, "leave")
+    row = json.loads(done(project, "teams", "--json").splitlines()[0])
+    assert (row["founder"], row["members"]) == (bob, [bob])

@@ -182,7 +182,8 @@ def statistics(args: Arguments) -> None:
     if args.agreed is not None:
         agreed = frozenset(agreed_in(args.agreed))
     folder, copies = needed(args, "to", to), copies_of(args, project)
-    made = export(copies, folder, None if everybody else agreed, publication.names, averages)
+    named = None if everybody else agreed
+    made = export(copies, folder, named, publication.names, averages, publication.teams)
     print(f"{folder}: {made.users} users, {made.agreed} of them named, and {made.hosts} computers")
 
 

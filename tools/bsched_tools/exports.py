@@ -1,4 +1,7 @@
-"""The files that statistics sites read: tables.xml, user.gz, team.gz and host.gz."""
+"""The files that statistics sites read: tables.xml, user.gz, team.gz and host.gz.
+
+Their elements are those that BOINC's own db_dump writes.
+"""
 import hashlib
 import os
 import re
@@ -14,6 +17,7 @@ from .faults import Fault
 from .files import replace_file
 from .members import Host, User, users_of
 from .tables import all_opened
+from .volunteers import Team
 
 TURN_SECONDS = 60.0
 # the characters that XML 1.0 does not allow
@@ -46,7 +50,7 @@ def credits_text(millicredits: int) -> str:
 
 
 def user_members(
-    user: User, known: tuple[int, int], average: float, cpid: str, moment: int
+    user: User, known: tuple[int, int], average: float, cpid: str, team: int | None, moment: int
 ) -> dict[str, object]:
     """Returns the members of a user who agreed."""
     number, created = known
@@ -59,7 +63,31 @@ def user_members(
         "expavg_credit": f"{average:.6f}",
         "expavg_time": moment,
         "cpid": cpid,
+        **({} if team is None else {"teamid": team}),
     }
+
+
+@dataclass(slots=True)
+class TeamSum:
+    """A team, with the credit of all its members. Its founder is named only if the founder agreed."""
+
+    team: Team
+    millicredits: int = 0
+    average: float = 0.0
+    founder: int | None = None  # the number of a user
+
+    def members(self, moment: int) -> dict[str, object]:
+        """Returns the members of the element."""
+        return {
+            "id": self.team.number,
+            "name": self.team.name,
+            **({} if self.founder is None else {"userid": self.founder}),
+            "total_credit": credits_text(self.millicredits),
+            "expavg_credit": f"{self.average:.6f}",
+            "expavg_time": moment,
+            "nusers": len(self.team.members),
+            "create_time": self.team.created,
+        }
 
 
 def host_members(host: Host, kept: Kept, userid: int | None, cpid: str) -> dict[str, object]:
@@ -84,8 +112,12 @@ def host_members(host: Host, kept: Kept, userid: int | None, cpid: str) -> dict[
 class Export:
     """The elements of all files."""
 
-    def __init__(self, averages: Averages, moment: int, agreed: Collection[str] | None) -> None:
+    def __init__(
+        self, averages: Averages, moment: int, agreed: Collection[str] | None, teams: Iterable[Team] = ()
+    ) -> None:
         self.averages, self.moment, self.agreed = averages, moment, agreed
+        self.sums = [TeamSum(team) for team in teams]
+        self.sum_by_member = {key: one for one in self.sums for key in one.team.members}
         self.users: list[str] = []
         self.hosts: list[str] = []
         self.count, self.millicredits = 0, 0
@@ -96,14 +128,31 @@ class Export:
         hosts = [(host, self.averages.host(user, host, self.moment)) for host in user.hosts.values()]
         cpid = self.averages.digest("cpid", user.authenticator)
         is_agreed = self.agreed is None or user.authenticator in self.agreed
+        average = sum(kept.average or 0 for _, kept in hosts)
+        team = self._add_to_team(user, average, known[0] if is_agreed else None)
         if is_agreed:
-            average = sum(kept.average or 0 for _, kept in hosts)
-            self.users.append(element("user", user_members(user, known, average, cpid, self.moment)))
+            self.users.append(element("user", user_members(user, known, average, cpid, team, self.moment)))
         for host, kept in hosts:
             userid = known[0] if is_agreed else None
             self.hosts.append(element("host", host_members(host, kept, userid, cpid)))
         self.count += 1
         self.millicredits += user.millicredits
+
+    def _add_to_team(self, user: User, average: float, number: int | None) -> int | None:
+        """Adds the credit of a user to that of the user's team, and returns the number of the team. The number
+        of the user is that of a user who agreed."""
+        found = self.sum_by_member.get(user.authenticator)
+        if found is None:
+            return None
+        found.millicredits += user.millicredits
+        found.average += average
+        if user.authenticator == found.team.founder:
+            found.founder = number
+        return found.team.number
+
+    def teams(self) -> Iterator[str]:
+        """Yields the elements of the teams, once all users are added."""
+        return (element("team", one.members(self.moment)) for one in self.sums)
 
     def totals(self) -> str:
         """Returns the text of tables.xml."""
@@ -112,7 +161,7 @@ class Export:
             {
                 "update_time": self.moment,
                 "nusers_total": self.count,
-                "nteams_total": 0,
+                "nteams_total": len(self.sums),
                 "nhosts_total": len(self.hosts),
                 "total_credit": credits_text(self.millicredits),
             },
@@ -138,6 +187,7 @@ def export(
     agreed: Collection[str] | None,
     names: Mapping[str, str] | None = None,
     averages_file: Path | None = None,
+    teams: Iterable[Team] = (),
 ) -> Exported:
     """Writes the files of some tables into a folder. They name the users whose authenticators agreed, or with
     None all users. Sites know users and hosts by their numbers, so the numbers are stored before they are
@@ -150,12 +200,12 @@ def export(
         stack.enter_context(turn(folder, TURN_SECONDS))
         averages = Averages(averages_file or state_of(folder))
         moment = max(tables.moment for tables in all_tables)
-        made = Export(averages, moment, agreed)
+        made = Export(averages, moment, agreed, teams)
         for user in users_of(all_tables).values():
             made.add(user)
         averages.write()
         replace_file(folder / "user.gz", listed("users", made.users), moment)
-        replace_file(folder / "team.gz", listed("teams", []), moment)
+        replace_file(folder / "team.gz", listed("teams", made.teams()), moment)
         replace_file(folder / "host.gz", listed("hosts", made.hosts), moment)
         replace_file(folder / "tables.xml", [made.totals().encode()])
     return Exported(made.count, len(made.users), len(made.hosts))

@@ -1,14 +1,27 @@
-"""Which users agreed to be named, and by which names. The bridge knows it: volunteers choose on its pages."""
+"""Which users agreed to be named, by which names, and their teams. The bridge knows it: volunteers choose on
+its pages."""
 import json
 import shutil
 import subprocess
 import sys
 from dataclasses import dataclass, field
+from typing import Any
 
 from .faults import Fault
 from .projects import Project
 
 SECONDS = 60.0
+
+
+@dataclass(frozen=True, slots=True)
+class Team:
+    """A team of users, who are given by their authenticators."""
+
+    number: int
+    name: str
+    created: int
+    founder: str
+    members: frozenset[str]
 
 
 @dataclass(frozen=True, slots=True)
@@ -18,6 +31,7 @@ class Volunteers:
     agreed: frozenset[str] = frozenset()  # the authenticators of those who agreed to be named
     # by authenticator; those of deleted accounts and of anonymous users, too
     names: dict[str, str] = field(default_factory=dict)
+    teams: tuple[Team, ...] = ()
 
 
 def command_of_bridge() -> list[str]:
@@ -46,9 +60,18 @@ def volunteers_of(project: Project) -> Volunteers:
     state = project.bridge_state
     if state is None or not state.exists():
         return Volunteers()
-    output = ask_bridge(["consented", "--config", str(project.bridge_file), "--json"])
-    rows = [json.loads(line) for line in output.splitlines()]
+    rows, teams = (rows_of(project, order) for order in ("consented", "teams"))
     return Volunteers(
         frozenset(row["authenticator"] for row in rows if row["is_agreed"]),
         {row["authenticator"]: row["name"] for row in rows},
+        tuple(
+            Team(row["number"], row["name"], row["created"], row["founder"], frozenset(row["members"]))
+            for row in teams
+        ),
     )
+
+
+def rows_of(project: Project, order: str) -> list[dict[str, Any]]:
+    """Returns the rows that a command of the project's bridge prints."""
+    output = ask_bridge([order, "--config", str(project.bridge_file), "--json"])
+    return [json.loads(line) for line in output.splitlines()]

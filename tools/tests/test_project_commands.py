@@ -13,6 +13,7 @@ from small_project import LIMITS, WORKUNITS, rows_of, tools
 from bsched_bridge.barring import Barring
 from bsched_bridge.members import Members, first_heard
 from bsched_bridge.state_file import StateFile
+from bsched_bridge.teams import Teams
 from bsched_tools import imports, projects
 from bsched_tools.faults import Fault
 from bsched_tools.import_files import read_import
@@ -281,6 +282,17 @@ def test_names_that_volunteers_chose(project: MadeProject, tmp_path: Path) -> No
     assert "4 users, 1 of them named, and 3 computers" in project.tools("statistics")[1]
     users = gzip.decompress((tmp_path / "stats" / "user.gz").read_bytes()).decode()
     assert "<name>anonymous</name>" in users and "Chosen" not in users
+    # their team has its name, and the credit of both
+    founder, other = (members.of_key(f"k{user}") for user in (1, 2))
+    assert founder is not None and other is not None
+    Teams(file).make(founder, "Summers", 3000)
+    Teams(file).join(other, "Summers")
+    assert project.tools("statistics")[0] == 0
+    users, teams = (
+        gzip.decompress((tmp_path / "stats" / name).read_bytes()).decode() for name in ("user.gz", "team.gz")
+    )
+    assert users.count("<teamid>1</teamid>") == 1
+    assert "<name>Summers</name>" in teams and "<nusers>2</nusers>" in teams
     file.close()
 
 

@@ -15,6 +15,7 @@ from small_project import SETTINGS, made_anew, make_tables, tools
 from bsched_tools import averages, exports, files
 from bsched_tools.faults import Fault
 from bsched_tools.members import agreed_in
+from bsched_tools.volunteers import Team
 
 DAY = 86400
 
@@ -115,6 +116,44 @@ def test_nobody_is_named_who_did_not_agree(tmp_path: Path, folder: Path) -> None
     assert {host["userid"] for host in read(folder, "host.gz") if "userid" in host} == {user["id"]}
     with pytest.raises(Fault, match="No such file"):
         agreed_in(tmp_path / "none")
+
+
+def test_teams_have_the_credit_of_their_members(tmp_path: Path, folder: Path) -> None:
+    path = stored_life(life_of(11, calls=600), tmp_path / "project.db")
+    exports.export([path], folder, None)
+    alone = {user["name"]: user for user in read(folder, "user.gz")}
+    assert read(folder, "team.gz") == [] and "teamid" not in alone["User 1"]
+    teams = (
+        Team(3, "Sum <b>mers", 1000, "user1", frozenset({"user1", "user2"})),
+        Team(7, "New", 2000, "nobody", frozenset({"nobody"})),
+    )
+    exports.export([path], folder, frozenset({"user1"}), teams=teams)
+    (user,) = read(folder, "user.gz")
+    assert (user["name"], user["teamid"]) == ("User 1", "3")
+    first, second = read(folder, "team.gz")
+    for column in ("total_credit", "expavg_credit"):
+        both = float(alone["User 1"][column]) + float(alone["User 2"][column])
+        assert float(first.pop(column)) == pytest.approx(both, abs=1e-5)
+    assert first == {
+        "id": "3",
+        "name": "Sum <b>mers",
+        "userid": user["id"],
+        "expavg_time": user["expavg_time"],
+        "nusers": "2",
+        "create_time": "1000",
+    }
+    # no member of the second has an account in the tables
+    assert (second["total_credit"], second["nusers"], "userid" in second) == ("0.000", "1", False)
+    assert totals(folder)["nteams_total"] == "2"
+
+
+def test_a_founder_is_named_with_consent_alone(tmp_path: Path, folder: Path) -> None:
+    path = stored_life(life_of(11), tmp_path / "project.db")
+    teams = (Team(1, "Summers", 1000, "user1", frozenset({"user1"})),)
+    exports.export([path], folder, frozenset(), teams=teams)
+    (team,) = read(folder, "team.gz")
+    assert team["name"] == "Summers" and "userid" not in team
+    assert read(folder, "user.gz") == []
 
 
 def test_several_files_are_summed_by_authenticator(tmp_path: Path, folder: Path) -> None:
