@@ -30,6 +30,7 @@ from .client_requests import ClientRequest, Report
 from .host_search import HostSearch, TooManySearches
 from .hosts import FIRST_KEY, Hosts, Key
 from .key_locks import Busy, KeyLocks
+from .measurements import End, Reports
 from .report_checks import ReportChecks
 from .scheduler import Job, NoAnswer, Refusal, Reply, Scheduler
 from .settings import HostRules
@@ -50,6 +51,7 @@ class PutOff:
     delay: int
     priority: str = "low"  # the client shows a "notice" to the volunteer
     is_down: bool = False  # the project is down: the client leaves all as it was, and asks again later
+    end: End = End.OTHER  # how the call is counted
 
 
 @dataclass(frozen=True, slots=True)
@@ -66,22 +68,33 @@ BUSY = "Another scheduler instance is running for this host."
 TOO_BUSY = "The project is busy at the moment."
 REFUSALS = {
     "bad_account": PutOff(
-        "Invalid or missing account key. To fix this, remove and add this project.", DAY, "notice"
+        "Invalid or missing account key. To fix this, remove and add this project.",
+        DAY,
+        "notice",
+        end=End.BAD_ACCOUNT,
     ),
-    "hosts_full": PutOff("This project takes no more computers.", DAY, "notice"),
-    "bad_member": PutOff("The project can't read what this computer says about itself.", DAY, "notice"),
-    "bad_json": PutOff("The project can't read this request.", HOUR),
-    "too_large": PutOff("This request is too large for the project.", HOUR),
+    "hosts_full": PutOff("This project takes no more computers.", DAY, "notice", end=End.HOSTS_FULL),
+    "bad_member": PutOff(
+        "The project can't read what this computer says about itself.", DAY, "notice", end=End.BAD_MEMBER
+    ),
+    "bad_json": PutOff("The project can't read this request.", HOUR, end=End.BAD_JSON),
+    "too_large": PutOff("This request is too large for the project.", HOUR, end=End.TOO_LARGE),
 }
 OTHER_REFUSAL = PutOff("The project's scheduler refused this request.", HOUR)
 COUNT_ENDED = PutOff(
     "This computer has called so often that the project has no number left for it. Remove and add it.",
     DAY,
     "notice",
+    end=End.COUNT_ENDED,
 )
-BARRED = PutOff("The project's operator has barred this account. Ask the operator why.", DAY, "notice")
+BARRED = PutOff(
+    "The project's operator has barred this account. Ask the operator why.", DAY, "notice", end=End.BARRED
+)
 DELETED = PutOff(
-    "This account was deleted. Remove the project, or join it with a new account.", DAY, "notice"
+    "This account was deleted. Remove the project, or join it with a new account.",
+    DAY,
+    "notice",
+    end=End.DELETED,
 )
 
 
@@ -99,6 +112,7 @@ def too_many_hosts(count: int) -> PutOff:
         "work here.",
         DAY,
         "notice",
+        end=End.TOO_MANY_HOSTS,
     )
 
 
@@ -136,12 +150,14 @@ class Exchange:
         archives: Archives,
         reports: ReportChecks | None = None,
         contact: str | None = None,
+        counted: Reports | None = None,
     ):
         self.hosts, self.numbers, self.scheduler, self.search = hosts, numbers, scheduler, search
         self.retry_delay, self.rules, self.barring, self.contact = retry_delay, rules, barring, contact
         self.reports = reports  # None if no application has output files
         self.import_again = import_again  # imports an account again that bsched has lost
         self.archives = archives
+        self.counted = counted or Reports()
         self._locks = KeyLocks(wait_seconds=2 * scheduler.answer_seconds)
 
     def answer(self, request: ClientRequest) -> Answered | PutOff:
@@ -166,11 +182,11 @@ class Exchange:
             with self._locks.held((request.authenticator, request.hostid, request.host_cpid)):
                 return self._of_unknown(request, known)
         except NoAnswer:
-            return PutOff(NO_ANSWER, self.retry_delay, is_down=True)
+            return PutOff(NO_ANSWER, self.retry_delay, is_down=True, end=End.NO_ANSWER)
         except Busy:
-            return PutOff(BUSY, self.retry_delay)
+            return PutOff(BUSY, self.retry_delay, end=End.BUSY)
         except TooManySearches:
-            return PutOff(TOO_BUSY, self.retry_delay)
+            return PutOff(TOO_BUSY, self.retry_delay, end=End.TOO_BUSY)
         except CountEnded:
             return COUNT_ENDED
 
@@ -230,7 +246,8 @@ class Exchange:
                 len(unheld),
             )
             notice = not_taken(unheld)
-            return PutOff(notice, HOUR, "notice") if aside is None else replace(aside, notice=notice)
+            put_off = PutOff(notice, HOUR, "notice", end=End.UNKNOWN_RESULTS)
+            return put_off if aside is None else replace(aside, notice=notice)
         acknowledged = aside.reply.result_ack if aside else []
         results = tuple(result for result in request.results if holders[result.name] == key)
         if len(results) + len(set(acknowledged)) < len(set(names_of(request.results))) and aside:
@@ -411,6 +428,7 @@ class Exchange:
             if isinstance(answer, Reply):
                 jobs = [] if request.other_results is None else answer.results
                 self.numbers.record_answer(key, answer, jobs, state, request.about)
+                self.counted.record(key, request.results)
                 return shown(answer, state.account, in_hand)
             refusal = answer
             self.numbers.record_refusal(key)

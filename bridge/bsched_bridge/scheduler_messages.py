@@ -1,6 +1,8 @@
 """Answers the scheduler_requests of clients: reads a request, and writes the reply to it."""
+import time
 from collections.abc import Callable, Iterable
 
+from werkzeug.exceptions import HTTPException
 from werkzeug.wrappers import Request, Response
 
 from .catalogue import Catalogue
@@ -10,6 +12,7 @@ from .exchange import HOUR, TOO_BUSY, Exchange, PutOff
 from .http_messages import XML, answer, blocks_of, length_of
 from .key_locks import Busy, KeyLocks
 from .limits import NoPlace, Places
+from .measurements import Calls, End
 from .recent_credit import Recent, RecentCredit
 from .request_parts import RequestFault
 
@@ -45,14 +48,28 @@ class SchedulerMessages:
         writer: ReplyWriter,
         recent: RecentCredit,
         places: Places,
+        calls: Calls | None = None,
     ) -> None:
         self.exchange, self.catalogue, self.writer = exchange, catalogue, writer
-        self.recent, self.places = recent, places
+        self.recent, self.places, self.calls = recent, places, calls or Calls()
         self.reader = RequestReader()
 
     def answer(self, message: Request) -> Response:
-        """Answers a scheduler_request. The client always gets a scheduler_reply. Of a request that is refused
-        the rest is read, too: a proxy may not read the answer before.
+        """Answers a scheduler_request, and counts it."""
+        end, began = End.FAILED, time.perf_counter()
+        try:
+            response, end = self._answered(message)
+            return response
+        except HTTPException:
+            end = End.UNREADABLE
+            raise
+        finally:
+            self.calls.record(end, time.perf_counter() - began)
+
+    def _answered(self, message: Request) -> tuple[Response, End]:
+        """Returns the answer to a scheduler_request, and how the call ends. The client always gets a
+        scheduler_reply. Of a request that is refused the rest is read, too: a proxy may not read the answer
+        before.
         """
         length = length_of(message, MOST_BYTES)
         blocks = blocks_of(message, length)
@@ -63,19 +80,20 @@ class SchedulerMessages:
                 request = catalogue.by_resource(asked)
                 answered = self.exchange.answer(request)
         except RequestFault as fault:
-            answered = PutOff(f"Error in request message: {fault}", HOUR)
+            answered = PutOff(f"Error in request message: {fault}", HOUR, end=End.UNREADABLE)
         except (Busy, NoPlace):
-            answered = PutOff(TOO_BUSY, self.exchange.retry_delay)
+            answered = PutOff(TOO_BUSY, self.exchange.retry_delay, end=End.TOO_BUSY)
         for _ in blocks:
             pass
         if isinstance(answered, PutOff):
-            return answer(XML, self.writer.put_off(answered))
+            return answer(XML, self.writer.put_off(answered)), answered.end
         reply = answered.reply
         recent = self._recent(request.authenticator, reply.hostid)
         if reply.results:
             catalogue = self.catalogue()  # it may have been edited meanwhile
         self.writer = writer = self.writer.with_catalogue(catalogue)
-        return answer(XML, writer.reply(request, reply, answered.hostid, answered.notice, recent))
+        body = writer.reply(request, reply, answered.hostid, answered.notice, recent)
+        return answer(XML, body), End.ANSWERED
 
     def _recent(self, authenticator: str, scheduler_hostid: int) -> Recent | None:
         """Returns the recent average credit that a reply has; None if the operator has no file of it."""

@@ -18,6 +18,7 @@ from werkzeug.wrappers import Request, Response
 
 from .http_messages import TEXT, answer, length_of
 from .limits import NoPlace, Places
+from .measurements import UploadCounts, UploadEnd
 from .settings import UploadSettings
 from .upload_store import NotNow, SentFile, UploadStore
 from .upload_tokens import UploadTokens
@@ -120,8 +121,9 @@ def most_body(settings: UploadSettings | None) -> int:
 class Uploads:
     """Answers the messages of uploads."""
 
-    def __init__(self, store: UploadStore, places: Places) -> None:
+    def __init__(self, store: UploadStore, places: Places, counts: UploadCounts | None = None) -> None:
         self.store, self.places, self.tokens = store, places, UploadTokens(store.secret)
+        self.counts = counts or UploadCounts()
 
     def answer(self, message: Request) -> Response:
         """Answers a message. It never has a status of HTTP from 400 on for what a client sends: the client
@@ -136,6 +138,7 @@ class Uploads:
                 raise NotNow("the message is not complete")
             return self._received(begin, stream, length)
         except BadMessage as fault:
+            self.counts.record(UploadEnd.REFUSED)
             log.warning("an upload is refused for good: %s", fault)
             return answer_of(NEVER, "The project refuses this file.")
         except NotNow as fault:
@@ -144,6 +147,7 @@ class Uploads:
             log.warning("an upload is put off: %s", "as many as possible are being received")
         except (OSError, sqlite3.Error) as fault:
             log.error("an upload is put off: %s", fault)
+        self.counts.record(UploadEnd.PUT_OFF)
         return answer_of(AGAIN, "The project can't take this file at the moment.")
 
     def _received(self, begin: bytes, stream: BinaryIO, length: int) -> Response:
@@ -161,4 +165,5 @@ class Uploads:
             raise NotNow("its length is not that of its head and its file")
         with self.places.taken(PLACE_SECONDS):
             self.store.receive(head.file, blocks_of(begin[head.length :], stream, head.file.nbytes))
+        self.counts.record(UploadEnd.RECEIVED, head.file.nbytes)
         return answer_of(DONE, "")
