@@ -17,7 +17,7 @@ from .exports import export
 from .faults import Fault
 from .files import replace_file
 from .handing import hand_on
-from .health import findings_of, mail_changes, worst_of
+from .health import findings_of, mail_changes, worst_of, write_findings
 from .history import History
 from .import_files import KINDS, ImportFile, checked
 from .imports import import_file
@@ -209,11 +209,17 @@ def report(args: Arguments) -> None:
 
 
 def health(args: Arguments) -> int:
-    """Prints what is found, and returns the level of the worst finding."""
+    """Prints what is found, and returns the level of the worst finding. The project's owner also keeps it for
+    the bridge. A full disk, for example, does not stop the mail about it."""
     project = project_named(args) or project_of(args.project)
     units = project.units()
     found = findings_of(project, units)
     print_lines(one.line for one in found)
+    if os.geteuid() == project.folder.stat().st_uid:
+        try:
+            write_findings(project, units, found)
+        except (Fault, OSError) as fault:
+            print(f"{NAME}: the bridge's board does not show this: {fault}", file=sys.stderr)
     if to := args.mail or units.mail:
         mail_changes(project, units, found, to)
     return worst_of(found)

@@ -188,11 +188,14 @@ def shown_by_systemd(unit: str, key: str) -> str | None:
     return completed.stdout.strip() if completed.returncode == 0 else None
 
 
+def copies_of(project: Project, settings: UnitSettings) -> list[Path]:
+    """Returns the copies of the tables, the newest one first."""
+    return copies_in(settings.copies, project.tables.stem) if settings.copies.is_dir() else []
+
+
 def newest_copy(project: Project, settings: UnitSettings) -> Path | None:
     """Returns the newest copy of the tables."""
-    if not settings.copies.is_dir():
-        return None
-    return next(iter(copies_in(settings.copies, project.tables.stem)), None)
+    return next(iter(copies_of(project, settings)), None)
 
 
 def copy(project: Project, settings: UnitSettings) -> Iterator[Finding]:
@@ -260,6 +263,28 @@ def findings_of(project: Project, settings: UnitSettings) -> list[Finding]:
 def worst_of(found: Iterable[Finding]) -> Level:
     """Returns the worst level."""
     return max((one.level for one in found), key=lambda level: level.badness, default=Level.UNKNOWN)
+
+
+# ---- For the bridge
+
+
+def write_findings(project: Project, settings: UnitSettings, found: Iterable[Finding]) -> None:
+    """Writes what was found, and how old the copies are, for the operator's board: the bridge may not look at
+    them itself."""
+    copies = copies_of(project, settings)
+    fields = {
+        "moment": int(time.time()),
+        "findings": [
+            {"check": one.check, "level": one.level.name.lower(), "text": one.text} for one in found
+        ],
+        "copies": {
+            "count": len(copies),
+            "oldest": moment_of(copies[-1]) if copies else None,
+            "newest": moment_of(copies[0]) if copies else None,
+        },
+    }
+    path = project.made(project.work, 0o700) / "findings.json"
+    replace_file(path, [json.dumps(fields).encode()], mode=0o600)
 
 
 # ---- Mail

@@ -1,9 +1,11 @@
 """Tests `health`: each check good and bad, its status, and the mail of what changed."""
 import os
+import shutil
 import ssl
 import subprocess
 import threading
 import time
+from argparse import Namespace
 from collections.abc import Iterator
 from contextlib import contextmanager
 from http.server import BaseHTTPRequestHandler, ThreadingHTTPServer
@@ -12,10 +14,13 @@ from pathlib import Path
 import pytest
 from made_project import SETTINGS, MadeProject
 
+from bsched_bridge.tool_files import read_findings
+from bsched_tools import __main__ as main
 from bsched_tools import health
 from bsched_tools.faults import Fault
 from bsched_tools.health import Finding, Level
 from bsched_tools.projects import Project
+from bsched_tools.tables import moment_of
 
 
 class Bridge(BaseHTTPRequestHandler):
@@ -230,3 +235,45 @@ def test_mail_of_changes(made: MadeProject, tmp_path: Path, monkeypatch: pytest.
     )
     assert mailed(good) and not mailed(good)
     assert sent.read_text().count("Subject: ") == 2
+
+
+# ---- For the bridge
+
+
+def test_what_the_bridge_reads(made: MadeProject) -> None:
+    (copy,) = (made.folder / "copies").iterdir()
+    older = copy.with_name("project-20260101T000000.000Z.db")
+    shutil.copy(copy, older)
+    before = int(time.time())
+    assert made.tools("health")[2] == ""
+    path = made.folder / "units" / "findings.json"
+    kept = read_findings(path)
+    assert kept is not None and before <= kept.moment <= time.time()
+    levels = {one.check: one.level for one in kept.findings}
+    assert (levels["scheduler"], levels["copy"], levels["limits"]) == ("good", "good", "good")
+    assert next(one.text for one in kept.findings if one.check == "copy").startswith("the newest one is ")
+    assert (kept.copies, kept.newest_copy, kept.oldest_copy) == (2, moment_of(copy), 1_767_225_600)
+    assert path.stat().st_mode & 0o777 == 0o600
+    for one in (copy, older):
+        one.unlink()
+    made.tools("health")
+    kept = read_findings(path)
+    assert kept is not None and (kept.copies, kept.newest_copy, kept.oldest_copy) == (0, None, None)
+
+
+def test_findings_that_can_not_be_kept(made: MadeProject) -> None:
+    """They are printed all the same, and the status stays."""
+    made.end()
+    (made.folder / "units").write_text("no folder")
+    status, output, fault = made.tools("health")
+    assert status == 2 and output.startswith("critical  scheduler")
+    assert fault.count("\n") == 1 and "the bridge's board does not show this: " in fault
+
+
+def test_another_user_keeps_nothing(made: MadeProject, monkeypatch: pytest.MonkeyPatch) -> None:
+    """Whoever is in the project's group may look, and may not write."""
+    monkeypatch.setattr("bsched_tools.__main__.os.geteuid", lambda: made.folder.stat().st_uid + 1)
+    monkeypatch.setattr("bsched_tools.__main__.project_named", lambda _args: Project(made.folder))
+    args = Namespace(project=str(made.folder), mail=None, command="health")
+    assert main.health(args) in (Level.GOOD, Level.WARNING, Level.CRITICAL)
+    assert not (made.folder / "units").exists()
