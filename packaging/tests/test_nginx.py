@@ -7,6 +7,7 @@ import ssl
 import subprocess
 import threading
 import time
+from base64 import b64encode
 from collections.abc import Iterator
 from contextlib import contextmanager
 from http.server import BaseHTTPRequestHandler, ThreadingHTTPServer
@@ -61,10 +62,13 @@ def test_what_has_no_files(machine: Machine) -> None:
 
 
 class Bridge(BaseHTTPRequestHandler):
-    """Stands for a bridge: answers with its name, the path, and the address that nginx gives."""
+    """Stands for a bridge: answers with its name, the path, and the address that nginx gives. It gets no
+    password.
+    """
 
     def do_GET(self) -> None:
         """Answers."""
+        assert self.headers["Authorization"] is None
         body = f"{self.connection.getsockname()[1]} {self.path} {self.headers['X-Real-IP']}".encode()
         self.send_response(200)
         self.send_header("content-length", str(len(body)))
@@ -128,9 +132,11 @@ def served(folder: Path, files: list[Path], ports: dict[int, int]) -> Iterator[N
         process.wait(30)
 
 
-def asked(connection: http.client.HTTPConnection, host: str, path: str) -> tuple[int, str]:
+def asked(
+    connection: http.client.HTTPConnection, host: str, path: str, fields: dict[str, str] | None = None
+) -> tuple[int, str]:
     """Returns the status of an answer, and where it leads or what it says."""
-    connection.request("GET", path, headers={"Host": host})
+    connection.request("GET", path, headers={"Host": host, **(fields or {})})
     response = connection.getresponse()
     body = response.read().decode()
     connection.close()
@@ -163,3 +169,37 @@ def test_two_projects_by_nginx(machine: Machine, tmp_path: Path) -> None:
             for page in ("/project/status", "/project/get_passwd.php"):
                 assert asked(tls, "sums.example", page) == (200, f"{first} {page} 127.0.0.1")
             assert asked(tls, "others.example", "/status") == (200, f"{second} /status 127.0.0.1")
+            for path in ("board", "metrics", "%62oard", "../operator/board"):  # the operator's, for nobody
+                assert asked(tls, "sums.example", f"/project/operator/{path}")[0] == 404
+                assert asked(tls, "others.example", f"/operator/{path}")[0] == 404
+
+
+def with_board(locations: Path, passwords: Path) -> None:
+    """Lets the lines pass on the operator's messages, as their comment says, with a file of passwords."""
+    text = locations.read_text()
+    before, begin, rest = text.partition("location /project/operator/ {\n    return 404;\n")
+    inside, end, after = rest.partition("}\n")
+    assert begin and end
+    lines = inside.replace("    # ", "    ").replace("/etc/nginx/sums.htpasswd", str(passwords))
+    locations.write_text(before + begin.replace("    return 404;\n", "") + lines + end + after)
+
+
+@pytest.mark.skipif(NGINX is None, reason="nginx is not installed")
+def test_the_operators_board_with_a_password(machine: Machine, tmp_path: Path) -> None:
+    """The bridge gets neither an address nor the password."""
+    sums = written(machine, "sums", URL)
+    folder, port, tls_port = tmp_path / "nginx", free_port(), free_port()
+    folder.mkdir()
+    with_board(sums / "locations.conf", folder / "passwords")
+    (folder / "passwords").write_text("olga:{PLAIN}secret\n")
+    files = [sums / "limits.conf", sums / "locations.conf", sums / "site.conf"]
+    with bridge() as first, served(folder, files, {80: port, 443: tls_port, 8081: first}):
+        context = ssl.create_default_context()
+        context.check_hostname, context.verify_mode = False, ssl.CERT_NONE
+        tls = http.client.HTTPSConnection("127.0.0.1", tls_port, context=context, timeout=30)
+        path = "/project/operator/board"
+        assert asked(tls, "sums.example", path)[0] == 401
+        wrong = {"Authorization": f"Basic {b64encode(b'olga:wrong').decode()}"}
+        assert asked(tls, "sums.example", path, wrong)[0] == 401
+        right = {"Authorization": f"Basic {b64encode(b'olga:secret').decode()}", "X-Real-IP": "192.0.2.1"}
+        assert asked(tls, "sums.example", path, right) == (200, f"{first} {path} None")
