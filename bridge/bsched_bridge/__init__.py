@@ -60,6 +60,15 @@ templates        Jinja2's templates, in the folder templates/, with one style sh
 pictures         the project's picture, and plots of the last month
 texts            numbers and moments as people read them
 
+What the operator sees goes through these:
+
+measurements     how calls, reports and uploads end, and how long answers take, in memory
+scheduler_probe  whether bsched answers
+tool_files       what the tools and systemd leave for the bridge to read
+overview         all that is known at one moment
+metrics          the same for Prometheus
+board            the same as a page, with forms
+
 Requests and accounts keep their rows in the state_file, in SQLite. downloads sends files. The other modules
 are settings, host_rules (settings that are read again), limits, operator_files (TOML with the lines of its
 faults), http_messages (by Werkzeug), code_signing, recent_credit, preferences (of users, for their clients),

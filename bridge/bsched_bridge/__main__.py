@@ -117,7 +117,7 @@ def serve(path: Path, only_check: bool, other_catalogue: Path | None = None) -> 
         connection_limit=MOST_CONNECTIONS,
         max_request_body_size=max(client_requests.MOST_BYTES, most_body(settings.uploads)),
         ident="bsched_bridge",
-        clear_untrusted_proxy_headers=True,
+        clear_untrusted_proxy_headers=False,  # by them it sees what a proxy passes on
     )
 
 

@@ -12,6 +12,7 @@ from .account_pages import AccountPages
 from .accounts import AccountPlaces, Accounts
 from .archives import read_archives
 from .barring import Barring
+from .board import Board
 from .call_numbers import CallNumbers
 from .catalogue import Catalogue
 from .client_replies import ReplyWriter
@@ -24,17 +25,21 @@ from .handed_out import HandedOut
 from .host_rules import HostRuleReader
 from .host_search import HostSearch
 from .hosts import Hosts
-from .http_messages import TEXT, XML, Message, answer, log_fault, plain_answer
+from .http_messages import TEXT, XML, Message, answer, is_of_this_machine, log_fault, plain_answer
 from .limits import Places
+from .measurements import Measurements
 from .members import Members
+from .metrics import Metrics
+from .overview import Overviews
 from .pages import Pages
 from .passwords import Passwords
 from .pictures import Pictures
 from .recent_credit import RecentCredit
 from .report_checks import ReportChecks
-from .routes import FORMS, Route, Routes
+from .routes import FORMS, Handler, Route, Routes
 from .scheduler import Scheduler
 from .scheduler_messages import SchedulerMessages
+from .scheduler_probe import SchedulerProbe
 from .settings import HostRules, Settings, read_settings
 from .state_file import StateFile
 from .statements import Statements
@@ -69,12 +74,14 @@ class Application:
         self.current = current = (lambda: catalogue) if isinstance(catalogue, Catalogue) else catalogue
         key, archives, barring = settings.operator_key, read_archives(settings.archives), Barring(file)
         hosts, self.members, recent = Hosts(file), Members(file), RecentCredit(settings.averages)
+        self.file, self.rules = file, rules or (lambda: settings.host_rules)
+        self.measurements = measured = Measurements()
         self.teams, self.directory = Teams(file), Directory(file)
         half = max(1, settings.threads // 2)
         self.places = Places(max(1, settings.threads - KEPT_THREADS))
         self.account_places = AccountPlaces(Places(half, self.places))
         self.upload_places = Places(half, self.places)
-        self.uploads = None if store is None else Uploads(store, self.upload_places)
+        self.uploads = None if store is None else Uploads(store, self.upload_places, measured.uploads)
         self.downloads = Downloads(current, Places(half, self.places), settings.retry_delay)
         self.accounts: Accounts | None = None
         if settings.accounts is not None and key is not None:
@@ -89,19 +96,22 @@ class Application:
             CallNumbers(file),
             scheduler,
             settings.retry_delay,
-            rules or (lambda: settings.host_rules),
+            self.rules,
             HostSearch(hosts, scheduler, key),
             barring,
             self.accounts.import_again if self.accounts else lambda _authenticator: False,
             archives,
             reports,
             settings.contact,
+            measured.reports,
         )
         tokens = None if store is None else UploadTokens(store.secret)
         self.writer = ReplyWriter(
             current(), settings.name, settings.url, tokens, has_accounts=self.accounts is not None
         )
-        self.requests = SchedulerMessages(self.exchange, current, self.writer, recent, self.places)
+        self.requests = SchedulerMessages(
+            self.exchange, current, self.writer, recent, self.places, measured.calls
+        )
         self.statements = Statements(hosts, self.members, scheduler, key, settings.counts, archives, recent)
         self.templates = Templates(settings)
         self.pictures = Pictures(settings)
@@ -109,7 +119,8 @@ class Application:
         self.volunteers = VolunteerPages(
             settings, self.templates, self.directory, CreditDays(file), self.statements, self.teams
         )
-        self.routes = Routes(settings.path, [*self._routes(), *self._account_routes()])
+        routes = [*self._routes(), *self._account_routes(), *self._operator_routes()]
+        self.routes = Routes(settings.path, routes)
 
     @property
     def catalogue(self) -> Catalogue:
@@ -157,6 +168,29 @@ class Application:
             Route("delete_account.php", people.delete, FORMS),
             Route("terms", people.terms),
         ]
+
+    def _operator_routes(self) -> list[Route]:
+        """Returns what answers at the operator's URLs. They do not exist for messages from elsewhere."""
+        settings, key = self.settings, self.settings.operator_key
+        probe = SchedulerProbe(self.scheduler, key)
+        overviews = Overviews(settings, self.file, self.store, self.measurements, probe)
+        routes = [Route("operator/metrics", self._for_operator(Metrics(overviews).answer))]
+        if key is not None:
+            board = Board(
+                settings, key, self.templates, overviews, self.directory, self.statements, self.rules
+            )
+            routes.append(Route("operator/board", self._for_operator(board.answer), FORMS))
+        return routes
+
+    def _for_operator(self, handler: Handler) -> Handler:
+        """Returns a handler that answers messages of this machine alone."""
+        field = self.settings.accounts.address_field if self.settings.accounts else None
+
+        def handle(message: Request) -> Response:
+            is_near = is_of_this_machine(message, field)
+            return handler(message) if is_near else self.pages.not_found()
+
+        return handle
 
     def __call__(self, environ: WSGIEnvironment, start_response: StartResponse) -> Iterable[bytes]:
         """Answers a message (PEP 3333)."""

@@ -171,6 +171,12 @@ class Directory:
         query = f"{COMPUTER} WHERE {CALLED} AND host.authenticator = ? ORDER BY heard_at DESC, hostid DESC"
         return list(map(computer_of, self.file.looked(f"{query} LIMIT ?", user.authenticator, most)))
 
+    def computer_of_key(self, authenticator: str, host_cpid: str) -> Computer | None:
+        """Returns the computer under a key of bsched, if its client was told a number."""
+        found = f"{CALLED} AND host.authenticator = ? AND host_cpid = ?"
+        rows = self.file.looked(f"{COMPUTER} WHERE {found}", authenticator, host_cpid)
+        return computer_of(rows[0]) if rows else None
+
     def computer(self, number: int) -> Computer | None:
         """Returns the computer with a number, if it has had a reply."""
         rows = self.file.looked(f"{COMPUTER} WHERE {CALLED} AND hostid = ?", number)

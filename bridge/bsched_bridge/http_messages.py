@@ -23,6 +23,8 @@ from werkzeug.exceptions import (
 from werkzeug.formparser import FormDataParser
 from werkzeug.wrappers import Request, Response
 
+from .limits import is_loopback
+
 XML, HTML, TEXT = "text/xml; charset=utf-8", "text/html; charset=utf-8", "text/plain; charset=utf-8"
 CSS = "text/css; charset=utf-8"
 BYTES = "application/octet-stream"
@@ -49,6 +51,8 @@ MOST_FORM, MOST_FIELDS = 16_384, 32  # bytes of a form, fields of a form or a qu
 NO_STORE = {"Cache-Control": "no-store"}
 # for what has a hash of its content in its URL
 FOR_GOOD = {"Cache-Control": "public, max-age=31536000, immutable"}
+# fields that a proxy adds to a message of somebody else
+PROXY_FIELDS = ("Forwarded", "Via", "X-Forwarded-For", "X-Forwarded-Host", "X-Real-IP")
 # fields that browsers add to a message, and BOINC's client does not
 BROWSER_FIELDS = ("Origin", "Referer", "Sec-Fetch-Site")
 
@@ -108,6 +112,14 @@ def refuse_other_sites(message: Request, url: str) -> None:
         is_own = site in ("same-origin", "none")
     if not is_own:
         raise Forbidden
+
+
+def is_of_this_machine(message: Request, address_field: str | None) -> bool:
+    """Returns whether a program on this machine sent a message, and did not pass it on as a proxy. A proxy
+    leaves the fields out only where the operator lets it pass on the operator's own messages.
+    """
+    fields = PROXY_FIELDS if address_field is None else (*PROXY_FIELDS, address_field)
+    return is_loopback(message.remote_addr or "") and not any(name in message.headers for name in fields)
 
 
 def length_of(message: Request, most: int | None = None) -> int:

@@ -18,13 +18,12 @@ from typing import TypeVar
 from .barring import Barred, Barring
 from .hosts import HeardHost, Hosts
 from .members import Member, Members
-from .settings import Settings, read_settings
+from .settings import PROJECTS, Settings, read_settings
 from .state_file import StateFile
 from .teams import MOST_TEAMS, Team, Teams
 from .texts import credits_text, moment_text
 from .words import shown_key
 
-PROJECTS = Path("/var/lib/bsched")
 COPY_ENDING = ".state"
 LEAST_KEY = 6  # characters of a key that name an account
 MOST_HOSTS = 1000
@@ -78,6 +77,11 @@ def open_state(args: argparse.Namespace) -> State:
     if not settings.state.exists():
         raise OrderFault(f"{settings.state}: there is none: the bridge makes it at its first start")
     file = StateFile(settings.state, is_guest=True)
+    return state_of(settings, file)
+
+
+def state_of(settings: Settings, file: StateFile) -> State:
+    """Returns a state file with what the commands need of it."""
     return State(settings, file, Members(file), Hosts(file), Barring(file), Teams(file))
 
 
@@ -208,20 +212,30 @@ def as_csv(rows: Iterable[tuple[str, str]]) -> Iterator[str]:
 
 def bar(state: State, args: argparse.Namespace) -> Iterator[str]:
     """Bars an account. A bridge that runs refuses its next call."""
-    member = state.find(args.account)
+    yield bar_account(state, args.account)
+
+
+def bar_account(state: State, name: str) -> str:
+    """Bars the account that somebody names, and returns what it is now."""
+    member = state.find(name)
     state.barring.bar(member.authenticator, int(time.time()))
-    yield f"{member.name} ({shown_key(member.authenticator)}) is {state.barred(member)}"
+    return f"{member.name} ({shown_key(member.authenticator)}) is {state.barred(member)}"
 
 
 def unbar(state: State, args: argparse.Namespace) -> Iterator[str]:
     """Ends the barring of an account."""
-    member = state.find(args.account)
+    yield unbar_account(state, args.account)
+
+
+def unbar_account(state: State, name: str) -> str:
+    """Ends the barring of the account that somebody names, and returns what it is now."""
+    member = state.find(name)
     if state.barring.reason(member.authenticator) is Barred.DELETED:
         raise OrderFault("the account was deleted, and its user can make another one")
     if member.authenticator in state.settings.host_rules.barred:
         raise OrderFault("the key is in the list `barred` of bridge.toml: remove it there")
     state.barring.unbar(member.authenticator)
-    yield f"{member.name} ({shown_key(member.authenticator)}) is not barred"
+    return f"{member.name} ({shown_key(member.authenticator)}) is not barred"
 
 
 def is_agreed(question: str) -> bool:

@@ -7,6 +7,7 @@ from urllib.parse import urlsplit
 
 from .operator_files import Entry, OperatorFile
 
+PROJECTS = Path("/var/lib/bsched")
 FIELD_NAME = re.compile("[A-Za-z][A-Za-z0-9-]{0,63}")
 LEAST_KEPT_DAYS = 7  # a client whose reply was lost reports a result again within this time
 MOST_CONTACT = 200  # characters
@@ -85,6 +86,8 @@ class Settings:
     picture: Path | None = None  # of the project, for its page
     picture_text: str = ""  # the same for those who do not see it
     plots: Path | None = None  # the folder of plots that `bsched-tools report` makes
+    health: Path | None = None  # a file with what `bsched-tools health` found last
+    project: str | None = None  # the name of the project of bsched-project, if the file is in its folder
 
     @property
     def path(self) -> str:
@@ -228,6 +231,12 @@ def archive_paths(file: Entry) -> tuple[Path, ...]:
     return tuple(paths)
 
 
+def project_of(path: Path) -> str | None:
+    """Returns the name of the project of bsched-project whose bridge has a file of settings, or None."""
+    folder = path.resolve().parent
+    return folder.parent.name if folder == PROJECTS / folder.parent.name / "bridge" else None
+
+
 def read_settings(path: Path) -> Settings:
     """Reads the settings from a file. Paths in it are relative to its folder."""
     file = OperatorFile(path)
@@ -256,6 +265,8 @@ def read_settings(path: Path) -> Settings:
         picture=picture,
         picture_text=picture_text,
         plots=path.parent / file.text("plots") if "plots" in file.members else None,
+        health=path.parent / file.text("health") if "health" in file.members else None,
+        project=project_of(path),
     )
     if not settings.name.strip() or not settings.name.isprintable():
         file.fault("name is empty, or has a character that can't be printed", "name")

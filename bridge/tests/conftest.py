@@ -8,6 +8,7 @@ from typing import Any
 
 import pytest
 from bridges import ACCOUNTS, Bridge, new_project
+from tool_outputs import KEYS, write_tool_outputs
 from twin import Twin
 
 from bsched_bridge.code_signing import new_key
@@ -94,6 +95,21 @@ def file_project(project: Path) -> Path:
 def file_bridge(file_project: Path, twin: Twin, monkeypatch: pytest.MonkeyPatch) -> Iterator[Bridge]:
     """A bridge of an application with output files."""
     monkeypatch.setattr("bsched_bridge.scheduler.PAUSE_SECONDS", 0.0)
+    twin.statement = None
+    made = Bridge(file_project, twin)
+    yield made
+    made.close()
+
+
+@pytest.fixture
+def full_bridge(file_project: Path, twin: Twin, monkeypatch: pytest.MonkeyPatch) -> Iterator[Bridge]:
+    """A bridge of a project of bsched-project, with accounts, output files, and what the tools wrote."""
+    monkeypatch.setattr("bsched_bridge.settings.project_of", lambda _path: "sums")
+    monkeypatch.setattr("bsched_bridge.tool_files.STAMPS", file_project / "timers")
+    monkeypatch.setattr("bsched_bridge.scheduler.PAUSE_SECONDS", 0.0)
+    write_tool_outputs(file_project)
+    settings = file_project / "bridge.toml"
+    settings.write_text(KEYS + settings.read_text() + ACCOUNTS)
     twin.statement = None
     made = Bridge(file_project, twin)
     yield made

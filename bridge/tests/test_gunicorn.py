@@ -71,6 +71,15 @@ def served(project: Path, twin: Twin) -> Iterator[tuple[int, "subprocess.Popen[s
         process.communicate(timeout=60)
 
 
+def test_the_operators_pages_are_for_this_machine(project: Path, twin: Twin) -> None:
+    with served(project, twin) as (port, _):
+        for path in ("board", "metrics"):
+            head = f"GET /p/operator/{path} {HEAD}"
+            assert exchanged(port, f"{head}\r\n").startswith(b"HTTP/1.1 200")
+            for field in ("X-Real-IP: 192.0.2.1", "x-forwarded-for:", "Forwarded: for=192.0.2.1"):
+                assert exchanged(port, f"{head}{field}\r\n\r\n").startswith(b"HTTP/1.1 404")
+
+
 @pytest.mark.parametrize(
     "fields, status",
     [

@@ -272,6 +272,7 @@ def test_a_real_project_has_no_accounts(machine: Machine) -> None:
         "counts": "../units/counts.json",
         "averages": "../units/averages.json",
         "plots": "../units/plots",
+        "health": "../units/findings.json",
         "accounts": {"most_a_day": 100, "address_field": "X-Real-IP"},
         "uploads": {"folder": "uploads", "most_bytes": 50_000_000_000},
     }

@@ -1,0 +1,115 @@
+"""All that the operator's board and the metrics show of one moment, read from where it is."""
+import shutil
+import time
+from dataclasses import dataclass
+from pathlib import Path
+from typing import cast
+
+from .measurements import Measurements
+from .members import DAY, MADE_BETWEEN
+from .scheduler_probe import Probe, SchedulerProbe
+from .settings import Settings
+from .state_file import StateFile
+from .tool_files import Findings, Limit, Timer, read_findings, read_limits, timers_of
+from .upload_store import UploadStore
+
+OPEN_CALLS = "SELECT count(*) FROM host WHERE open_call IS NOT NULL"
+OPEN_IMPORTS = "SELECT count(*) FROM member WHERE is_imported = 0"
+PENDING = "SELECT count(*) FROM upload"
+
+
+@dataclass(frozen=True, slots=True)
+class Disk:
+    """The room of the disk of a folder, in bytes."""
+
+    folder: Path
+    free: int
+    total: int
+
+
+@dataclass(frozen=True, slots=True)
+class Uploads:
+    """What the folder of uploads has."""
+
+    pending: int  # files whose results are not reported yet
+    room: Limit  # bytes of all files
+
+
+@dataclass(frozen=True, slots=True)
+class Overview:
+    """What is known at one moment."""
+
+    moment: float
+    scheduler: Probe
+    silent_since: float | None  # since when bsched gives no answer
+    open_calls: int  # that have no answer yet
+    open_imports: int  # of accounts, likewise
+    disks: dict[str, Disk]  # by what the bridge has there
+    uploads: Uploads | None  # None without [uploads]
+    new_accounts: Limit | None  # in 24 hours; None without [accounts]
+    limits: dict[str, Limit]  # of the tables
+    findings: Findings | None  # of bsched-tools health
+    timers: list[Timer]
+
+
+def disk_of(folder: Path) -> Disk:
+    """Returns the room of a folder's disk."""
+    usage = shutil.disk_usage(folder)
+    return Disk(folder, usage.free, usage.total)
+
+
+class Overviews:
+    """Reads overviews. Calls don't wait for it: it reads the state file as pages do."""
+
+    def __init__(
+        self,
+        settings: Settings,
+        file: StateFile,
+        store: UploadStore | None,
+        measurements: Measurements,
+        probe: SchedulerProbe,
+    ) -> None:
+        self.settings, self.file, self.store = settings, file, store
+        self.measurements, self.probe = measurements, probe
+
+    def _count(self, query: str, *values: object) -> int:
+        """Returns a number of rows."""
+        return cast(int, self.file.looked(query, *values)[0][0])
+
+    def read(self) -> Overview:
+        """Returns what is known now."""
+        settings, now = self.settings, time.time()
+        probe = self.probe.latest()
+        return Overview(
+            now,
+            probe,
+            self.probe.scheduler.silent_since,
+            self._count(OPEN_CALLS),
+            self._count(OPEN_IMPORTS),
+            self._disks(),
+            None if self.store is None else uploads_of(self.store),
+            self._new_accounts(int(now)),
+            read_limits(settings.counts),
+            read_findings(settings.health),
+            timers_of(settings.project, now),
+        )
+
+    def _disks(self) -> dict[str, Disk]:
+        """Returns the disks that the bridge writes to."""
+        disks = {"state": disk_of(self.settings.state.parent)}
+        if self.store is not None:
+            disks["uploads"] = disk_of(self.store.settings.folder)
+        return disks
+
+    def _new_accounts(self, now: int) -> Limit | None:
+        """Returns how many accounts volunteers made in 24 hours, and how many they may make."""
+        accounts = self.settings.accounts
+        if accounts is None:
+            return None
+        return Limit(self._count(MADE_BETWEEN, now - DAY, now), accounts.most_a_day)
+
+
+def uploads_of(store: UploadStore) -> Uploads:
+    """Returns what the folder of uploads has."""
+    row = store.tables.row(PENDING)
+    return Uploads(cast(int, row[0]) if row else 0, Limit(store.tables.used(), store.settings.most_bytes))
