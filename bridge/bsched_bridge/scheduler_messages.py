@@ -9,6 +9,7 @@ from .client_requests import MOST_BYTES, ClientRequest, read_request
 from .exchange import HOUR, TOO_BUSY, Exchange, PutOff
 from .http_messages import XML, answer, blocks_of, length_of
 from .key_locks import Busy, KeyLocks
+from .languages import gettext_lazy, language_of
 from .limits import NoPlace, Places
 from .recent_credit import Recent, RecentCredit
 from .request_parts import RequestFault
@@ -54,7 +55,7 @@ class SchedulerMessages:
         """Answers a scheduler_request. The client always gets a scheduler_reply. Of a request that is refused
         the rest is read, too: a proxy may not read the answer before.
         """
-        length = length_of(message, MOST_BYTES)
+        length, language = length_of(message, MOST_BYTES), language_of(message)
         blocks = blocks_of(message, length)
         try:
             with self.places.taken(0.0 if self.exchange.scheduler.is_slow else PLACE_SECONDS):
@@ -63,19 +64,20 @@ class SchedulerMessages:
                 request = catalogue.by_resource(asked)
                 answered = self.exchange.answer(request)
         except RequestFault as fault:
-            answered = PutOff(f"Error in request message: {fault}", HOUR)
+            answered = PutOff(gettext_lazy("Error in request message: %(why)s", why=fault.text), HOUR)
         except (Busy, NoPlace):
             answered = PutOff(TOO_BUSY, self.exchange.retry_delay)
         for _ in blocks:
             pass
         if isinstance(answered, PutOff):
-            return answer(XML, self.writer.put_off(answered))
+            return answer(XML, self.writer.put_off(answered, language))
         reply = answered.reply
         recent = self._recent(request.authenticator, reply.hostid)
         if reply.results:
             catalogue = self.catalogue()  # it may have been edited meanwhile
         self.writer = writer = self.writer.with_catalogue(catalogue)
-        return answer(XML, writer.reply(request, reply, answered.hostid, answered.notice, recent))
+        body = writer.reply(request, reply, answered.hostid, answered.notice, recent, language)
+        return answer(XML, body)
 
     def _recent(self, authenticator: str, scheduler_hostid: int) -> Recent | None:
         """Returns the recent average credit that a reply has; None if the operator has no file of it."""
