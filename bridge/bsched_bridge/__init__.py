@@ -59,6 +59,7 @@ statements       the status of hosts and users, by bsched's statements
 templates        Jinja2's templates, in the folder templates/, with one style sheet
 pictures         the project's picture, and plots of the last month
 texts            numbers and moments as people read them
+languages        the language of a reader, and the translations in the folder locale/
 
 What the operator sees goes through these:
 

@@ -15,6 +15,7 @@ from .accounts import AccountFault, AccountPlaces, Accounts, Fault
 from .catalogue import Catalogue
 from .client_replies import add, written
 from .http_messages import NO_STORE, XML, answer, log_fault, query_of, refuse_browsers
+from .languages import ENGLISH, Language, language_of
 from .limits import is_loopback, network_of
 from .plan_classes import split
 from .scheduler import NoAnswer, Scheduler
@@ -71,11 +72,13 @@ def account_out(authenticator: str) -> bytes:
     return written(root)
 
 
-def account_error(fault: Fault) -> bytes:
-    """Returns the XML that says why there is no account."""
+def account_error(fault: Fault, language: Language = ENGLISH) -> bytes:
+    """Returns the XML that says why there is no account. The client acts on the number, and the Manager shows
+    the text.
+    """
     root = Element("error")
     add(root, "error_num", fault.number)
-    add(root, "error_msg", fault.text)
+    add(root, "error_msg", language.text(fault.text))
     return written(root)
 
 
@@ -119,7 +122,7 @@ class AccountMessages:
         except Exception as error:
             log_fault(error)
             fault = Fault.NO_ANSWER
-        return answer(XML, account_error(fault), NO_STORE)
+        return answer(XML, account_error(fault, language_of(message)), NO_STORE)
 
     def _create(self, message: Request, fields: dict[str, str]) -> str:
         """Makes an account and returns its key."""

@@ -14,6 +14,7 @@ from werkzeug.wrappers import Request, Response
 from .account_messages import LEAST_PASSWORD, client_of
 from .accounts import AccountFault, AccountPlaces, Accounts, Fault, clean_name, is_email
 from .http_messages import form_of, query_of, refuse_other_sites
+from .languages import Language, Text, gettext_lazy, gettext_noop, language_of
 from .members import Member
 from .passwords import client_hash
 from .preferences import PreferenceFault, read_preferences, typed
@@ -29,10 +30,11 @@ MOST_PASSWORD = 1000  # characters
 
 @dataclass
 class Form:
-    """The fields that a form sent, and what is wrong with each of them."""
+    """The fields that a form sent, and what is wrong with each of them, in the language of its page."""
 
+    language: Language
     fields: dict[str, str] = field(default_factory=dict)
-    faults: dict[str, str] = field(default_factory=dict)
+    faults: dict[str, Text | str] = field(default_factory=dict)
 
     def text(self, name: str) -> str:
         """Returns what was typed into a field, without leading and trailing blanks."""
@@ -40,7 +42,12 @@ class Form:
 
     def without(self, name: str) -> "Form":
         """Returns the form without the text of a field."""
-        return Form({key: text for key, text in self.fields.items() if key != name}, self.faults)
+        fields = {key: text for key, text in self.fields.items() if key != name}
+        return Form(self.language, fields, self.faults)
+
+    def emptied(self, **faults: Text | str) -> "Form":
+        """Returns an empty form on a page of the same language."""
+        return Form(self.language, faults=faults)
 
 
 class AccountPages:
@@ -60,14 +67,14 @@ class AccountPages:
         self._field = settings.accounts.address_field if settings.accounts else None
         self._is_name_told = settings.accounts is not None and settings.accounts.is_name_told
 
-    def _page(self, template: str, /, **values: Any) -> Response:
+    def _page(self, template: str, sent: Form, /, **values: Any) -> Response:
         """Returns a page that may show a key, so browsers don't keep it."""
-        return self.templates.page(template, is_kept=False, **values)
+        return self.templates.page(template, language=sent.language, is_kept=False, sent=sent, **values)
 
     def _sent(self, message: Request) -> tuple[Form, str]:
         """Returns a form that this page sent, and the client who counts for it."""
         refuse_other_sites(message, self.settings.url)
-        return Form(form_of(message)), client_of(message, self._field)
+        return Form(language_of(message), form_of(message)), client_of(message, self._field)
 
     # ---- An account
 
@@ -79,21 +86,22 @@ class AccountPages:
         if message.method == "POST":
             return self._changed(message)
         key, client = query_of(message).get("auth", ""), client_of(message, self._field)
+        sent = Form(language_of(message))
         try:
             with self.places.taken(client):
-                return self._account(self.accounts.of_owner(key, client))
+                return self._account(self.accounts.of_owner(key, client), sent)
         except AccountFault as fault:
             status = 404 if fault.fault is Fault.WRONG_KEY else 200
-            return self._entrance(Form(faults={"key": fault.fault.text}), status)
+            return self._entrance(sent.emptied(key=fault.fault.text), status)
 
     def account(self, message: Request) -> Response:
         """Shows an account, found by its key or by address and password. Without them it asks for them."""
         if message.method != "POST":
-            return self._entrance(Form())
+            return self._entrance(Form(language_of(message)))
         sent, client = self._sent(message)
         try:
             with self.places.taken(client):
-                return self._account(self._member(sent, client))
+                return self._account(self._member(sent, client), sent.emptied())
         except AccountFault as fault:
             sent.faults["key" if "key" in sent.fields else "password"] = fault.fault.text
             return self._entrance(sent)
@@ -107,9 +115,7 @@ class AccountPages:
 
     def _entrance(self, sent: Form, status: int = 200) -> Response:
         """Returns the page that asks for a key, or for an address and a password. It shows no key again."""
-        return self.templates.page(
-            "entrance.html", is_kept=False, http_status=status, sent=sent.without("key")
-        )
+        return self._page("entrance.html", sent.without("key"), http_status=status)
 
     def _changed(self, message: Request) -> Response:
         """Changes the name of an account, and whether statistics may show it. The owner sends the key."""
@@ -120,13 +126,13 @@ class AccountPages:
             with self.places.taken(client):
                 member = self.accounts.of_owner(sent.text("key"), client)
                 if not name:
-                    sent.faults["name"] = "Give a name."
-                    return self._account(member, sent=sent)
+                    sent.faults["name"] = gettext_noop("Give a name.")
+                    return self._account(member, sent)
                 self.accounts.members.change(member, name, is_exported, is_anonymous)
                 member = replace(member, name=name, is_exported=is_exported, is_anonymous=is_anonymous)
-                return self._account(member, "Your changes are saved.")
+                return self._account(member, sent.emptied(), gettext_noop("Your changes are saved."))
         except AccountFault as fault:
-            return self._entrance(Form(faults={"key": fault.fault.text}))
+            return self._entrance(sent.emptied(key=fault.fault.text))
 
     def team(self, message: Request) -> Response:
         """Lets a user make, join or leave a team, or remove a member from it. The owner sends the key."""
@@ -138,10 +144,10 @@ class AccountPages:
                     done = self._change_team(member, sent)
                 except TeamFault as fault:
                     sent.faults["member" if sent.text("action") == "remove" else "team"] = str(fault)
-                    return self._account(member, sent=sent)
-                return self._account(self.accounts.of_owner(sent.text("key"), client), done)
+                    return self._account(member, sent)
+                return self._account(self.accounts.of_owner(sent.text("key"), client), sent.emptied(), done)
         except AccountFault as fault:
-            return self._entrance(Form(faults={"key": fault.fault.text}))
+            return self._entrance(sent.emptied(key=fault.fault.text))
 
     def change_preferences(self, message: Request) -> Response:
         """Stores what a user wants of the clients, or that it is sent no more. The owner sends the key."""
@@ -151,45 +157,45 @@ class AccountPages:
             with self.places.taken(client):
                 member = self.accounts.of_owner(sent.text("key"), client)
                 try:
-                    share, processors = sent.text("share"), sent.text("processors")
-                    wants = None if is_removed else typed(share, processors, is_only_idle, int(time.time()))
+                    words = sent.text("share"), sent.text("processors"), is_only_idle, int(time.time())
+                    wants = None if is_removed else typed(*words, sent.language)
                 except PreferenceFault as fault:
                     sent.faults[fault.field] = str(fault)
-                    return self._account(member, sent=sent)
+                    return self._account(member, sent)
                 text = None if wants is None else wants.written()
                 self.accounts.members.change_preferences(member, text)
-                done = (
-                    "They are sent no more." if is_removed else "Your computers get them at their next calls."
-                )
-                return self._account(replace(member, preferences=text), done)
+                done = gettext_noop("Your computers get them at their next calls.")
+                if is_removed:
+                    done = gettext_noop("They are sent no more.")
+                return self._account(replace(member, preferences=text), sent.emptied(), done)
         except AccountFault as fault:
-            return self._entrance(Form(faults={"key": fault.fault.text}))
+            return self._entrance(sent.emptied(key=fault.fault.text))
 
     def _change_team(self, member: Member, sent: Form) -> str:
         """Does what a form about a team says, and returns what was done."""
         action, text = sent.text("action"), sent.text("team")
         if action == "make":
             self.teams.make(member, text, int(time.time()))
-            return "Your team is made."
+            return gettext_noop("Your team is made.")
         if action == "join":
             self.teams.join(member, text)
-            return "You are in the team."
+            return gettext_noop("You are in the team.")
         if action == "leave":
             self.teams.leave(member)
-            return "You left the team."
+            return gettext_noop("You left the team.")
         if action == "remove":
             self.teams.remove(member, sent.text("member"))
-            return "The member is removed."
+            return gettext_noop("The member is removed.")
         raise BadRequest
 
-    def _account(self, member: Member, done: str = "", sent: Form | None = None) -> Response:
+    def _account(self, member: Member, sent: Form, done: str = "") -> Response:
         """Returns the page of an account."""
         return self._page(
             "account.html",
+            sent,
             member=member,
             status=self.statements.of_account(member.authenticator),
             done=done,
-            sent=sent or Form(),
             team=self.teams.team(member.team),
             wants=read_preferences(member.preferences),
             most_hosts=MOST_HOSTS,
@@ -201,11 +207,11 @@ class AccountPages:
     def delete(self, message: Request) -> Response:
         """Answers delete_account.php: whoever has the address and the password deletes the account."""
         if message.method != "POST":
-            return self._deletion(Form())
+            return self._deletion(Form(language_of(message)))
         sent, client = self._sent(message)
         email = in_small_letters(sent.text("email"))
         if sent.text("is_sure") != "1":
-            sent.faults["is_sure"] = "Tick this, to delete the account."
+            sent.faults["is_sure"] = gettext_noop("Tick this, to delete the account.")
             return self._deletion(sent)
         try:
             with self.places.taken(client):
@@ -215,27 +221,30 @@ class AccountPages:
             return self._deletion(sent)
         return self._page(
             "finished.html",
-            heading="the account is deleted",
-            done="Your account is deleted.",
-            text="Remove the project on each of your computers: it gets no more work there.",
+            sent,
+            heading=gettext_noop("the account is deleted"),
+            done=gettext_noop("Your account is deleted."),
+            text=gettext_noop("Remove the project on each of your computers: it gets no more work there."),
         )
 
     def _deletion(self, sent: Form) -> Response:
         """Returns the page that asks for the password before it deletes an account."""
-        return self._page("deletion.html", sent=sent, is_name_told=self._is_name_told)
+        return self._page("deletion.html", sent, is_name_told=self._is_name_told)
 
     # ---- A password
 
     def password(self, message: Request) -> Response:
         """Answers get_passwd.php: whoever has the key sets the address and the password."""
         if message.method != "POST":
-            return self._password(Form())
+            return self._password(Form(language_of(message)))
         sent, client = self._sent(message)
         email, password = in_small_letters(sent.text("email")), sent.fields.get("password", "")
         if not is_email(email):
             sent.faults["email"] = Fault.NO_ADDRESS.text
         if not LEAST_PASSWORD <= len(password) <= MOST_PASSWORD:
-            sent.faults["password"] = f"The password has fewer than {LEAST_PASSWORD} characters."
+            sent.faults["password"] = gettext_lazy(
+                "The password has fewer than %(count)s characters.", count=LEAST_PASSWORD
+            )
         if sent.faults:
             return self._password(sent)
         try:
@@ -246,16 +255,19 @@ class AccountPages:
             return self._password(sent)
         return self._page(
             "finished.html",
-            heading="your password",
-            done="Your password is changed.",
-            text="Computers that have the project continue as before.",
+            sent,
+            heading=gettext_noop("your password"),
+            done=gettext_noop("Your password is changed."),
+            text=gettext_noop("Computers that have the project continue as before."),
         )
 
     def _password(self, sent: Form) -> Response:
         """Returns the page that asks for a new password."""
-        return self._page("password.html", sent=sent, least_password=LEAST_PASSWORD)
+        return self._page("password.html", sent, least_password=LEAST_PASSWORD)
 
-    def terms(self, _message: Request) -> Response:
-        """Returns the page with the terms of use."""
-        terms = (self.settings.accounts.terms if self.settings.accounts else None) or "There are none."
-        return self.templates.page("terms.html", terms=terms)
+    def terms(self, message: Request) -> Response:
+        """Returns the page with the terms of use, as the operator wrote them."""
+        language = language_of(message)
+        terms = self.settings.accounts.terms if self.settings.accounts else None
+        none = language.gettext("There are none.")
+        return self.templates.page("terms.html", language=language, terms=terms or none)

@@ -17,6 +17,7 @@ from enum import Enum
 
 from .barring import Barred, Barring
 from .key_locks import Busy, KeyLocks
+from .languages import gettext_noop
 from .limits import NoPlace, Places, RecentCounts
 from .members import DayIsFull, EmailTaken, Member, Members
 from .passwords import Passwords, TooBusy, is_client_hash
@@ -44,24 +45,23 @@ class Fault(Enum):
     Manager accepts.
     """
 
-    WRONG = -155, "No account has this e-mail address and password."
-    WRONG_KEY = -155, "No account has this key."
-    NO_ANSWER = -183, "The project gives no answer at the moment. Try again in a few minutes."
-    TOO_BUSY = -183, "The project is busy at the moment. Try again in a minute."
-    TOO_MANY = -183, "Too many wrong passwords or keys. Try again in an hour."
-    NO_ADDRESS = -205, "This is not an e-mail address."
-    NO_PASSWORD = -206, "Give a password."
-    TAKEN = -207, "Another account has this e-mail address."
-    ODD_ADDRESS = -208, "The project can't use this e-mail address."
-    DAY_FULL = -208, "The project takes no more new accounts today. Try again tomorrow."
-    NETWORK_FULL = (
-        -208,
+    WRONG = -155, gettext_noop("No account has this e-mail address and password.")
+    WRONG_KEY = -155, gettext_noop("No account has this key.")
+    NO_ANSWER = -183, gettext_noop("The project gives no answer at the moment. Try again in a few minutes.")
+    TOO_BUSY = -183, gettext_noop("The project is busy at the moment. Try again in a minute.")
+    TOO_MANY = -183, gettext_noop("Too many wrong passwords or keys. Try again in an hour.")
+    NO_ADDRESS = -205, gettext_noop("This is not an e-mail address.")
+    NO_PASSWORD = -206, gettext_noop("Give a password.")
+    TAKEN = -207, gettext_noop("Another account has this e-mail address.")
+    ODD_ADDRESS = -208, gettext_noop("The project can't use this e-mail address.")
+    DAY_FULL = -208, gettext_noop("The project takes no more new accounts today. Try again tomorrow.")
+    NETWORK_FULL = -208, gettext_noop(
         "Too many accounts were made from your network today. Use the one that you have, or try again "
-        "tomorrow.",
+        "tomorrow."
     )
-    PROJECT_FULL = -208, "The project has as many accounts as it can have."
-    NO_CREATION = -208, "Only the project's operator makes accounts."
-    NO_CONSENT = -242, "Agree to the project's terms of use to make an account."
+    PROJECT_FULL = -208, gettext_noop("The project has as many accounts as it can have.")
+    NO_CREATION = -208, gettext_noop("Only the project's operator makes accounts.")
+    NO_CONSENT = -242, gettext_noop("Agree to the project's terms of use to make an account.")
 
     @property
     def number(self) -> int:
@@ -70,7 +70,7 @@ class Fault(Enum):
 
     @property
     def text(self) -> str:
-        """The text for people."""
+        """The text for people, in English."""
         return self.value[1]
 
 

@@ -201,7 +201,7 @@ class Application:
         try:
             message = Message(environ, populate_request=False)
             handler, values = self.routes.matched(message)
-            return self.pages.not_found() if handler is None else handler(message, **values)
+            return self.pages.not_found(message) if handler is None else handler(message, **values)
         except HTTPException as fault:
             return plain_answer(fault)
         except Exception as error:

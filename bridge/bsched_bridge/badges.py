@@ -2,6 +2,8 @@
 from collections.abc import Iterator
 from dataclasses import dataclass
 
+from .languages import ENGLISH, Language
+
 YEAR_SECONDS = 31_557_600  # 365.25 days
 # among the best of 100 users, with the colour of the badge
 BEST = ((1, "gold"), (5, "silver"), (25, "bronze"))
@@ -16,11 +18,21 @@ class Badge:
     text: str
 
 
-def badges_of(credit: int, place: int, count: int, created_at: int, now: float) -> Iterator[Badge]:
+def badges_of(
+    credit: int, place: int, count: int, created_at: int, now: float, language: Language = ENGLISH
+) -> Iterator[Badge]:
     """Yields the badges of a user with credit and a place among this many users."""
     best = next(((of, colour) for of, colour in BEST if credit > 0 and 100 * place <= of * count), None)
     if best is not None:
-        yield Badge(best[1], str(best[0]), f"Among the best {best[0]} of 100 users by credit")
+        text = language.ngettext(
+            "Among the best %(count)s of 100 users by credit",
+            "Among the best %(count)s of 100 users by credit",
+            best[0],
+        )
+        yield Badge(best[1], str(best[0]), text % {"count": best[0]})
     years = int((now - created_at) / YEAR_SECONDS)
     if years >= 1:
-        yield Badge("years", str(years), f"With the project for {years} year{'s' if years > 1 else ''}")
+        text = language.ngettext(
+            "With the project for %(count)s year", "With the project for %(count)s years", years
+        )
+        yield Badge("years", str(years), text % {"count": years})

@@ -4,6 +4,7 @@ from dataclasses import dataclass
 from datetime import date, timedelta
 
 from .credit_days import CreditDay
+from .languages import ENGLISH, Language
 from .texts import credits_text
 
 WIDTH, HEIGHT = 600, 160
@@ -28,7 +29,7 @@ class Chart:
     rows: list[tuple[str, str]]  # days and credit, the latest first
 
 
-def chart_of(days: Sequence[CreditDay]) -> Chart | None:
+def chart_of(days: Sequence[CreditDay], language: Language = ENGLISH) -> Chart | None:
     """Returns the chart of some days, or None if they are fewer than two."""
     if len(days) < 2:
         return None
@@ -38,17 +39,16 @@ def chart_of(days: Sequence[CreditDay]) -> Chart | None:
         f"{WIDTH * (one.day - first) / span:.1f},{HEIGHT * (1 - one.credit / most):.1f}" for one in days
     )
     dates = [date_text(one.day) for one in days]
-    text = (
-        f"Credit from {dates[0]} to {dates[-1]}: from {credits_text(days[0].credit)} to "
-        f"{credits_text(days[-1].credit)}."
-    )
-    rows = [(shown, credits_text(one.credit)) for shown, one in zip(dates, days)]
+    rows = [(shown, language.number(credits_text(one.credit))) for shown, one in zip(dates, days)]
+    text = language.gettext(
+        "Credit from %(first)s to %(last)s: from %(first_credit)s to %(last_credit)s."
+    ) % {"first": dates[0], "last": dates[-1], "first_credit": rows[0][1], "last_credit": rows[-1][1]}
     return Chart(
         points,
         f"0,{HEIGHT} {points} {WIDTH},{HEIGHT}",
         dates[0],
         dates[-1],
-        credits_text(most),
+        language.number(credits_text(most)),
         text,
         rows[: -MOST_ROWS - 1 : -1],
     )

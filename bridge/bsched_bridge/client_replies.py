@@ -1,6 +1,7 @@
 """The XML of a scheduler_reply (BOINC's documentation, "Scheduler RPC protocol").
 
-An element that means yes is written `<x>1</x>`. The client reads that as it reads `<x/>`.
+An element that means yes is written `<x>1</x>`. The client reads that as it reads `<x/>`. Texts for
+volunteers are in the language that the request asks for. The client acts on none of them.
 """
 import copy
 import logging
@@ -10,6 +11,7 @@ from xml.etree.ElementTree import Element, SubElement, indent, tostring
 from .catalogue import App, Catalogue, MissingFile, StoredFile, Version, Work
 from .client_requests import ClientRequest
 from .exchange import PutOff
+from .languages import ENGLISH, LANGUAGES, Language, Text, gettext_lazy, gettext_noop
 from .output_files import upload_name
 from .plan_classes import PlanClass, split
 from .preferences import read_preferences
@@ -22,20 +24,22 @@ from .xml_lines import XmlLines
 
 SCHEDULER_VERSION = 720  # the version of BOINC's scheduler that these replies imitate
 MILLICREDITS = 1000
-KEY_CHANGED = "The project has changed its code signing key. To fix this, remove and add this project."
+KEY_CHANGED = gettext_noop(
+    "The project has changed its code signing key. To fix this, remove and add this project."
+)
 
 # what a volunteer reads who asked for work and got none, by the end word of the reply
 NO_JOBS = {
-    "enough": "Project has no tasks available",
-    "reply_limit": "Project has no tasks available",
-    "in_progress_limit": "This computer has reached a limit on tasks in progress",
-    "daily_quota": "This computer has finished a daily quota of tasks",
-    "no_eligible_work": "No tasks are available for this computer",
+    "enough": gettext_noop("Project has no tasks available"),
+    "reply_limit": gettext_noop("Project has no tasks available"),
+    "in_progress_limit": gettext_noop("This computer has reached a limit on tasks in progress"),
+    "daily_quota": gettext_noop("This computer has finished a daily quota of tasks"),
+    "no_eligible_work": gettext_noop("No tasks are available for this computer"),
 }
 
 # buttons of the Manager: a name, what it says on them, and a page
-ACCOUNT = "Your account", "Your computers, credit and settings", "account"
-STATUS = "Project status", "Work, users and computers of the project", "status"
+ACCOUNT = gettext_noop("Your account"), gettext_noop("Your computers, credit and settings"), "account"
+STATUS = gettext_noop("Project status"), gettext_noop("Work, users and computers of the project"), "status"
 
 log = logging.getLogger(__name__)
 
@@ -85,14 +89,14 @@ def head_of(name: str, url: str) -> list[str]:
     return xml.inner_lines()
 
 
-def buttons_of(url: str, has_accounts: bool) -> list[str]:
+def buttons_of(url: str, has_accounts: bool, language: Language) -> list[str]:
     """Returns the lines of the pages for which the Manager shows buttons."""
     xml = XmlLines("scheduler_reply")
     with xml.inside("gui_urls"):
         for name, description, path in (ACCOUNT, STATUS) if has_accounts else (STATUS,):
             with xml.inside("gui_url"):
-                xml.add("name", name)
-                xml.add("description", description)
+                xml.add("name", language.text(name))
+                xml.add("description", language.text(description))
                 xml.add("url", f"{url}{path}")
     return xml.inner_lines()
 
@@ -109,7 +113,8 @@ class ReplyWriter:
         has_accounts: bool = False,
     ) -> None:
         self.url, self.tokens = url, tokens
-        self._head, self._buttons = head_of(name, url), buttons_of(url, has_accounts)
+        self._head = head_of(name, url)
+        self._buttons = {tag: buttons_of(url, has_accounts, one) for tag, one in LANGUAGES.items()}
         self._set_catalogue(catalogue)
 
     def _set_catalogue(self, catalogue: Catalogue) -> None:
@@ -131,10 +136,10 @@ class ReplyWriter:
         xml.add("request_delay", f"{delay:.6f}")
         return xml
 
-    def put_off(self, put: PutOff) -> bytes:
+    def put_off(self, put: PutOff, language: Language = ENGLISH) -> bytes:
         """Returns the reply that puts a request off. It acknowledges nothing, so the client loses nothing."""
         xml = self._begun(put.delay)
-        xml.add_message(put.message, put.priority)
+        xml.add_message(language.text(put.message), put.priority)
         if put.is_down:
             xml.add("project_is_down", 1)
         return xml.written()
@@ -144,8 +149,9 @@ class ReplyWriter:
         request: ClientRequest,
         reply: Reply,
         hostid: int | None = None,
-        notice: str | None = None,
+        notice: Text | str | None = None,
         recent: Recent | None = None,
+        language: Language = ENGLISH,
     ) -> bytes:
         """Returns the reply to a request, with a notice for the volunteer. It has a hostid only for a client
         that did not send it: a client that has one takes any as a sign that it was copied, takes a new
@@ -163,7 +169,7 @@ class ReplyWriter:
         if hostid is not None:
             xml.add("hostid", hostid)
         if notice is not None:
-            xml.add_message(notice, "notice")
+            xml.add_message(language.text(notice), "notice")
         for what, names in (("result_ack", reply.result_ack), ("result_abort", reply.result_abort)):
             for name in names:
                 with xml.inside(what):
@@ -173,25 +179,26 @@ class ReplyWriter:
         preferences = read_preferences(reply.preferences)
         if preferences is not None:
             preferences.add_to(xml, self.url, request.preferences_time)
-        self._add_key(xml, request.code_sign_key)
-        xml.add_lines(self._buttons)
-        self._add_jobs(xml, request, reply.results)
+        self._add_key(xml, request.code_sign_key, language)
+        xml.add_lines(self._buttons[language.tag])
+        self._add_jobs(xml, request, reply.results, language)
         if request.work_req_seconds and not reply.results:
-            xml.add_message(NO_JOBS.get(reply.end_word, NO_JOBS["no_eligible_work"]), "low")
+            message = NO_JOBS.get(reply.end_word, NO_JOBS["no_eligible_work"])
+            xml.add_message(language.text(message), "low")
         return xml.written()
 
-    def _add_key(self, xml: XmlLines, has: str) -> None:
+    def _add_key(self, xml: XmlLines, has: str, language: Language) -> None:
         """Adds the code signing key if the client has none. A client that has a key would take it for a
         change of the key.
         """
         if not has:
             xml.add("code_sign_key", "\n" + self.catalogue.code_sign_key)
         elif has != self._key:
-            xml.add_message(KEY_CHANGED, "notice")
+            xml.add_message(language.text(KEY_CHANGED), "notice")
 
     # ---- Jobs
 
-    def _add_jobs(self, xml: XmlLines, request: ClientRequest, jobs: list[Job]) -> None:
+    def _add_jobs(self, xml: XmlLines, request: ClientRequest, jobs: list[Job], language: Language) -> None:
         """Adds the jobs with all that they need. Each application, version and file is added once."""
         apps: dict[str, App] = {}
         versions: dict[tuple[str, str, int], Version] = {}
@@ -205,7 +212,8 @@ class ReplyWriter:
                 log.error(
                     "job %s is not handed on: %s is not in the catalogue or not there", job.name, missing
                 )
-                xml.add_message(f"The project lacks a file for the job {job.name}.", "low")
+                lacks = gettext_lazy("The project lacks a file for the job %(name)s.", name=job.name)
+                xml.add_message(language.text(lacks), "low")
         for app in apps.values():
             self._add_app(xml, app)
         for needed in files.values():

@@ -18,6 +18,7 @@ from defusedxml import DefusedXmlException  # type: ignore[import]
 from defusedxml.ElementTree import DefusedXMLParser  # type: ignore[import]
 
 from .descriptions import described
+from .languages import Text, gettext_lazy, gettext_noop
 from .request_parts import MOST_OUTPUT, Parts, RequestFault
 from .words import cut_to_bytes, is_word
 
@@ -121,6 +122,10 @@ class Fields:
         self._elements = {element.tag: element for parent in parents for element in parent}
         self._of = of  # with which a fault names an element
 
+    def _fault(self, message: str, name: str) -> RequestFault:
+        """Returns the fault that a message says of an element."""
+        return RequestFault(Text(message, {"name": f"{self._of}{name}"}))
+
     def __contains__(self, name: str) -> bool:
         """Returns whether there is such an element."""
         return name in self._elements
@@ -144,7 +149,7 @@ class Fields:
         except InvalidOperation:
             number = NO_NUMBER
         if number.is_nan():
-            raise RequestFault(f"{self._of}{name} is not a number")
+            raise self._fault(gettext_noop("%(name)s is not a number"), name)
         if number <= least:
             return least
         if number >= most:
@@ -156,9 +161,8 @@ class Fields:
         """Returns the word of an element, which must exist."""
         word = self.text(name)
         if word is None or not is_word(word):
-            raise RequestFault(
-                f"{self._of}{name} is missing, or is not 1 to 64 letters, digits, '_', '-' and '.'"
-            )
+            message = gettext_noop("%(name)s is missing, or is not 1 to 64 letters, digits, '_', '-' and '.'")
+            raise self._fault(message, name)
         return word
 
 
@@ -301,7 +305,7 @@ def element_in_pieces(pieces: Iterable[bytes]) -> Element:
                 raise RequestFault("the request has too long a tag")
         root: Element = parser.close()
     except ParseError as error:
-        raise RequestFault(f"incomplete or faulty XML: {error}") from None
+        raise RequestFault(gettext_lazy("incomplete or faulty XML: %(error)s", error=str(error))) from None
     except DefusedXmlException:
         raise RequestFault("XML with a document type or entities is not accepted") from None
     return root

@@ -30,6 +30,7 @@ from .client_requests import ClientRequest, Report
 from .host_search import HostSearch, TooManySearches
 from .hosts import FIRST_KEY, Hosts, Key
 from .key_locks import Busy, KeyLocks
+from .languages import Text, gettext_noop, ngettext_lazy
 from .measurements import End, Reports
 from .report_checks import ReportChecks
 from .scheduler import Job, NoAnswer, Refusal, Reply, Scheduler
@@ -47,7 +48,7 @@ log = logging.getLogger(__name__)
 class PutOff:
     """What a client reads whose request is put off, and for how long it is put off."""
 
-    message: str
+    message: Text | str  # is translated when the reply is written; bridge/extract_texts finds it
     delay: int
     priority: str = "low"  # the client shows a "notice" to the volunteer
     is_down: bool = False  # the project is down: the client leaves all as it was, and asks again later
@@ -60,12 +61,12 @@ class Answered:
 
     reply: Reply
     hostid: int | None = None  # the number that the client gets, if it did not send it
-    notice: str | None = None  # what the volunteer reads
+    notice: Text | str | None = None  # what the volunteer reads
 
 
-NO_ANSWER = "The project's scheduler gives no answer at the moment."
-BUSY = "Another scheduler instance is running for this host."
-TOO_BUSY = "The project is busy at the moment."
+NO_ANSWER = gettext_noop("The project's scheduler gives no answer at the moment.")
+BUSY = gettext_noop("Another scheduler instance is running for this host.")
+TOO_BUSY = gettext_noop("The project is busy at the moment.")
 REFUSALS = {
     "bad_account": PutOff(
         "Invalid or missing account key. To fix this, remove and add this project.",
@@ -102,25 +103,40 @@ def put_off_by(refusal: Refusal) -> PutOff:
     """Returns what a client reads after a refusal."""
     put_off = REFUSALS.get(refusal.error, OTHER_REFUSAL)
     member = refusal.members.get("member")
-    return replace(put_off, message=f"{put_off.message} ({member})") if member else put_off
+    return with_detail(put_off, member) if member else put_off
+
+
+def with_detail(put_off: PutOff, detail: str) -> PutOff:
+    """Returns the same with something in brackets after the message, which is not translated."""
+    message = put_off.message if isinstance(put_off.message, Text) else Text(put_off.message)
+    return replace(put_off, message=Text("%(message)s (%(detail)s)", {"message": message, "detail": detail}))
 
 
 def too_many_hosts(count: int) -> PutOff:
     """Returns what a client reads whose account has as many hosts as it may have."""
     return PutOff(
-        f"Your account has {count} computers at this project, and may have no more. This computer gets no "
-        "work here.",
+        ngettext_lazy(
+            "Your account has %(count)s computers at this project, and may have no more. This computer gets "
+            "no work here.",
+            "Your account has %(count)s computers at this project, and may have no more. This computer gets "
+            "no work here.",
+            count,
+        ),
         DAY,
         "notice",
         end=End.TOO_MANY_HOSTS,
     )
 
 
-def not_taken(names: list[str]) -> str:
+def not_taken(names: list[str]) -> Text:
     """Returns what a volunteer reads whose results no known host has."""
-    return (
-        f"The project can't tell which computer got {names[0]}, so it does not take {len(names)} finished "
-        "tasks yet. If this stays so for days, remove and add the project."
+    return ngettext_lazy(
+        "The project can't tell which computer got %(name)s, so it does not take %(count)s finished tasks "
+        "yet. If this stays so for days, remove and add the project.",
+        "The project can't tell which computer got %(name)s, so it does not take %(count)s finished tasks "
+        "yet. If this stays so for days, remove and add the project.",
+        len(names),
+        name=names[0],
     )
 
 
@@ -197,7 +213,7 @@ class Exchange:
         is_barred = reason is not None or authenticator in self.rules().barred
         if not is_barred:
             return None
-        return replace(BARRED, message=f"{BARRED.message} ({self.contact})") if self.contact else BARRED
+        return with_detail(BARRED, self.contact) if self.contact else BARRED
 
     # ---- Clients that don't send the number of their host
 

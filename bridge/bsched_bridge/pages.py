@@ -4,6 +4,7 @@ from dataclasses import dataclass
 from werkzeug.wrappers import Request, Response
 
 from .directory import Directory
+from .languages import gettext_noop, language_of
 from .pictures import Pictures
 from .settings import Settings
 from .statements import Statements, UnitCounts, read_unit_counts
@@ -11,11 +12,13 @@ from .templates import Templates
 from .texts import RESULT_WORDS
 
 LEADERS = 10
-# how volunteers read why workunits failed, by the names of `bsched-tools counts`
-FAILED = {
-    "failed by errors": "failed: too many errors",
-    "failed by successes": "failed: results that do not agree",
-    "failed by the total": "failed: too many results in all",
+# what volunteers read about workunits, by the names of `bsched-tools counts`
+UNIT_WORDS = {
+    "open": gettext_noop("open"),
+    "done": gettext_noop("done"),
+    "failed by errors": gettext_noop("failed: too many errors"),
+    "failed by successes": gettext_noop("failed: results that do not agree"),
+    "failed by the total": gettext_noop("failed: too many results in all"),
 }
 BAR = 1000  # the width of the bar in its own units
 
@@ -43,12 +46,6 @@ class Progress:
         """How many of a hundred workunits are done. It is 100 only if all are."""
         done = self.parts[0].count
         return f"{min(1000 * done // self.total, 1000) / 10:.1f}"
-
-    @property
-    def text(self) -> str:
-        """The same for those who do not see the bar."""
-        counts = ", ".join(f"{part.count:,} {part.name}" for part in self.parts)
-        return f"{self.percent} % of {self.total:,} workunits are done: {counts}."
 
 
 def progress_of(units: UnitCounts | None) -> Progress | None:
@@ -85,12 +82,13 @@ class Pages:
         self.settings, self.templates, self.statements = settings, templates, statements
         self.pictures, self.directory = pictures, directory
 
-    def project(self, _message: Request) -> Response:
+    def project(self, message: Request) -> Response:
         """Returns the page at the master URL. The client reads the scheduler's URL there, in one of two
         forms. Each is on a line of its own.
         """
         return self.templates.page(
             "project.html",
+            language=language_of(message),
             scheduler=f"{self.settings.url}cgi",
             url=self.settings.url,
             welcome=self.settings.welcome,
@@ -102,22 +100,23 @@ class Pages:
             leaders=self.directory.users(0, LEADERS),
         )
 
-    def status(self, _message: Request) -> Response:
+    def status(self, message: Request) -> Response:
         """Returns the status page: workunits, and the hosts that called last with their results."""
         status = self.statements.status()
         return self.templates.page(
             "status.html",
+            language=language_of(message),
             status=status,
-            failed=FAILED,
+            unit_words=UNIT_WORDS,
             count_of_users=self.directory.count_users(),
             count_of_hosts=self.directory.count_computers(),
             result_words=RESULT_WORDS,
         )
 
-    def not_found(self) -> Response:
+    def not_found(self, message: Request) -> Response:
         """Returns the page for a URL of the project that does not exist."""
-        return self.templates.page("not_found.html", http_status=404)
+        return self.templates.page("not_found.html", language=language_of(message), http_status=404)
 
-    def no_passwords(self, _message: Request) -> Response:
+    def no_passwords(self, message: Request) -> Response:
         """Returns the page for a volunteer without a key, if only the operator makes accounts."""
-        return self.templates.page("no_passwords.html")
+        return self.templates.page("no_passwords.html", language=language_of(message))

@@ -14,6 +14,7 @@ from werkzeug.exceptions import NotFound
 from werkzeug.wrappers import Request, Response
 
 from .http_messages import FOR_GOOD, answer
+from .languages import gettext_noop
 from .settings import PICTURE_KINDS, Settings
 from .templates import SAFE_FIELDS, hash_of
 
@@ -21,6 +22,8 @@ LIST, FORMAT = "plots.json", 1
 MOST_LIST, MOST_PLOT, MOST_PLOTS = 65_536, 524_288, 6  # bytes, bytes, plots
 PLOT_NAME = re.compile(r"[a-z]{1,20}\.svg")
 MOST_TEXT = 1000  # characters that describe a plot
+# the titles that `bsched-tools report` gives; all else of a plot is in English
+TITLES = gettext_noop("Results a day"), gettext_noop("Active computers"), gettext_noop("Credit")
 # an SVG has a style of its own; opened alone it may do nothing else
 PICTURE_FIELDS = {
     **SAFE_FIELDS,

@@ -6,6 +6,7 @@ sends with each request when its own were changed. So a reply has preferences on
 import json
 from dataclasses import asdict, dataclass
 
+from .languages import ENGLISH, Language
 from .xml_lines import XmlLines
 
 MOST_SHARE = 10_000
@@ -48,17 +49,23 @@ class Preferences:
             xml.add("max_ncpus_pct", self.processors)
 
 
-def whole(text: str, field: str, least: int, most: int) -> int:
-    """Returns the whole number that somebody typed."""
+def whole(text: str, field: str, least: int, most: int, language: Language) -> int:
+    """Returns the whole number that somebody typed. Says in a language what is wrong with it."""
     if text.isascii() and text.isdigit() and len(text) <= WHOLE_DIGITS and least <= int(text) <= most:
         return int(text)
-    raise PreferenceFault(field, f"Give a whole number from {least} to {most:,}.")
+    message = language.gettext("Give a whole number from %(least)s to %(most)s.")
+    raise PreferenceFault(field, message % {"least": least, "most": language.number(f"{most:,}")})
 
 
-def typed(share: str, processors: str, is_only_idle: bool, now: int) -> Preferences:
+def typed(
+    share: str, processors: str, is_only_idle: bool, now: int, language: Language = ENGLISH
+) -> Preferences:
     """Returns the preferences that somebody typed. Raises PreferenceFault."""
     return Preferences(
-        whole(share, "share", 0, MOST_SHARE), whole(processors, "processors", 1, 100), is_only_idle, now
+        whole(share, "share", 0, MOST_SHARE, language),
+        whole(processors, "processors", 1, 100, language),
+        is_only_idle,
+        now,
     )
 
 

@@ -13,6 +13,7 @@ import codecs
 import re
 from collections.abc import Iterable, Iterator
 
+from .languages import Text
 from .words import cut_to_bytes, xml_text
 
 MOST_XML = 4 * 1024 * 1024  # bytes of a request without its standard errors
@@ -45,7 +46,11 @@ ESCAPES = {"&": "&amp;", "<": "&lt;", ">": "&gt;", "\r": "&#13;"}
 
 
 class RequestFault(Exception):
-    """Raised if a request can't be read. The text tells a volunteer why."""
+    """Raised if a request can't be read. The text tells a volunteer why (bridge/extract_texts finds it)."""
+
+    def __init__(self, text: Text | str) -> None:
+        super().__init__(str(text))
+        self.text = text if isinstance(text, Text) else Text(text)
 
 
 class Parts:

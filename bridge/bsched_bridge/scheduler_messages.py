@@ -11,6 +11,7 @@ from .client_requests import MOST_BYTES, ClientRequest, read_request
 from .exchange import HOUR, TOO_BUSY, Exchange, PutOff
 from .http_messages import XML, answer, blocks_of, length_of
 from .key_locks import Busy, KeyLocks
+from .languages import gettext_lazy, language_of
 from .limits import NoPlace, Places
 from .measurements import Calls, End
 from .recent_credit import Recent, RecentCredit
@@ -71,7 +72,7 @@ class SchedulerMessages:
         scheduler_reply. Of a request that is refused the rest is read, too: a proxy may not read the answer
         before.
         """
-        length = length_of(message, MOST_BYTES)
+        length, language = length_of(message, MOST_BYTES), language_of(message)
         blocks = blocks_of(message, length)
         try:
             with self.places.taken(0.0 if self.exchange.scheduler.is_slow else PLACE_SECONDS):
@@ -80,19 +81,19 @@ class SchedulerMessages:
                 request = catalogue.by_resource(asked)
                 answered = self.exchange.answer(request)
         except RequestFault as fault:
-            answered = PutOff(f"Error in request message: {fault}", HOUR, end=End.UNREADABLE)
+            answered = PutOff(gettext_lazy("Error in request message: %(why)s", why=fault.text), HOUR, end=End.UNREADABLE)
         except (Busy, NoPlace):
             answered = PutOff(TOO_BUSY, self.exchange.retry_delay, end=End.TOO_BUSY)
         for _ in blocks:
             pass
         if isinstance(answered, PutOff):
-            return answer(XML, self.writer.put_off(answered)), answered.end
+            return answer(XML, self.writer.put_off(answered, language)), answered.end
         reply = answered.reply
         recent = self._recent(request.authenticator, reply.hostid)
         if reply.results:
             catalogue = self.catalogue()  # it may have been edited meanwhile
         self.writer = writer = self.writer.with_catalogue(catalogue)
-        body = writer.reply(request, reply, answered.hostid, answered.notice, recent)
+        body = writer.reply(request, reply, answered.hostid, answered.notice, recent, language)
         return answer(XML, body), End.ANSWERED
 
     def _recent(self, authenticator: str, scheduler_hostid: int) -> Recent | None:

@@ -15,6 +15,7 @@ from .archives import Archives
 from .directory import Computer
 from .hosts import HeardHost
 from .hosts import Hosts as KnownHosts
+from .languages import gettext_noop
 from .limits import NoPlace, Places, RecentCounts
 from .members import Members
 from .recent_credit import RecentCredit
@@ -110,22 +111,24 @@ def standing(row: dict[str, str]) -> str:
 
 
 REASONS = {
-    "out": "The computer has it, and has not reported it yet.",
-    "waiting": "Reported. Other results of the same work are not there yet.",
-    "done": "Valid: it agrees with other results of the same work, or needs none.",
-    "late": "No report came before the deadline.",
+    "out": gettext_noop("The computer has it, and has not reported it yet."),
+    "waiting": gettext_noop("Reported. Other results of the same work are not there yet."),
+    "done": gettext_noop("Valid: it agrees with other results of the same work, or needs none."),
+    "late": gettext_noop("No report came before the deadline."),
 }
 
 
 def words_of(row: dict[str, str], state: str) -> str:
-    """Returns the state of a result in words, and why it is not valid."""
+    """Returns the state of a result in words, and why it is not valid, in English: results are kept for
+    readers of all languages.
+    """
     if state != "failed":
         return REASONS[state]
     if row["validate_state"] == "2":
-        return "Invalid: enough other results of the same work agree, and this one differs."
+        return gettext_noop("Invalid: enough other results of the same work agree, and this one differs.")
     if row["validate_state"] == "3":
-        return "Not compared: the work had failed before the report."
-    return "An error: the computer reported that the program failed, or that a file was lost."
+        return gettext_noop("Not compared: the work had failed before the report.")
+    return gettext_noop("An error: the computer reported that the program failed, or that a file was lost.")
 
 
 def read_results(text: str) -> list[Result]:

@@ -3,6 +3,7 @@ from werkzeug.wrappers import Request, Response
 
 from .directory import MOST_SEARCH, Directory, User
 from .http_messages import query_of
+from .languages import language_of
 from .page_numbers import PageOf, page_of
 from .teams import Team, Teams
 from .templates import Templates
@@ -25,19 +26,20 @@ class TeamPages:
             ON_A_PAGE,
             lambda first, most: self.teams.teams(first, most, name),
         )
-        return self.templates.page("teams.html", page=page, name=name)
+        return self.templates.page("teams.html", language=language_of(message), page=page, name=name)
 
     def team(self, message: Request, number: int) -> Response:
         """Returns the page of a team."""
-        team = self.teams.team(number)
+        team, language = self.teams.team(number), language_of(message)
         if team is None:
-            return self.templates.page("not_found.html", http_status=404)
+            return self.templates.page("not_found.html", language=language, http_status=404)
         known = team
         page: PageOf[User] = page_of(
             message, team.members, ON_A_PAGE, lambda first, most: self.teams.members(known, first, most)
         )
         return self.templates.page(
             "team.html",
+            language=language,
             team=team,
             place=self.teams.place(team),
             of=self.teams.count(),

@@ -11,6 +11,7 @@ from typing import cast
 
 from .accounts import clean_name
 from .directory import USER, User, pattern_of, user_of
+from .languages import gettext_noop
 from .limits import RecentCounts
 from .members import Member
 from .state_file import StateFile
@@ -34,14 +35,14 @@ class TeamFault(Exception):
 class Why(Enum):
     """Why it can't be done."""
 
-    NO_NAME = "Give a name."
-    NO_TEAM = "No team has this name or number."
-    TAKEN = "Another team has this name."
-    IN_TEAM = "Leave your team first."
-    NO_MEMBER = "No other member of your team has this number."
-    NO_FOUNDER = "Only the founder of a team can remove members."
-    FULL = "The project has as many teams as it can have."
-    TOO_MANY = "You made several teams today. Try again tomorrow."
+    NO_NAME = gettext_noop("Give a name.")
+    NO_TEAM = gettext_noop("No team has this name or number.")
+    TAKEN = gettext_noop("Another team has this name.")
+    IN_TEAM = gettext_noop("Leave your team first.")
+    NO_MEMBER = gettext_noop("No other member of your team has this number.")
+    NO_FOUNDER = gettext_noop("Only the founder of a team can remove members.")
+    FULL = gettext_noop("The project has as many teams as it can have.")
+    TOO_MANY = gettext_noop("You made several teams today. Try again tomorrow.")
 
 
 @dataclass(frozen=True, slots=True)

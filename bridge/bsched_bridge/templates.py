@@ -1,6 +1,7 @@
 """Pages from Jinja2's templates, in which every text is escaped, and their style sheet.
 
 There is no script, and one style sheet. Its URL has a hash of its content, so browsers may keep it for good.
+What the operator writes, the names of users and teams, and HTTP's own phrases are in no other language.
 """
 import hashlib
 import re
@@ -11,6 +12,7 @@ from markupsafe import Markup, escape
 from werkzeug.wrappers import Request, Response
 
 from .http_messages import CSS, FOR_GOOD, HTML, NO_STORE, answer
+from .languages import ENGLISH, LANGUAGES, Language
 from .settings import Settings
 from .texts import bytes_text, credits_text, moment_text
 
@@ -25,6 +27,7 @@ SAFE_FIELDS = {
     "Referrer-Policy": "no-referrer",
     "X-Content-Type-Options": "nosniff",
 }
+PAGE_FIELDS = {**SAFE_FIELDS, "Vary": "Accept-Language"}
 WEB_ADDRESS = re.compile(r"https?://[^\s<>\"']*[^\s<>\"'.,;:!?)]")
 
 
@@ -49,9 +52,42 @@ def whole(number: int) -> str:
     return f"{number:,}"
 
 
+def decimal(number: float) -> str:
+    """Returns a number with two decimals, and with a comma after each three digits before them."""
+    return f"{number:,.2f}"
+
+
 def hash_of(content: bytes) -> str:
     """Returns what tells one content from another, for a URL."""
     return hashlib.sha256(content).hexdigest()[:HASH_DIGITS]
+
+
+def environment_of(language: Language) -> Environment:
+    """Returns the templates of a language."""
+    environment = Environment(
+        loader=FileSystemLoader(FOLDER),
+        extensions=["jinja2.ext.i18n"],
+        autoescape=True,
+        undefined=StrictUndefined,
+        trim_blocks=True,
+        lstrip_blocks=True,
+        auto_reload=False,
+    )
+    environment.policies["ext.i18n.trimmed"] = True
+    environment.install_gettext_translations(language.translations)  # type: ignore[attr-defined]
+    environment.filters.update(
+        bytes=lambda number: language.number(bytes_text(number)),
+        credits=lambda number: language.number(credits_text(number)),
+        decimal=lambda number: language.number(decimal(number)),
+        linked=linked,
+        moment=moment_text,
+        number=language.number,
+        paragraphs=paragraphs,
+        text=language.text,
+        whole=lambda number: language.number(whole(number)),
+    )
+    environment.globals["language"] = language.tag
+    return environment
 
 
 class Templates:
@@ -60,37 +96,30 @@ class Templates:
     def __init__(self, settings: Settings) -> None:
         self._style = (FOLDER / "style.css").read_bytes()
         self.style_name = f"style-{hash_of(self._style)}.css"
-        self._environment = Environment(
-            loader=FileSystemLoader(FOLDER),
-            autoescape=True,
-            undefined=StrictUndefined,
-            trim_blocks=True,
-            lstrip_blocks=True,
-            auto_reload=False,
-        )
-        self._environment.filters.update(
-            bytes=bytes_text,
-            credits=credits_text,
-            linked=linked,
-            moment=moment_text,
-            paragraphs=paragraphs,
-            whole=whole,
-        )
+        self._environments = {tag: environment_of(language) for tag, language in LANGUAGES.items()}
         accounts = settings.accounts
-        self._environment.globals.update(
-            root=settings.path,
-            project=settings.name,
-            style=self.style_name,
-            has_accounts=accounts is not None,
-            has_terms=accounts is not None and accounts.terms is not None,
-        )
+        for environment in self._environments.values():
+            environment.globals.update(
+                root=settings.path,
+                project=settings.name,
+                style=self.style_name,
+                has_accounts=accounts is not None,
+                has_terms=accounts is not None and accounts.terms is not None,
+            )
 
     def page(
-        self, template: str, /, *, is_kept: bool = True, http_status: int = 200, **values: object
+        self,
+        template: str,
+        /,
+        *,
+        language: Language = ENGLISH,
+        is_kept: bool = True,
+        http_status: int = 200,
+        **values: object,
     ) -> Response:
-        """Returns a page. If is_kept is false, browsers don't keep it, because it may show a key."""
-        text = self._environment.get_template(template).render(values)
-        fields = SAFE_FIELDS if is_kept else {**SAFE_FIELDS, **NO_STORE}
+        """Returns a page in a language. If is_kept is false, browsers don't keep it: it may show a key."""
+        text = self._environments[language.tag].get_template(template).render(values)
+        fields = PAGE_FIELDS if is_kept else {**PAGE_FIELDS, **NO_STORE}
         return answer(HTML, text.encode(), fields, http_status)
 
     def style(self, _message: Request) -> Response:

@@ -1,9 +1,11 @@
 """Numbers and moments as people read them."""
 from datetime import datetime, timezone
 
+from .languages import gettext_noop
+
 MILLICREDITS = 1000
 # what the columns of a table of computers count
-RESULT_WORDS = (
+RESULT_WORDS = gettext_noop(
     "Results are out until they are reported or their deadline passes; those whose deadline passed are late. "
     "Those that wait are reported, and their workunit is not decided. Done are those that were found valid; "
     "failed are errors, and results found invalid."

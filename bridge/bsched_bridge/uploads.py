@@ -17,6 +17,7 @@ from typing import BinaryIO
 from werkzeug.wrappers import Request, Response
 
 from .http_messages import TEXT, answer, length_of
+from .languages import language_of
 from .limits import NoPlace, Places
 from .measurements import UploadCounts, UploadEnd
 from .settings import UploadSettings
@@ -130,6 +131,7 @@ class Uploads:
         would try again, for 90 days.
         """
         length, stream = length_of(message), message.environ["wsgi.input"]
+        language = language_of(message)
         begin = stream.read(min(length, MOST_HEAD))
         try:
             if is_question(begin):
@@ -140,7 +142,7 @@ class Uploads:
         except BadMessage as fault:
             self.counts.record(UploadEnd.REFUSED)
             log.warning("an upload is refused for good: %s", fault)
-            return answer_of(NEVER, "The project refuses this file.")
+            return answer_of(NEVER, language.gettext("The project refuses this file."))
         except NotNow as fault:
             log.info("an upload is put off: %s", fault)
         except NoPlace:
@@ -148,7 +150,7 @@ class Uploads:
         except (OSError, sqlite3.Error) as fault:
             log.error("an upload is put off: %s", fault)
         self.counts.record(UploadEnd.PUT_OFF)
-        return answer_of(AGAIN, "The project can't take this file at the moment.")
+        return answer_of(AGAIN, language.gettext("The project can't take this file at the moment."))
 
     def _received(self, begin: bytes, stream: BinaryIO, length: int) -> Response:
         """Receives a file, and returns the answer. Before it reads the file it checks all that the head

@@ -8,6 +8,7 @@ from .charts import chart_of
 from .credit_days import CreditDays
 from .directory import MOST_SEARCH, Computer, Directory, User
 from .http_messages import query_of
+from .languages import ENGLISH, Language, language_of
 from .page_numbers import PageOf, page_of
 from .settings import Settings
 from .statements import Statements
@@ -42,7 +43,7 @@ class VolunteerPages:
 
     def users(self, message: Request) -> Response:
         """Lists the users, those with the most credit first."""
-        name = self._search(message)
+        name, language = self._search(message), language_of(message)
         page: PageOf[User] = page_of(
             message,
             self.directory.count_users(name),
@@ -50,17 +51,19 @@ class VolunteerPages:
             lambda first, most: self.directory.users(first, most, name),
         )
         averages = [self.average_of(user) for user in page.rows] if self._has_average else []
-        badges = [] if name else self.badges_of(page)
-        return self.templates.page("users.html", page=page, name=name, averages=averages, badges=badges)
+        badges = [] if name else self.badges_of(page, language)
+        return self.templates.page(
+            "users.html", language=language, page=page, name=name, averages=averages, badges=badges
+        )
 
-    def badges_of(self, page: PageOf[User]) -> list[list[Badge]]:
+    def badges_of(self, page: PageOf[User], language: Language = ENGLISH) -> list[list[Badge]]:
         """Returns the badges of the users on a page of the ranking."""
         now, found = time.time(), []
         place, before = 0, -1
         for at, user in enumerate(page.rows, page.first + 1):
             if user.credit != before:  # users of equal credit have one place
                 place, before = self.directory.place(user) if at == page.first + 1 else at, user.credit
-            found.append(list(badges_of(user.credit, place, page.count, user.created_at, now)))
+            found.append(list(badges_of(user.credit, place, page.count, user.created_at, now, language)))
         return found
 
     def computers(self, message: Request) -> Response:
@@ -72,35 +75,36 @@ class VolunteerPages:
             ON_A_PAGE,
             lambda first, most: self.directory.computers(first, most, name),
         )
-        return self.templates.page("computers.html", page=page, name=name)
+        return self.templates.page("computers.html", language=language_of(message), page=page, name=name)
 
     def average_of(self, user: User) -> float | None:
         """Returns the recent average credit of a user, if the operator has it computed."""
         return self.statements.average_of(user.authenticator) if self._has_average else None
 
-    def user(self, _message: Request, number: int) -> Response:
+    def user(self, message: Request, number: int) -> Response:
         """Returns the page of a user."""
-        user = self.directory.user(number)
+        user, language = self.directory.user(number), language_of(message)
         if user is None:
-            return self.templates.page("not_found.html", http_status=404)
+            return self.templates.page("not_found.html", language=language, http_status=404)
         place, of = self.directory.place(user), self.directory.count_users()
         return self.templates.page(
             "user.html",
+            language=language,
             user=user,
-            badges=list(badges_of(user.credit, place, of, user.created_at, time.time())),
+            badges=list(badges_of(user.credit, place, of, user.created_at, time.time(), language)),
             place=place,
             of=of,
             average=self.average_of(user),
             team=self.teams.team(user.team),
-            chart=chart_of(self.days.of_member(number)),
+            chart=chart_of(self.days.of_member(number), language),
             computers=self.directory.computers_of(user, MOST_COMPUTERS),
         )
 
     def computer(self, message: Request, number: int) -> Response:
         """Returns the page of a computer."""
-        computer = self.directory.computer(number)
+        computer, language = self.directory.computer(number), language_of(message)
         if computer is None:
-            return self.templates.page("not_found.html", http_status=404)
+            return self.templates.page("not_found.html", language=language, http_status=404)
         page, results = None, self.statements.results_of(computer)
         if results is not None:
             kept = results
@@ -112,8 +116,9 @@ class VolunteerPages:
             )
         return self.templates.page(
             "computer.html",
+            language=language,
             computer=computer,
             page=page,
-            chart=chart_of(self.days.of_host(number)),
+            chart=chart_of(self.days.of_host(number), language),
             result_words=RESULT_WORDS,
         )

@@ -17,6 +17,7 @@ from bsched_bridge.client_replies import (
 )
 from bsched_bridge.client_requests import ClientRequest
 from bsched_bridge.exchange import PutOff
+from bsched_bridge.languages import ENGLISH, Language
 from bsched_bridge.output_files import upload_name
 from bsched_bridge.plan_classes import PlanClass, split
 from bsched_bridge.recent_credit import Recent
@@ -58,7 +59,7 @@ class PlainReplies:
     def put_off(self, put: PutOff) -> bytes:
         """Returns the reply that puts a request off. It acknowledges nothing, so the client loses nothing."""
         root = self._begun(put.delay)
-        add_message(root, put.message, put.priority)
+        add_message(root, str(put.message), put.priority)
         if put.is_down:
             add(root, "project_is_down", 1)
         return written(root)
@@ -70,11 +71,13 @@ class PlainReplies:
         hostid: int | None = None,
         notice: str | None = None,
         recent: Recent | None = None,
+        language: Language = ENGLISH,
     ) -> bytes:
         """Returns the reply to a request, with a notice for the volunteer. It has a hostid only for a client
         that did not send it: a client that has one takes any as a sign that it was copied, takes a new
         host_cpid and counts its requests anew.
         """
+        assert language is ENGLISH
         root = self._begun(reply.request_delay)
         add(root, "user_name", reply.user_name)
         if reply.team_name is not None:

@@ -94,7 +94,7 @@ def test_a_user_is_in_one_team(open_bridge: Bridge) -> None:
     acted(open_bridge, ann, "make", team="A")
     acted(open_bridge, bob, "make", team="B")
     for action, name in (("join", "B"), ("make", "C")):
-        acted(open_bridge, ann, action, team=name)
+        assert "Leave your team first." in acted(open_bridge, ann, action, team=name)
         assert open_bridge.members.of_key(ann).team == 1
     assert "Teams: 2." in page_of(open_bridge.got("/p/teams")).text
 
@@ -106,7 +106,7 @@ def test_the_founder_removes_members(open_bridge: Bridge) -> None:
     acted(open_bridge, cid, "make", team="C")
     for number in (ann_id, cid_id, 99, "x", "", "-1", "9" * 30, "٣"):
         assert "No other member of your team" in acted(open_bridge, ann, "remove", member=str(number))
-    acted(open_bridge, bob, "remove", member=str(ann_id))
+    assert "Only the founder of a team" in acted(open_bridge, bob, "remove", member=str(ann_id))
     assert [open_bridge.members.of_key(key).team for key in (ann, bob, cid)] == [1, 1, 2]
     assert "The member is removed." in acted(open_bridge, ann, "remove", member=str(bob_id))
     assert open_bridge.members.of_key(bob).team is None

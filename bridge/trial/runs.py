@@ -116,10 +116,10 @@ class Run:
         raise NotImplementedError
 
 
-def missing(needed: dict[str, str]) -> list[str]:
-    """Returns the Debian packages that are missing."""
+def missing(needed: dict[str, str], modules: dict[str, str] = MODULES) -> list[str]:
+    """Returns the Debian packages that are missing, of those with commands and modules of Python."""
     lacks = {package for word, package in needed.items() if shutil.which(word) is None}
-    for module, package in MODULES.items():
+    for module, package in modules.items():
         if subprocess.run(
             [sys.executable, "-c", f"import {module}"], capture_output=True, timeout=60
         ).returncode:
@@ -143,7 +143,14 @@ def status_inside(script: str) -> int:
         return 1
 
 
-def run_part(script: str, program: str, part: str, kind: type[Run]) -> bool:
+def enter_network() -> None:
+    """Makes the network ready that belongs to this process alone, and limits how long the trial takes."""
+    subprocess.run(["ip", "link", "set", "lo", "up"], check=True, timeout=10)
+    signal.signal(signal.SIGALRM, too_long)
+    signal.alarm(MOST_SECONDS)
+
+
+def run_part(script: str, program: str | Path, part: str, kind: Callable[[str, Path], Run]) -> bool:
     """Runs a part of a trial in a folder of its own. Returns whether all is good."""
     name = Path(script).name
     folder = Path(tempfile.mkdtemp(prefix=f"bridge_{name}_"))
@@ -179,9 +186,7 @@ def main(
         return 1
     if INSIDE not in sys.argv:
         return status_inside(script)
-    subprocess.run(["ip", "link", "set", "lo", "up"], check=True, timeout=10)
-    signal.signal(signal.SIGALRM, too_long)
-    signal.alarm(MOST_SECONDS)
+    enter_network()
     for part in chosen:
         if not run_part(script, program[0], part, kinds[part]):
             return 1
