@@ -235,4 +235,6 @@ def served(path: str) -> Application:
     """Returns the application of a settings file, for a WSGI server that takes the name of a function to
     call.
     """
-    return new_application(Path(path))
+    application = new_application(Path(path))
+    application.templates.compile()
+    return application

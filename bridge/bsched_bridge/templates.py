@@ -107,6 +107,12 @@ class Templates:
                 has_terms=accounts is not None and accounts.terms is not None,
             )
 
+    def compile(self) -> None:
+        """Compiles all templates, so that the first reader of a page does not wait for it."""
+        for environment in self._environments.values():
+            for name in environment.list_templates(extensions=["html"]):
+                environment.get_template(name)
+
     def page(
         self,
         template: str,
