@@ -188,7 +188,7 @@ class Application:
 
         def handle(message: Request) -> Response:
             is_near = is_of_this_machine(message, field)
-            return handler(message) if is_near else self.pages.not_found()
+            return handler(message) if is_near else self.pages.not_found(message)
 
         return handle
 

@@ -81,7 +81,9 @@ class SchedulerMessages:
                 request = catalogue.by_resource(asked)
                 answered = self.exchange.answer(request)
         except RequestFault as fault:
-            answered = PutOff(gettext_lazy("Error in request message: %(why)s", why=fault.text), HOUR, end=End.UNREADABLE)
+            answered = PutOff(
+                gettext_lazy("Error in request message: %(why)s", why=fault.text), HOUR, end=End.UNREADABLE
+            )
         except (Busy, NoPlace):
             answered = PutOff(TOO_BUSY, self.exchange.retry_delay, end=End.TOO_BUSY)
         for _ in blocks:
