@@ -444,7 +444,7 @@ class Exchange:
             if isinstance(answer, Reply):
                 jobs = [] if request.other_results is None else answer.results
                 self.numbers.record_answer(key, answer, jobs, state, request.about)
-                self.counted.record(key, request.results)
+                self.counted.record(key, request.results, answer.result_ack)
                 return shown(answer, state.account, in_hand)
             refusal = answer
             self.numbers.record_refusal(key)

@@ -10,7 +10,7 @@ import threading
 import time
 from bisect import bisect_left
 from collections import Counter, OrderedDict, deque
-from collections.abc import Callable, Sequence
+from collections.abc import Callable, Iterable, Sequence
 from dataclasses import dataclass, field
 from enum import StrEnum
 
@@ -152,13 +152,17 @@ class Reports:
         self._reports = self._errors = 0
         self._hosts: OrderedDict[Key, HostReports] = OrderedDict()
 
-    def record(self, key: Key, results: Sequence[Report]) -> None:
-        """Counts the results that a host reported in a call that has its reply."""
+    def record(self, key: Key, results: Sequence[Report], acknowledged: Iterable[str]) -> None:
+        """Counts the results that a host reported, and that bsched has acknowledged. A client reports others
+        again.
+        """
         if not results:
             return
-        errors = sum(result.exit_status != 0 for result in results)
+        names = frozenset(acknowledged)
+        is_error = [result.exit_status != 0 for result in results if result.name in names]
+        reports, errors = len(is_error), sum(is_error)
         with self._lock:
-            self._reports += len(results)
+            self._reports += reports
             self._errors += errors
             host = self._hosts.get(key)
             if host is None and errors:
@@ -169,7 +173,7 @@ class Reports:
                 return
             if errors:
                 self._hosts.move_to_end(key)
-            host.reports += len(results)
+            host.reports += reports
             host.errors += errors
 
     def totals(self) -> tuple[int, int]:

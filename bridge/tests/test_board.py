@@ -325,6 +325,13 @@ def test_the_results_of_a_computer(bridge: Bridge, twin: Twin) -> None:
     assert len([one for one in cells(answer) if one[0].startswith(("u", "&lt;b")) and len(one) == 6]) == 5
 
 
+@pytest.mark.parametrize(
+    "name", ["\0", "\U0010ffff", "%", "'; --", "x" * 254, "\x1b[31m", "\u202eann", "a\nb"]
+)
+def test_any_name_of_an_account(bridge: Bridge, name: str) -> None:
+    assert "no account has the address, name or key" in board(bridge, action="bar", account=name).text
+
+
 @pytest.mark.parametrize("computer", ["", "0", "x", "5", "-1", "9" * 30, "100001'"])
 def test_the_results_of_no_computer(bridge: Bridge, computer: str) -> None:
     bridge.call(request())

@@ -108,7 +108,7 @@ def test_threads_count_together() -> None:
     def count(_: int) -> None:
         for _ in range(200):
             measured.calls.record(End.ANSWERED, 0.001)
-            measured.reports.record(Key("k", "c"), [ERROR, GOOD])
+            measured.reports.record(Key("k", "c"), [ERROR, GOOD], ["r"])
             measured.uploads.record(UploadEnd.RECEIVED, 3)
 
     with ThreadPoolExecutor(8) as pool:
@@ -124,12 +124,13 @@ def test_threads_count_together() -> None:
 
 def test_hosts_count_since_their_first_error() -> None:
     reports = Reports()
-    reports.record(Key("a", "1"), [GOOD, GOOD])
+    reports.record(Key("a", "1"), [GOOD, GOOD], ["r"])
     assert (reports.worst(5), reports.totals()) == ([], (2, 0))
-    reports.record(Key("a", "1"), [ERROR, GOOD])
-    reports.record(Key("a", "1"), [GOOD])
-    reports.record(Key("a", "2"), [ERROR, ERROR])
-    reports.record(Key("a", "2"), [])
+    reports.record(Key("a", "1"), [ERROR, GOOD], ["r"])
+    reports.record(Key("a", "1"), [GOOD], ["r"])
+    reports.record(Key("a", "2"), [ERROR, ERROR], ["r"])
+    reports.record(Key("a", "2"), [], [])
+    reports.record(Key("a", "2"), [ERROR, Report("another", 1, "")], ["none"])
     assert reports.worst(5) == [(Key("a", "2"), 2, 2), (Key("a", "1"), 1, 3)]
     assert reports.worst(1) == [(Key("a", "2"), 2, 2)]
     assert reports.totals() == (4, 3)
@@ -140,7 +141,7 @@ def test_few_hosts_are_kept(monkeypatch: pytest.MonkeyPatch) -> None:
     monkeypatch.setattr(measurements, "MOST_HOSTS", 2)
     reports = Reports()
     for name in ("1", "2", "1", "3"):
-        reports.record(Key("a", name), [ERROR])
+        reports.record(Key("a", name), [ERROR], ["r"])
     assert reports.worst(5) == [(Key("a", "1"), 2, 2), (Key("a", "3"), 1, 1)]
     assert reports.totals() == (0, 4)
 
