@@ -24,6 +24,7 @@ from .scheduler import NoAnswer, Scheduler
 MOST_HOSTS = 50
 KEPT_SECONDS = 60  # how long what was read is shown again, so that a page costs bsched nothing
 READ_SECONDS = 30.0  # for the statements of a page
+WAIT_SECONDS = 0.02  # for which a page waits for them, so that no page takes long
 OLD_SECONDS = 600  # after which nobody gets what was read any more
 MOST_KEPT = 200  # accounts whose hosts are kept for that time
 MOST_RESULTS, MOST_KEPT_RESULTS = 500, 50  # results of a host on its page, and hosts whose results are kept
@@ -201,6 +202,7 @@ class Statements:
         self.recent = recent
         self.hosts, self.members, self.scheduler, self.operator_key = hosts, members, scheduler, operator_key
         self.unit_counts, self.archives = unit_counts, archives
+        self.wait_seconds = WAIT_SECONDS
         self._lock, self._accounts_lock = threading.Lock(), threading.Lock()
         self._kept: tuple[Status, float] | None = None  # with the moment until which it is shown
         self._accounts: OrderedDict[str, tuple[AccountStatus, float]] = OrderedDict()
@@ -209,26 +211,39 @@ class Statements:
         self._reads, self._reading = RecentCounts(MOST_READ, KEPT_SECONDS), Places(MOST_READING)
 
     def status(self) -> Status:
-        """Returns the status of the project. What was read a short time ago is shown again. After that it is
-        shown once more, while a thread reads it anew. What is old is not shown: then the page waits. While
-        somebody else reads, and nothing was read before, what replies said is shown.
+        """Returns the status of the project. What was read a short time ago is shown again. After that a thread
+        reads it anew. Meanwhile it is shown once more, unless it is old: then the page waits a little, and
+        shows what replies said if the thread is not done.
         """
         kept, now = self._kept, time.monotonic()
         if kept is not None and now <= kept[1]:
             return kept[0]
-        if not self._lock.acquire(blocking=False):
-            return self._read(with_statements=False) if kept is None else kept[0]
+        reading = self._start_reading()
         if kept is not None and now <= kept[1] + OLD_SECONDS:
-            threading.Thread(target=self._read_anew, daemon=True).start()  # the lock allows one
             return kept[0]
-        return self._read_anew()
+        if reading is not None:
+            reading.join(self.wait_seconds)
+        latest = self._kept
+        if latest is None or latest is kept:
+            return self._read(with_statements=False)
+        return latest[0]
 
-    def _read_anew(self) -> Status:
+    def _start_reading(self) -> threading.Thread | None:
+        """Starts a thread that reads the status, unless one does already."""
+        if not self._lock.acquire(blocking=False):
+            return None
+        try:
+            reading = threading.Thread(target=self._read_anew, daemon=True)
+            reading.start()
+            return reading
+        except BaseException:
+            self._lock.release()
+            raise
+
+    def _read_anew(self) -> None:
         """Reads the status of the project, and gives up the lock of the reader."""
         try:
-            status = self._read()
-            self._kept = status, time.monotonic() + KEPT_SECONDS
-            return status
+            self._kept = self._read(), time.monotonic() + KEPT_SECONDS
         finally:
             self._lock.release()
 

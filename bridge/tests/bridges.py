@@ -78,6 +78,7 @@ class Bridge:
             Passwords(Cost(2**4, 8, 1)),
             self.store,
         )
+        self.application.statements.wait_seconds = 60  # tests look at what a page shows after the reading
         self.hosts, self.numbers = self.application.exchange.hosts, self.application.exchange.numbers
         self.members: Any = self.application.members
 

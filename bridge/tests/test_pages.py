@@ -533,6 +533,21 @@ def test_nobody_waits_while_somebody_else_reads_the_status(open_bridge: Bridge) 
     assert "waiting" in page_of(open_bridge.got("/p/status")).text
 
 
+def test_a_page_waits_a_little_for_the_status(open_bridge: Bridge) -> None:
+    """While statements are read, the page shows what replies said. The next one has the results."""
+    open_bridge.call(request())
+    statements: Any = open_bridge.application.statements
+    statements.wait_seconds = 0.0
+    read, may_read = statements._with_results, threading.Event()
+    statements._with_results = lambda heard, key: (may_read.wait(30), read(heard, key))[1]
+    page = page_of(open_bridge.got("/p/status"))
+    assert "Ann" in page.text and "waiting" not in page.text
+    may_read.set()
+    with statements._lock:
+        pass
+    assert "waiting" in page_of(open_bridge.got("/p/status")).text
+
+
 def test_statements_that_take_too_long(open_bridge: Bridge, monkeypatch: pytest.MonkeyPatch) -> None:
     open_bridge.call(request())
     monkeypatch.setattr("bsched_bridge.statements.READ_SECONDS", -1.0)
