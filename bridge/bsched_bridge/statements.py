@@ -211,9 +211,9 @@ class Statements:
         self._reads, self._reading = RecentCounts(MOST_READ, KEPT_SECONDS), Places(MOST_READING)
 
     def status(self) -> Status:
-        """Returns the status of the project. What was read a short time ago is shown again. After that a thread
-        reads it anew. Meanwhile it is shown once more, unless it is old: then the page waits a little, and
-        shows what replies said if the thread is not done.
+        """Returns the status of the project. What was read a short time ago is shown again. After that a
+        thread reads it anew. Meanwhile it is shown once more, unless it is old: then the page waits a little,
+        and shows what replies said if the thread is not done.
         """
         kept, now = self._kept, time.monotonic()
         if kept is not None and now <= kept[1]:
