@@ -95,6 +95,9 @@ while (texts.nextNode()) {
   worst = Math.min(worst, found);
   if (found < least) say('a contrast of ' + found.toFixed(2), element);
 }
+for (const box of document.querySelectorAll('.wide')) {
+  if (box.scrollWidth > box.clientWidth) say('a table that is wider than its box', box);
+}
 if (document.documentElement.scrollWidth > document.documentElement.clientWidth) {
   const isWide = one => one.getBoundingClientRect().right > document.documentElement.clientWidth;
   const wide = [...document.querySelectorAll('main *')].find(one => isWide(one) && !one.closest('.wide'));
