@@ -149,7 +149,7 @@ def test_pages_in_german(open_bridge: Bridge) -> None:
     people(open_bridge, 1234)
     users = page_of(open_bridge.got("/p/users", HTTP_ACCEPT_LANGUAGE="de"))
     assert "Benutzer mit Rechnern, die sich gemeldet haben: 1.234." in users.text
-    assert "Seite 1 von 13." in users.text and "1User 12331.233\n" in users.text
+    assert "Seite 1 von 13." in users.text and "1User 1233" in users.text and "1.2331\n" in users.text
     user = page_of(open_bridge.got("/p/user/1", HTTP_ACCEPT_LANGUAGE="de"))
     assert "Platz1.234 von 1.234" in user.text and "dabei seit1970-01-01" in user.text
     faulty = open_bridge.got("/p/nothing", HTTP_ACCEPT_LANGUAGE="de")
