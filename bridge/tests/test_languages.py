@@ -160,8 +160,8 @@ def test_the_client_in_german(open_bridge: Bridge) -> None:
     create(open_bridge)
     for query, number, text in (
         ("create_account.php?email_addr=x", "-205", "Das ist keine E-Mail-Adresse."),
-        ("lookup_account.php?email_addr=x%40y.zz", "-155", "Kein Konto hat diese E-Mail-Adresse und dieses"),
-        ("lookup_account.php?email_addr=no-key", "-155", "Kein Konto hat diesen Schlüssel."),
+        ("lookup_account.php?email_addr=x%40y.zz", "-155", "Es gibt kein Konto mit dieser E-Mail-Adresse"),
+        ("lookup_account.php?email_addr=no-key", "-155", "Es gibt kein Konto mit diesem Schlüssel."),
     ):
         body = open_bridge.got(f"/p/{query}", HTTP_ACCEPT_LANGUAGE="de_DE", REMOTE_ADDR="127.0.0.1")[2]
         error = ElementTree.fromstring(body.decode())
