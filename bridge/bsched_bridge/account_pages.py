@@ -13,6 +13,7 @@ from werkzeug.wrappers import Request, Response
 
 from .account_messages import LEAST_PASSWORD, client_of
 from .accounts import AccountFault, AccountPlaces, Accounts, Fault, clean_name, is_email
+from .directory import Directory
 from .http_messages import form_of, query_of, refuse_other_sites
 from .languages import Language, Text, gettext_lazy, gettext_noop, language_of
 from .members import Member
@@ -61,9 +62,10 @@ class AccountPages:
         statements: Statements,
         places: AccountPlaces,
         teams: Teams,
+        directory: Directory,
     ) -> None:
         self.settings, self.templates, self.accounts = settings, templates, accounts
-        self.statements, self.places, self.teams = statements, places, teams
+        self.statements, self.places, self.teams, self.directory = statements, places, teams, directory
         self._field = settings.accounts.address_field if settings.accounts else None
         self._is_name_told = settings.accounts is not None and settings.accounts.is_name_told
 
@@ -190,10 +192,13 @@ class AccountPages:
 
     def _account(self, member: Member, sent: Form, done: str = "") -> Response:
         """Returns the page of an account."""
+        user = self.directory.user(member.id)
         return self._page(
             "account.html",
             sent,
             member=member,
+            place=None if user is None else self.directory.place(user),
+            of=self.directory.count_users(),
             status=self.statements.of_account(member.authenticator),
             done=done,
             team=self.teams.team(member.team),

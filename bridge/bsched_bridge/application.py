@@ -154,7 +154,13 @@ class Application:
         if self.accounts is None:
             return [Route("get_passwd.php", self.pages.no_passwords)]
         people = AccountPages(
-            self.settings, self.templates, self.accounts, self.statements, self.account_places, self.teams
+            self.settings,
+            self.templates,
+            self.accounts,
+            self.statements,
+            self.account_places,
+            self.teams,
+            self.directory,
         )
         teams = TeamPages(self.templates, self.teams, self.directory)
         return [

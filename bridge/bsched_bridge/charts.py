@@ -5,7 +5,7 @@ from datetime import date, timedelta
 
 from .credit_days import CreditDay
 from .languages import ENGLISH, Language
-from .texts import credits_text
+from .texts import page_credits
 
 WIDTH, HEIGHT = 600, 160
 MOST_ROWS = 60  # of the table with the same numbers
@@ -39,7 +39,7 @@ def chart_of(days: Sequence[CreditDay], language: Language = ENGLISH) -> Chart |
         f"{WIDTH * (one.day - first) / span:.1f},{HEIGHT * (1 - one.credit / most):.1f}" for one in days
     )
     dates = [date_text(one.day) for one in days]
-    rows = [(shown, language.number(credits_text(one.credit))) for shown, one in zip(dates, days)]
+    rows = [(shown, language.number(page_credits(one.credit))) for shown, one in zip(dates, days)]
     text = language.gettext(
         "Credit from %(first)s to %(last)s: from %(first_credit)s to %(last_credit)s."
     ) % {"first": dates[0], "last": dates[-1], "first_credit": rows[0][1], "last_credit": rows[-1][1]}
@@ -48,7 +48,7 @@ def chart_of(days: Sequence[CreditDay], language: Language = ENGLISH) -> Chart |
         f"0,{HEIGHT} {points} {WIDTH},{HEIGHT}",
         dates[0],
         dates[-1],
-        language.number(credits_text(most)),
+        language.number(page_credits(most)),
         text,
         rows[: -MOST_ROWS - 1 : -1],
     )

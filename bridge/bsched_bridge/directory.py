@@ -3,6 +3,7 @@
 Whoever chose to be anonymous is called so here, and is not found by name.
 """
 import time
+from collections.abc import Sequence
 from dataclasses import dataclass
 from typing import cast
 
@@ -138,6 +139,21 @@ class Directory:
     def place(self, user: User) -> int:
         """Returns the place of a user by credit. Users of equal credit have one place."""
         return 1 + self._count("SELECT count(*) FROM member WHERE credit > ?", user.credit)
+
+    def places(self, users: Sequence[User]) -> list[int]:
+        """Returns the places of users, who are in the order of their credit. Each better user is counted
+        once.
+        """
+        found: list[int] = []
+        for before, user in zip([None, *users], users):
+            if before is None:
+                found.append(self.place(user))
+            elif user.credit == before.credit:
+                found.append(found[-1])
+            else:
+                query = "SELECT count(*) FROM member WHERE credit > ? AND credit <= ?"
+                found.append(found[-1] + self._count(query, user.credit, before.credit))
+        return found
 
     # ---- Computers
 

@@ -12,10 +12,13 @@ from .templates import Templates
 from .texts import RESULT_WORDS
 
 LEADERS = 10
-# what volunteers read about workunits, by the names of `bsched-tools counts`
+# what volunteers read about workunits: by the names of `bsched-tools counts`, and the parts of all
 UNIT_WORDS = {
-    "open": gettext_noop("open"),
     "done": gettext_noop("done"),
+    "out": gettext_noop("out"),
+    "waiting": gettext_noop("waiting for a computer"),
+    "open": gettext_noop("open"),
+    "failed": gettext_noop("failed"),
     "failed by errors": gettext_noop("failed: too many errors"),
     "failed by successes": gettext_noop("failed: results that do not agree"),
     "failed by the total": gettext_noop("failed: too many results in all"),
@@ -27,7 +30,8 @@ BAR = 1000  # the width of the bar in its own units
 class Part:
     """A part of the bar that shows how far the work is."""
 
-    name: str  # also that of its colour
+    name: str  # that of its words
+    colour: str
     count: int
     first: float
     width: float
@@ -48,24 +52,34 @@ class Progress:
         return f"{min(1000 * done // self.total, 1000) / 10:.1f}"
 
 
+def open_parts(units: UnitCounts) -> dict[str, int]:
+    """Returns how many of the workunits that are not decided are out, and how many wait, if that is known."""
+    opened = units.by_status.get("open", 0)
+    return {"open": opened} if units.out is None else {"out": units.out, "waiting": opened - units.out}
+
+
 def progress_of(units: UnitCounts | None) -> Progress | None:
     """Returns how far the work is, or None if it is not known or there is no work."""
     if units is None or not (total := sum(units.by_status.values())):
         return None
-    counts = {"done": units.by_status.get("done", 0)}
-    opened = units.by_status.get("open", 0)
-    if units.out is None:
-        counts["waiting"] = opened
-    else:
-        counts |= {"out": units.out, "waiting": opened - units.out}
-    if failed := total - counts["done"] - opened:
+    counts = {"done": units.by_status.get("done", 0), **open_parts(units)}
+    if failed := total - sum(counts.values()):
         counts["failed"] = failed
     parts, first = [], 0.0
     for name, count in counts.items():
         width = BAR * count / total
-        parts.append(Part(name, count, round(first, 2), round(width, 2)))
+        colour = "waiting" if name == "open" else name
+        parts.append(Part(name, colour, count, round(first, 2), round(width, 2)))
         first += width
     return Progress(parts, total, units.counted_at)
+
+
+def unit_rows(units: UnitCounts) -> dict[str, int]:
+    """Returns how many workunits have each status: the open ones as the bar has them, and why others
+    failed.
+    """
+    others = {name: count for name, count in units.by_status.items() if name not in ("done", "open")}
+    return {"done": units.by_status.get("done", 0), **open_parts(units), **others}
 
 
 class Pages:
@@ -96,6 +110,7 @@ class Pages:
             picture=self.pictures.own,
             plots=self.pictures.plots(),
             progress=progress_of(read_unit_counts(self.settings.counts)),
+            unit_words=UNIT_WORDS,
             silent_since=self.statements.scheduler.silent_since,
             leaders=self.directory.users(0, LEADERS),
         )
@@ -107,6 +122,7 @@ class Pages:
             "status.html",
             language=language_of(message),
             status=status,
+            unit_rows=None if status.units is None else unit_rows(status.units),
             unit_words=UNIT_WORDS,
             count_of_users=self.directory.count_users(),
             count_of_hosts=self.directory.count_computers(),

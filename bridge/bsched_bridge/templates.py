@@ -14,7 +14,7 @@ from werkzeug.wrappers import Request, Response
 from .http_messages import CSS, FOR_GOOD, HTML, NO_STORE, answer
 from .languages import ENGLISH, LANGUAGES, Language
 from .settings import Settings
-from .texts import bytes_text, credits_text, moment_text
+from .texts import bytes_text, moment_text, page_credits, without_zeros
 
 FOLDER = Path(__file__).with_name("templates")
 HASH_DIGITS = 16
@@ -28,6 +28,7 @@ SAFE_FIELDS = {
     "X-Content-Type-Options": "nosniff",
 }
 PAGE_FIELDS = {**SAFE_FIELDS, "Vary": "Accept-Language"}
+EMAIL_ADDRESS = re.compile(r"[A-Za-z0-9._+-]+@[A-Za-z0-9-]+(?:\.[A-Za-z0-9-]+)+")
 WEB_ADDRESS = re.compile(r"https?://[^\s<>\"']*[^\s<>\"'.,;:!?)]")
 
 
@@ -39,6 +40,13 @@ def linked(text: str) -> Markup:
         parts += Markup('<a href="{0}">{0}</a>').format(found[0])
         last = found.end()
     return parts + escape(text[last:])
+
+
+def contact(text: str) -> Markup:
+    """Returns how to reach the operator: an e-mail address alone is a link, and each web address is one."""
+    if EMAIL_ADDRESS.fullmatch(text):
+        return Markup('<a href="mailto:{0}">{0}</a>').format(text)
+    return linked(text)
 
 
 def paragraphs(text: str) -> Markup:
@@ -77,12 +85,14 @@ def environment_of(language: Language) -> Environment:
     environment.install_gettext_translations(language.translations)  # type: ignore[attr-defined]
     environment.filters.update(
         bytes=lambda number: language.number(bytes_text(number)),
-        credits=lambda number: language.number(credits_text(number)),
+        contact=contact,
+        credits=lambda number: language.number(page_credits(number)),
         decimal=lambda number: language.number(decimal(number)),
         linked=linked,
         moment=moment_text,
         number=language.number,
         paragraphs=paragraphs,
+        short=lambda number: language.number(without_zeros(number)),
         text=language.text,
         whole=lambda number: language.number(whole(number)),
     )

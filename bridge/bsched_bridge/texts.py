@@ -17,6 +17,16 @@ def credits_text(millicredits: int) -> str:
     return f"{millicredits / MILLICREDITS:,.3f}"
 
 
+def without_zeros(number: str) -> str:
+    """Returns a number without the zeros at the end of its decimals."""
+    return number.rstrip("0").rstrip(".") if "." in number else number
+
+
+def page_credits(millicredits: int) -> str:
+    """Returns credit as text for pages."""
+    return without_zeros(credits_text(millicredits))
+
+
 def bytes_text(number: int) -> str:
     """Returns a number of bytes as text."""
     return f"{number / 1e9:,.1f} GB"

@@ -3,12 +3,12 @@ import time
 
 from werkzeug.wrappers import Request, Response
 
-from .badges import Badge, badges_of
+from .badges import badges_of, kinds_of_badges
 from .charts import chart_of
 from .credit_days import CreditDays
 from .directory import MOST_SEARCH, Computer, Directory, User
 from .http_messages import query_of
-from .languages import ENGLISH, Language, language_of
+from .languages import language_of
 from .page_numbers import PageOf, page_of
 from .settings import Settings
 from .statements import Statements
@@ -51,20 +51,21 @@ class VolunteerPages:
             lambda first, most: self.directory.users(first, most, name),
         )
         averages = [self.average_of(user) for user in page.rows] if self._has_average else []
-        badges = [] if name else self.badges_of(page, language)
+        places, now = self.directory.places(page.rows), time.time()
+        count = self.directory.count_users() if name else page.count
         return self.templates.page(
-            "users.html", language=language, page=page, name=name, averages=averages, badges=badges
+            "users.html",
+            language=language,
+            page=page,
+            name=name,
+            averages=averages,
+            places=places,
+            badges=[
+                list(badges_of(user.credit, place, count, user.created_at, now, language))
+                for user, place in zip(page.rows, places)
+            ],
+            kinds=kinds_of_badges(language),
         )
-
-    def badges_of(self, page: PageOf[User], language: Language = ENGLISH) -> list[list[Badge]]:
-        """Returns the badges of the users on a page of the ranking."""
-        now, found = time.time(), []
-        place, before = 0, -1
-        for at, user in enumerate(page.rows, page.first + 1):
-            if user.credit != before:  # users of equal credit have one place
-                place, before = self.directory.place(user) if at == page.first + 1 else at, user.credit
-            found.append(list(badges_of(user.credit, place, page.count, user.created_at, now, language)))
-        return found
 
     def computers(self, message: Request) -> Response:
         """Lists the computers, those with the most credit first."""

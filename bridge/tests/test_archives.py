@@ -108,14 +108,14 @@ def test_replies_and_the_page_have_the_credit(project: Path, bridge: Bridge) -> 
     reply = bridge.call(request(hostid=FIRST))
     assert (value(reply, "user_total_credit"), value(reply, "host_total_credit")) == ("6.500", "4.000")
     # the user's credit in the latest reply; the host's credit by its statement, which is 5.000 in the twin
-    assert shown(bridge, "status") == [str(FIRST), "9.000", *"11111", "all", "", *"11111"]
-    assert shown(bridge, "users") == ["1", "6.500", "1"]
+    assert shown(bridge, "status") == [str(FIRST), "9", *"11111", *"11111"]  # the last are all together
+    assert shown(bridge, "users") == ["1", "6.5", "1"]
 
 
 def shown(bridge: Bridge, page: str) -> list[str]:
     """Returns the numbers in the tables of a page."""
     text = bridge.got(f"/p/{page}")[2].decode()
-    return re.findall('<td class="number">(?:<a [^>]*>)?([^<]*)(?:</a>)?</td>', text)
+    return re.findall('<td class="number(?: less)?">(?:<a [^>]*>)?([^<]*)(?:</a>)?</td>', text)
 
 
 ANN = "account_finish.php?auth=ann-key"
@@ -135,11 +135,11 @@ def test_a_new_file_in_which_another_user_has_the_number_of_a_host(
     open_bridge.call(request(key="bob-key", cpid="c2"))
     assert [host.number for host in twin.service.machine.hosts.values()] == [1]
     # Ann's host had the number 1 in the archive: it has its credit from there, and no results
-    assert shown(open_bridge, ANN) == [str(FIRST), "4.000", *"00000"]
-    assert "Together <strong>6.500</strong>." in open_bridge.got(f"/p/{ANN}")[2].decode()
-    assert "4.000" in shown(open_bridge, "status")
+    assert shown(open_bridge, ANN) == [str(FIRST), "4", *"00000"]
+    assert "<dt>credit</dt><dd>6.5</dd>" in open_bridge.got(f"/p/{ANN}")[2].decode()
+    assert "4" in shown(open_bridge, "status")
     open_bridge.call(request(hostid=FIRST))
     open_bridge.application.statements._accounts.clear()
-    assert shown(open_bridge, ANN) == [str(FIRST), "9.000", *"11111"]
+    assert shown(open_bridge, ANN) == [str(FIRST), "9", *"11111"]
     # 5.000 by the statement of this host, and 6.500 of both hosts in the archive
-    assert "Together <strong>11.500</strong>." in open_bridge.got(f"/p/{ANN}")[2].decode()
+    assert "<dt>credit</dt><dd>11.5</dd>" in open_bridge.got(f"/p/{ANN}")[2].decode()

@@ -50,5 +50,9 @@ def test_badges_on_pages(bridge: Bridge) -> None:
     labels = [
         fields["aria-label"] for tag, fields in page_of(bridge.got("/p/users")).tags if "aria-label" in fields
     ]
-    assert labels.count("Among the best 1 of 100 users by credit") == 2
-    assert labels.count("Among the best 5 of 100 users by credit") == 8
+    assert labels.count("Among the best 1 of 100 users by credit") == 2 + 1  # one is in the legend
+    assert labels.count("Among the best 5 of 100 users by credit") == 8 + 1
+    assert labels[-4:] == [
+        *(f"Among the best {of} of 100 users by credit" for of in (1, 5, 25)),
+        "Years with the project",
+    ]

@@ -149,7 +149,7 @@ def test_pages_in_german(open_bridge: Bridge) -> None:
     people(open_bridge, 1234)
     users = page_of(open_bridge.got("/p/users", HTTP_ACCEPT_LANGUAGE="de"))
     assert "Benutzer mit Rechnern, die sich gemeldet haben: 1.234." in users.text
-    assert "Seite 1 von 13." in users.text and "1User 1233" in users.text and "1.233,000" in users.text
+    assert "Seite 1 von 13." in users.text and "1User 1233" in users.text and "1.2331\n" in users.text
     user = page_of(open_bridge.got("/p/user/1", HTTP_ACCEPT_LANGUAGE="de"))
     assert "Platz1.234 von 1.234" in user.text and "dabei seit1970-01-01" in user.text
     faulty = open_bridge.got("/p/nothing", HTTP_ACCEPT_LANGUAGE="de")
@@ -160,8 +160,8 @@ def test_the_client_in_german(open_bridge: Bridge) -> None:
     create(open_bridge)
     for query, number, text in (
         ("create_account.php?email_addr=x", "-205", "Das ist keine E-Mail-Adresse."),
-        ("lookup_account.php?email_addr=x%40y.zz", "-155", "Kein Konto hat diese E-Mail-Adresse und dieses"),
-        ("lookup_account.php?email_addr=no-key", "-155", "Kein Konto hat diesen Schlüssel."),
+        ("lookup_account.php?email_addr=x%40y.zz", "-155", "Es gibt kein Konto mit dieser E-Mail-Adresse"),
+        ("lookup_account.php?email_addr=no-key", "-155", "Es gibt kein Konto mit diesem Schlüssel."),
     ):
         body = open_bridge.got(f"/p/{query}", HTTP_ACCEPT_LANGUAGE="de_DE", REMOTE_ADDR="127.0.0.1")[2]
         error = ElementTree.fromstring(body.decode())

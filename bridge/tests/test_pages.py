@@ -15,7 +15,8 @@ from messages import request
 from twin import Twin
 
 from bsched_bridge.operator_files import OperatorFault
-from bsched_bridge.templates import FOLDER, linked, paragraphs
+from bsched_bridge.templates import FOLDER, contact, linked, paragraphs
+from bsched_bridge.texts import page_credits
 
 EMPTY = {"meta", "link", "input", "br", "img"}
 FORM = "application/x-www-form-urlencoded"
@@ -165,6 +166,62 @@ def test_what_an_operator_writes() -> None:
     assert linked("no https:// here") == "no https:// here"
 
 
+@pytest.mark.parametrize(
+    "text, shown",
+    [
+        ("help@sums.example", '<a href="mailto:help@sums.example">help@sums.example</a>'),
+        (
+            "https://sums.example/?a&b",
+            '<a href="https://sums.example/?a&amp;b">https://sums.example/?a&amp;b</a>',
+        ),
+        ("write to help@sums.example", "write to help@sums.example"),
+        ("help@sums.example?cc=eve@x.example", "help@sums.example?cc=eve@x.example"),
+        ('"><b>@sums.example', "&#34;&gt;&lt;b&gt;@sums.example"),
+        ("help@sums.example\n", "help@sums.example\n"),
+        ("help@sums", "help@sums"),
+        ("mailto:help@sums.example", "mailto:help@sums.example"),
+        ("javascript:alert(1)@x.example", "javascript:alert(1)@x.example"),
+    ],
+)
+def test_a_contact_is_a_link_if_it_is_an_address(text: str, shown: str) -> None:
+    assert contact(text) == shown
+
+
+def test_the_current_page_is_marked(open_bridge: Bridge) -> None:
+    for path, marked in {
+        "": ["/p/"],
+        "status": ["/p/status"],
+        "users": ["/p/users"],
+        "users?page=1": ["/p/users"],
+        "computers": ["/p/computers"],
+        "teams": ["/p/teams"],
+        "account": ["/p/account"],
+        "get_passwd.php": [],
+    }.items():
+        page = page_of(open_bridge.got(f"/p/{path}"))
+        assert [fields["href"] for tag, fields in page.tags if fields.get("aria-current") == "page"] == marked
+
+
+def test_a_page_that_does_not_exist_leads_home(bridge: Bridge) -> None:
+    page = page_of(bridge.got("/p/nothing"), "404 Not Found")
+    assert page.links == [""] and page.text.rstrip().endswith("Home")
+
+
+@pytest.mark.parametrize(
+    "millicredits, shown",
+    [
+        (0, "0"),
+        (14_161_000, "14,161"),
+        (2_907_500, "2,907.5"),
+        (1, "0.001"),
+        (10_000, "10"),
+        (100_120, "100.12"),
+    ],
+)
+def test_credit_on_pages_has_no_zeros_at_its_end(millicredits: int, shown: str) -> None:
+    assert page_credits(millicredits) == shown
+
+
 # ---- The project's page
 
 
@@ -181,7 +238,7 @@ def test_how_far_the_work_is(project: Path, bridge: Bridge) -> None:
     known = page(open_workunits={"out": 200, "waiting": 1000})
     assert "71.4 % of 4,200 workunits are done." in known.text
     assert "Counted at 1970-01-02 00:00:00 UTC." in known.text
-    words = "71.4 % of 4,200 workunits are done: 2,999 done, 200 out, 1,000 waiting, 1 failed."
+    words = "71.4 % of 4,200 workunits are done: 2,999 done, 200 out, 1,000 waiting for a computer, 1 failed."
     assert [
         fields["aria-label"] for tag, fields in known.tags if "aria-label" in fields and tag == "svg"
     ] == [words]
@@ -195,12 +252,31 @@ def test_how_far_the_work_is(project: Path, bridge: Bridge) -> None:
         {"open_workunits": {"out": -1}},
     ):
         text = page(**odd).text
-        assert "1,200 waiting" in text or "open_workunits" in odd and odd["open_workunits"] == 1
-        assert "out" not in text.partition("workunits are done")[2].partition("Counted")[0]
+        assert "1,200 open" in text or "open_workunits" in odd and odd["open_workunits"] == 1
+        legend = text.partition("workunits are done")[2].partition("Counted")[0]
+        assert "out" not in legend and "waiting" not in legend
     counts.update({"open": 0, "done": 4199})
     assert "99.9 % of 4,200 workunits are done." in page().text
     counts.clear()
     assert "workunits are done" not in page().text
+
+
+def test_the_status_has_the_words_of_the_bar(project: Path, bridge: Bridge) -> None:
+    (project / "bridge.toml").write_text('counts = "counts.json"\n' + (project / "bridge.toml").read_text())
+    bridge.restart()
+    counts = {"open": 1200, "done": 2999, "failed by errors": 1}
+    (project / "counts.json").write_text(
+        json.dumps({"workunits": counts, "open_workunits": {"out": 200, "waiting": 1000}})
+    )
+    text = page_of(bridge.got("/p/status")).text
+    rows = [
+        "done2,999",
+        "out200",
+        "waiting for a computer1,000",
+        "failed: too many errors1",
+        "all workunits4,200",
+    ]
+    assert text.partition("statusworkunits\n")[2].split("\n")[:5] == rows
 
 
 def with_key(project: Path, bridge: Bridge, text: str) -> None:
@@ -301,7 +377,8 @@ def test_the_operators_own_words(project: Path, bridge: Bridge) -> None:
     bridge.restart()
     page = page_of(bridge.got("/p/"))
     assert "We add <numbers>." in page.text and "account key" in page.text
-    assert (page.header, page.links) == (["", "status", "users", "computers"], [])
+    assert page.header == ["", "status", "users", "computers"]
+    assert "Install BOINC" in page.text and page.links == ["https://boinc.berkeley.edu/download.php"]
     lines = bridge.got("/p/")[2].decode().split("\n")
     assert "<scheduler>http://127.0.0.1:8081/p/cgi</scheduler>" in lines
     assert '<link rel="boinc_scheduler" href="http://127.0.0.1:8081/p/cgi">' in lines
@@ -310,14 +387,14 @@ def test_the_operators_own_words(project: Path, bridge: Bridge) -> None:
 def test_how_to_join(project: Path, open_bridge: Bridge) -> None:
     page = page_of(open_bridge.got("/p/"))
     assert "No, new user" in page.text and "http://127.0.0.1:8081/p/" in page.text
-    assert page.links == ["https://boinc.berkeley.edu/download.php"]
+    assert page.links == ["https://boinc.berkeley.edu/download.php", "account"]
     assert page.header == ["", "status", "users", "computers", "teams", "account"]
     (project / "terms.txt").write_text("Be kind.\n")
     with (project / "bridge.toml").open("a") as file:
         file.write('terms = "terms.txt"\n')
     open_bridge.restart()
     page = page_of(open_bridge.got("/p/"))
-    assert page.links[-1] == page.header[-1] == "terms"
+    assert page.links[1:] == ["terms", "account"] and page.header[-1] == "terms"
     assert "Be kind." in page_of(open_bridge.got("/p/terms")).text
 
 
@@ -338,9 +415,23 @@ def test_the_page_of_an_account(open_bridge: Bridge, twin: Twin) -> None:
     open_bridge.call(request(key=key, cpid="c1"))
     open_bridge.application.statements._accounts.clear()
     page = page_of(open_bridge.got(f"/p/account_finish.php?auth={key}"), has_key=True)
-    assert "Together 5.000." in page.text  # the twin's statement
+    assert "credit5\n" in page.text  # the twin's statement
     assert "ann@sums.example" not in page.text
     assert twin.service.machine.rows["accounts"][key].name == name
+
+
+def test_an_account_begins_with_its_place_credit_and_team(open_bridge: Bridge) -> None:
+    key = create(open_bridge)
+    page = page_of(open_bridge.got(f"/p/account_finish.php?auth={key}"), has_key=True)
+    assert "place" not in page.text.partition("Your account key")[0] and "teamnone\n" in page.text
+    open_bridge.call(request(key=key, cpid="c1"))
+    open_bridge.application.statements._accounts.clear()
+    posted(open_bridge, "account_team", key=key, action="make", team="Summers")
+    page = page_of(open_bridge.got(f"/p/account_finish.php?auth={key}"), has_key=True)
+    number = open_bridge.members.of_key(key).id
+    head = page.text.partition("Your account key")[0]
+    assert "place1 of 1\ncredit5\nteamSummers\n" in head and "Your page, as others see it" in head
+    assert page.links[:2] == ["team/1", f"user/{number}"]
 
 
 def test_the_credit_of_more_hosts_than_the_page_shows(
@@ -351,12 +442,12 @@ def test_the_credit_of_more_hosts_than_the_page_shows(
     for number in range(2):
         open_bridge.call(request(cpid=f"c{number}"))
     page = page_of(open_bridge.got("/p/account_finish.php?auth=ann-key"), has_key=True)
-    assert "Together 5.000." in page.text and "The table has the 1 computers that called last." in page.text
+    assert "credit5\n" in page.text and "The table has the 1 computers that called last." in page.text
     with open_bridge.file.transaction() as connection:  # as the latest reply has it
         connection.execute("UPDATE host SET user_credit = 123456")
     open_bridge.application.statements._accounts.clear()
     page = page_of(open_bridge.got("/p/account_finish.php?auth=ann-key"), has_key=True)
-    assert "Together 123.456." in page.text
+    assert "credit123.456\n" in page.text
 
 
 def test_an_account_of_the_operator_has_a_page(open_bridge: Bridge) -> None:
@@ -575,7 +666,7 @@ def test_workunits_of_a_copy(project: Path, bridge: Bridge, text: str | None, is
     page = page_of(bridge.got("/p/status"))
     assert ("Workunits" in page.text) is is_shown
     if is_shown:
-        assert "open12" in page.text and "all43" in page.text
+        assert "open12" in page.text and "all workunits43" in page.text
         assert "Counted at 1970-01-02 00:00:00 UTC." in page.text
 
 

@@ -88,9 +88,9 @@ def test_preferences_that_are_removed_are_sent_no_more(open_bridge: Bridge, ann:
     page = saved(open_bridge, ann, share="0", processors="1")
     assert (page.inputs["share"]["value"], page.inputs["processors"]["value"]) == ("0", "1")
     assert reply(open_bridge, ann).findtext("project_preferences/resource_share") == "0"
-    assert (
-        "sent no more" in page_of(posted(open_bridge, "account_preferences", key=ann, action="remove")).text
-    )
+    assert "If they are sent no more, your computers keep what they got" in page.text
+    page = page_of(posted(open_bridge, "account_preferences", key=ann, action="remove"))
+    assert "They are sent no more." in page.text
     root = reply(open_bridge, ann)
     assert global_ones(root) is None and root.find("project_preferences") is None
 

@@ -33,8 +33,12 @@ def accounts(bridge: Bridge, count: int) -> list[tuple[str, int]]:
 def test_a_team_from_its_beginning_to_its_end(open_bridge: Bridge) -> None:
     (ann, ann_id), (bob, bob_id), (cid, cid_id) = accounts(open_bridge, 3)
     assert "Teams: 0." in page_of(open_bridge.got("/p/teams")).text
-    assert "Your team is made." in acted(open_bridge, ann, "make", team="  Sum <b>\x00mers ")
-    assert "You are in the team." in acted(open_bridge, bob, "join", team="sum <B> MERS")
+    text = acted(open_bridge, ann, "make", team="  Sum <b>\x00mers ")
+    assert "Your team is made." in text and "if you leave, the team is deleted." in text
+    text = acted(open_bridge, bob, "join", team="sum <B> MERS")
+    assert "You are in the team." in text and "your credit counts for the team no more." in text
+    text = page_of(open_bridge.got(f"/p/account_finish.php?auth={ann}"), has_key=True).text
+    assert "If you leave, the member with the lowest number becomes the founder." in text
     assert "You are in the team." in acted(open_bridge, cid, "join", team="1")
     page = page_of(open_bridge.got("/p/team/1"))
     assert "Sum <b> mers" in page.text and "members3" in page.text.replace("\n", "")

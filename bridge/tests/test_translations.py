@@ -109,6 +109,26 @@ def test_german_is_polite() -> None:
             assert len(re.findall("„", text)) == len(re.findall("“", text)) and "”" not in text
 
 
+def test_german_words_of_pages() -> None:
+    catalog = texts_of(FOLDER / "de" / "LC_MESSAGES" / "bsched.po")
+    for plain, word in {
+        "How far the work is": "Fortschritt",
+        "Results a day": "Ergebnisse pro Tag",
+        "all workunits": "insgesamt",
+        "Log in": "Anmelden",
+        "Percent of the processors": "Anteil der Prozessoren in Prozent",
+        "You are in the team %(team)s.": "Sie sind im Team %(team)s.",
+        "deadline (UTC)": "Frist (UTC)",
+        "recent average credit": "durchschnittliches Guthaben der letzten Zeit",
+    }.items():
+        assert catalog[plain].string == word
+    for message in messages_of(FOLDER / "de" / "LC_MESSAGES" / "bsched.po"):
+        for text in forms(message.string):
+            assert not re.search(r"\b(vergisst|Ablaufdatum|am Tag)\b", text), text
+            if all(file.startswith("templates/") for file, _ in message.locations):
+                assert "E-Mail" not in text, "its first hyphen is U+2011, at which no line ends"
+
+
 # ---- Templates
 
 

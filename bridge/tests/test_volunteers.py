@@ -72,11 +72,34 @@ def test_a_search_by_name(bridge: Bridge, path: str) -> None:
     assert len(page_of(bridge.got(f"/p/{path}?name={'x' * 5000}")).inputs["name"]["value"]) == 64
 
 
+def test_a_search_keeps_the_places_among_all_users(bridge: Bridge) -> None:
+    people(bridge, 200)
+    with bridge.file.transaction() as connection:  # the best ten of twenty are equal
+        connection.execute("UPDATE member SET credit = 190000 WHERE credit > 190000")
+    found = page_of(bridge.got("/p/users?name=User+1"))
+    assert found.inputs["name"]["value"] == "User 1"
+    rows = re.findall(r"^([0-9]+)(User [0-9]{3})", found.text, re.MULTILINE)
+    assert [place for place, _ in rows] == ["1"] * 10 + [str(place) for place in range(11, 101)]
+    labels = [fields["aria-label"] for tag, fields in found.tags if tag == "svg"]
+    # one more of each kind is in the legend
+    assert labels.count("Among the best 1 of 100 users by credit") == 10 + 1
+    assert labels.count("Among the best 25 of 100 users by credit") == 50 - 10 + 1
+    everybody = page_of(bridge.got("/p/users"))
+    assert re.findall(r"^([0-9]+)(User [0-9]{3})", everybody.text, re.MULTILINE) == rows
+
+
+def test_pages_say_what_credit_is_and_how_they_are_sorted(bridge: Bridge) -> None:
+    people(bridge, 2)
+    users = page_of(bridge.got("/p/users")).text
+    assert "Credit is the project's measure of the work that your computers did; it can't be spent." in users
+    assert "Those with the most credit are first." in page_of(bridge.got("/p/computers")).text
+
+
 def test_the_leaders(bridge: Bridge) -> None:
     assert "Leaders" not in page_of(bridge.got("/p/")).text
     people(bridge, 12)
     page = page_of(bridge.got("/p/"))
-    assert "1User 01111.000" in page.text and "10User 0022.000" in page.text and "User 001" not in page.text
+    assert "1User 01111\n" in page.text and "10User 0022\n" in page.text and "User 001" not in page.text
 
 
 def test_recent_average_credit_is_shown_if_it_is_known(project: Path, bridge: Bridge) -> None:
@@ -102,7 +125,9 @@ def test_calls_do_not_wait_for_pages_nor_pages_for_calls(bridge: Bridge) -> None
 def test_the_page_of_a_user(bridge: Bridge) -> None:
     people(bridge, 5)
     page = page_of(bridge.got("/p/user/3"))
-    assert "place3 of 5" in page.text.replace("\n", "") and "credit2.000" in page.text.replace("\n", "")
+    assert "place3 of 5" in page.text.replace("\n", "") and "number3credit2place" in page.text.replace(
+        "\n", ""
+    )
     assert page.links == ["computer/200002"] and "1970-01-01" in page.text
     for number in ("0", "6", "x", "-1", "03", "9" * 9, "9" * 10, "9" * 5000, "%33", ""):
         page_of(bridge.got(f"/p/user/{number}"), "404 Not Found")
@@ -327,7 +352,7 @@ def test_the_days_are_bounded(bridge: Bridge, monkeypatch: pytest.MonkeyPatch) -
     # a clock that was ahead leaves nothing
     days_lived(bridge, monkeypatch, [(TODAY + 9000, 401, 401), (TODAY + 400, 402, 402)])
     assert kept.of_host(FIRST) == [CreditDay(TODAY + 400, 402)]
-    assert "The numbers" not in page_of(bridge.got(f"/p/computer/{FIRST}")).text
+    assert "Table of the chart" not in page_of(bridge.got(f"/p/computer/{FIRST}")).text
 
 
 def test_the_chart() -> None:
@@ -335,8 +360,8 @@ def test_the_chart() -> None:
     chart = chart_of([CreditDay(0, 0), CreditDay(1, 500), CreditDay(4, 2000)])
     assert chart is not None
     assert chart.points == "0.0,160.0 150.0,120.0 600.0,0.0"
-    assert (chart.first, chart.last, chart.most) == ("1970-01-01", "1970-01-05", "2.000")
-    assert chart.rows == [("1970-01-05", "2.000"), ("1970-01-02", "0.500"), ("1970-01-01", "0.000")]
+    assert (chart.first, chart.last, chart.most) == ("1970-01-01", "1970-01-05", "2")
+    assert chart.rows == [("1970-01-05", "2"), ("1970-01-02", "0.5"), ("1970-01-01", "0")]
     flat = chart_of([CreditDay(0, 0), CreditDay(1, 0)])
     assert flat is not None and flat.points == "0.0,160.0 600.0,160.0"
     assert len(chart_of([CreditDay(day, 0) for day in range(366)]).rows) == 60  # type: ignore[union-attr]

@@ -12,6 +12,7 @@ from pathlib import Path
 from typing import Any
 
 from selenium import webdriver
+from selenium.common.exceptions import WebDriverException
 from selenium.webdriver.chrome.service import Service
 from selenium.webdriver.common.by import By
 from selenium.webdriver.remote.webelement import WebElement
@@ -94,6 +95,9 @@ while (texts.nextNode()) {
   const found = contrast(colour, ground);
   worst = Math.min(worst, found);
   if (found < least) say('a contrast of ' + found.toFixed(2), element);
+}
+for (const box of document.querySelectorAll('.wide')) {
+  if (box.scrollWidth > box.clientWidth) say('a table that is wider than its box', box);
 }
 if (document.documentElement.scrollWidth > document.documentElement.clientWidth) {
   const isWide = one => one.getBoundingClientRect().right > document.documentElement.clientWidth;
@@ -202,7 +206,9 @@ class Browser:
         """Waits after something until there is another page."""
         before = self.one("html")
         yield
-        WebDriverWait(self.driver, LOAD_SECONDS).until(staleness_of(before))  # type: ignore[no-untyped-call]
+        # Chromium's driver may fail while one page replaces the other, so it is asked again
+        wait = WebDriverWait(self.driver, LOAD_SECONDS, ignored_exceptions=[WebDriverException])
+        wait.until(staleness_of(before))  # type: ignore[no-untyped-call]
 
     def forge(self, form: str, name: str, text: str) -> None:
         """Changes a hidden field of a form, as no user can."""
