@@ -139,8 +139,8 @@ class Export:
         self.millicredits += user.millicredits
 
     def _add_to_team(self, user: User, average: float, number: int | None) -> int | None:
-        """Adds the credit of a user to that of the user's team, and returns the number of the team. A user who
-        did not agree has no number.
+        """Adds the credit of a user to that of the user's team, and returns the number of the team. A user
+        who did not agree has no number.
         """
         found = self.sum_by_member.get(user.authenticator)
         if found is None:
