@@ -7,7 +7,7 @@ use Rattle.std.proofs.lemmas.List.Sums.{sum_by-cons, sum_by-append}
 use Rattle.std.proofs.lemmas.List.{map_push, take_more}
 use Rattle.std.proofs.lemmas.Option.{none-some}
 use Rattle.sched_book.specs.Count.{status, verdict, is_valid}
-use Rattle.sched_book.Xuse Rattle.sched_book.specs.Desk.{counts}
+use Rattle.sched_book.specs.Desk.{counts}
 use Rattle.sched_book.specs.Imports.{has_app, new_unit, with_rows}
 use Rattle.sched_book.specs.Places.{nth, unit_at, host_at, agreement_by, status_of, held_by, host_credit, is_held_by, is_owned_by, book_verdict, credit_in}
 use Rattle.sched_book.specs.Settle.{fresh}
