@@ -8,4 +8,4 @@ use Rattle.table_changes.proofs.imports.import_accounts.Given as goal
 -- the rows so far are imported
 abbrev pub invariant-loop-account : goal.invariant-loop-account
 invariant-loop-account l =
-    (w v : World) → AreImported w v l.count l.initial.rows → AreImported w (with_rows v (kinds.Accounts (take l.account-index l.accounts))) l.counted l.rows
+    (w v : World) → AreImported w v l.initial.counted l.initial.rows → AreImported w (with_rows v (kinds.Accounts (take l.account-index l.accounts))) l.counted l.rows

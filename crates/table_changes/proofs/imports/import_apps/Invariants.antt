@@ -8,4 +8,4 @@ use Rattle.table_changes.proofs.imports.import_apps.Given as goal
 -- the rows so far are imported
 abbrev pub invariant-loop-app : goal.invariant-loop-app
 invariant-loop-app l =
-    (w v : World) → AreImported w v l.count l.initial.rows → AreImported w (with_rows v (kinds.Apps (take l.app-index l.apps))) l.counted l.rows
+    (w v : World) → AreImported w v l.initial.counted l.initial.rows → AreImported w (with_rows v (kinds.Apps (take l.app-index l.apps))) l.counted l.rows

@@ -9,6 +9,6 @@ use Rattle.table_changes.proofs.imports.import_versions.Given as goal
 abbrev pub invariant-loop-version : goal.invariant-loop-version
 invariant-loop-version g l = record {
   reads : g.D.Units.reads l.fn.desk l.desk;
-  told : g.D.Units.honest l.desk → g.D.Units.well_kept l.fn.desk → (v : World) → AreImported (g.D.Units.world l.fn.desk) v l.count l.fn.rows
+  told : g.D.Units.honest l.desk → g.D.Units.well_kept l.fn.desk → (v : World) → AreImported (g.D.Units.world l.fn.desk) v l.initial.counted l.fn.rows
       → AreImported (g.D.Units.world l.fn.desk) (with_rows v (kinds.Versions (take l.version-index l.versions))) l.counted l.rows;
 }
