@@ -119,7 +119,10 @@ pub fn step<D: Desk>(
             Ok((delta, Answered::Rpc(reply)))
         }
         Call::Import(rows) => {
-            let (delta, count) = step_import(copy_of(rows)?)?;
+            let Ok(rows) = copy_of(rows) else {
+                return Err(Refused::Unavailable);
+            };
+            let (delta, count) = step_import(rows)?;
             Ok((delta, Answered::Imported(count)))
         }
         Call::Tick => {

@@ -72,7 +72,7 @@ module _ (w v : World) (r : Request) (now : ℕ) (ready : Ready) (changes : List
         ∙ ap₂ (λ (z : World) n. classed w (host_at_entry w ready.call.caller r) (granted z n now (places_of chosen)) (places_of chosen)) is.settled.left is.calling.number
         ∙ ap (after_grant w ready.call.caller r now) places;
     fits = (fits (can_take w ready.call.host chosen is.calling.sound runs) (record {
-      units = units_in_limits w [] is.calling.sound refl;
+      units = units_in_limits w [] is.calling.sound;
       within = record { fits = is.settled.fits; limited = subst IsLimited here (limited_from_sound v ready_sound) };
       stands = subst (λ z. IsTrue (is_some (host_at z ready.call.number))) here ready_has_host;
     })).within.fits;
