@@ -14,7 +14,7 @@ WHOLE_DIGITS = 6
 
 
 class PreferenceFault(Exception):
-    """Raised for preferences that can't be. It says of which field, and why."""
+    """Raised for preferences that can't be. It names the field, and says why."""
 
     def __init__(self, field: str, text: str) -> None:
         super().__init__(text)

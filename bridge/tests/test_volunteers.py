@@ -335,7 +335,7 @@ def test_a_day_has_one_row(bridge: Bridge, monkeypatch: pytest.MonkeyPatch) -> N
     days = [(TODAY, 1, 1), (TODAY + 1, 5, 2), (TODAY + 1, 7, 3), (TODAY + 4, 7, 3)]
     days_lived(bridge, monkeypatch, days)
     kept = CreditDays(bridge.file)
-    # the first reply comes before the client is told its number
+    # the first reply comes before the client gets its number
     assert kept.of_host(FIRST) == [CreditDay(TODAY + 1, 3), CreditDay(TODAY + 4, 3)]
     assert kept.of_member(1) == [CreditDay(TODAY, 1), CreditDay(TODAY + 1, 7), CreditDay(TODAY + 4, 7)]
     page = page_of(bridge.got("/p/user/1"))

@@ -49,7 +49,7 @@ class Counts:
 
     moment: int = 0
     workunits: Counter[str] = field(default_factory=Counter)
-    out: int = 0  # open workunits of which a host has an instance
+    out: int = 0  # open workunits with an instance that a host has
     instances: Counter[str] = field(default_factory=Counter)
     people: dict[str, int] = field(default_factory=dict)
     calls_unknown: str = ""  # why it is not known who called in the last day; empty if it is known
