@@ -11,9 +11,9 @@ use Rattle.sched_book.specs.Classes.{with_class}
 use Rattle.sched_book.specs.Desk.{workunit_at, agreement_at, instances_at}
 use Rattle.sched_book.specs.Places.{unit_at, host_at, unit_named, agreement_by, agreement_of}
 use Rattle.sched_book.specs.Reports.{modify_nth}
-use Rattle.sched_book.specs.Delta.{with_instance, set_nth, applied_one, applied}
-use Rattle.sched_book.specs.declared.delta.Change.{Change}
-use Rattle.sched_book.specs.declared.delta.Change.TheVariants as change
+use Rattle.sched_book.specs.Delta.{with_instance, set_nth, edited_one, edited}
+use Rattle.sched_book.specs.declared.delta.Edit.{Edit}
+use Rattle.sched_book.specs.declared.delta.Edit.TheVariants as edit
 use Rattle.sched_book.specs.declared.instance.Instance.{Instance}
 use Rattle.sched_book.specs.declared.instance.Place.{Place}
 use Rattle.sched_book.specs.declared.instance.UnitBook.{UnitBook}
@@ -34,10 +34,10 @@ finds_none : {X : Type 0} (m : BTreeMap ℕ X) (k : ℕ) → m.entries ≡ [] �
 finds_none m k empty = ap (λ es. lookup (is_at (nat_cmp k)) es) empty
 
 -- an empty page
-pub new_page : (w : World) (s : Settings) (leaves : BTreeMap ℕ Leaf) (hosts : BTreeMap ℕ HostRow) (cs : List Change) → s ≡ w.settings
-    → leaves.entries ≡ [] → hosts.entries ≡ [] → cs ≡ [] → IsPageOf w (record { settings = s; leaves = leaves; hosts = hosts; delta = cs })
+pub new_page : (w : World) (s : Settings) (leaves : BTreeMap ℕ Leaf) (hosts : BTreeMap ℕ HostRow) (cs : List Edit) → s ≡ w.settings
+    → leaves.entries ≡ [] → hosts.entries ≡ [] → cs ≡ [] → IsPageOf w (record { settings = s; leaves = leaves; hosts = hosts; edits = cs })
 new_page w s leaves hosts cs is no_leaf no_host none =
-    subst (λ (cs : List Change). IsPageOf w (record { settings = s; leaves = leaves; hosts = hosts; delta = cs })) (sym none) (record {
+    subst (λ (cs : List Edit). IsPageOf w (record { settings = s; leaves = leaves; hosts = hosts; edits = cs })) (sym none) (record {
       settings = is;
       leaves = λ unit. subst (λ (o : Option Leaf). IsLeafAt w w unit o) (sym (finds_none leaves unit no_leaf)) refl;
       hosts = λ number. subst (λ (o : Option HostRow). IsHostAt w w number o) (sym (finds_none hosts number no_host)) refl;
@@ -47,33 +47,33 @@ new_page w s leaves hosts cs is no_leaf no_host none =
 
 -- a page with the same entries
 pub same_page : (w : World) (old new : Page) → new.settings ≡ old.settings → ((unit : ℕ) → get nat_cmp new.leaves unit ≡ get nat_cmp old.leaves unit)
-    → ((number : ℕ) → get nat_cmp new.hosts number ≡ get nat_cmp old.hosts number) → new.delta ≡ old.delta → IsPageOf w old → IsPageOf w new
-same_page w old new settings leaves hosts delta page = record {
+    → ((number : ℕ) → get nat_cmp new.hosts number ≡ get nat_cmp old.hosts number) → new.edits ≡ old.edits → IsPageOf w old → IsPageOf w new
+same_page w old new settings leaves hosts edits page = record {
   settings = settings ∙ page.settings;
-  leaves = λ unit. subst (λ (cs : List Change). IsLeafAt w (applied w cs) unit (get nat_cmp new.leaves unit)) (sym delta)
-      (subst (λ (o : Option Leaf). IsLeafAt w (applied w old.delta) unit o) (sym (leaves unit)) (page.leaves unit));
-  hosts = λ number. subst (λ (cs : List Change). IsHostAt w (applied w cs) number (get nat_cmp new.hosts number)) (sym delta)
-      (subst (λ (o : Option HostRow). IsHostAt w (applied w old.delta) number o) (sym (hosts number)) (page.hosts number));
-  rest = subst (λ (cs : List Change). applied w cs ≡ record w { units = (applied w cs).units; hosts = (applied w cs).hosts }) (sym delta) page.rest;
-  names = λ name. ap (λ cs. unit_named (applied w cs) name) delta ∙ page.names name;
+  leaves = λ unit. subst (λ (cs : List Edit). IsLeafAt w (edited w cs) unit (get nat_cmp new.leaves unit)) (sym edits)
+      (subst (λ (o : Option Leaf). IsLeafAt w (edited w old.edits) unit o) (sym (leaves unit)) (page.leaves unit));
+  hosts = λ number. subst (λ (cs : List Edit). IsHostAt w (edited w cs) number (get nat_cmp new.hosts number)) (sym edits)
+      (subst (λ (o : Option HostRow). IsHostAt w (edited w old.edits) number o) (sym (hosts number)) (page.hosts number));
+  rest = subst (λ (cs : List Edit). edited w cs ≡ record w { units = (edited w cs).units; hosts = (edited w cs).hosts }) (sym edits) page.rest;
+  names = λ name. ap (λ cs. unit_named (edited w cs) name) edits ∙ page.names name;
 }
 
 -- one more leaf
-pub leaf_more : (w : World) (old new : Page) (unit : ℕ) (k : Leaf) → new.settings ≡ old.settings → new.hosts ≡ old.hosts → new.delta ≡ old.delta
+pub leaf_more : (w : World) (old new : Page) (unit : ℕ) (k : Leaf) → new.settings ≡ old.settings → new.hosts ≡ old.hosts → new.edits ≡ old.edits
     → ((other : ℕ) → get nat_cmp new.leaves other ≡ cond (eqb unit other) (Some k) (get nat_cmp old.leaves other))
-    → IsLeafAt w (applied w old.delta) unit (Some k) → IsPageOf w old → IsPageOf w new
-leaf_more w old new unit k settings hosts delta leaves leaf page = record {
+    → IsLeafAt w (edited w old.edits) unit (Some k) → IsPageOf w old → IsPageOf w new
+leaf_more w old new unit k settings hosts edits leaves leaf page = record {
   settings = settings ∙ page.settings;
-  leaves = λ other. subst (λ (cs : List Change). IsLeafAt w (applied w cs) other (get nat_cmp new.leaves other)) (sym delta)
-      (subst (λ (o : Option Leaf). IsLeafAt w (applied w old.delta) other o) (sym (leaves other)) (cases other (eqb unit other) refl));
-  hosts = λ number. subst (λ (cs : List Change). IsHostAt w (applied w cs) number (get nat_cmp new.hosts number)) (sym delta)
-      (subst (λ (m : BTreeMap ℕ HostRow). IsHostAt w (applied w old.delta) number (get nat_cmp m number)) (sym hosts) (page.hosts number));
-  rest = subst (λ (cs : List Change). applied w cs ≡ record w { units = (applied w cs).units; hosts = (applied w cs).hosts }) (sym delta) page.rest;
-  names = λ name. ap (λ cs. unit_named (applied w cs) name) delta ∙ page.names name;
+  leaves = λ other. subst (λ (cs : List Edit). IsLeafAt w (edited w cs) other (get nat_cmp new.leaves other)) (sym edits)
+      (subst (λ (o : Option Leaf). IsLeafAt w (edited w old.edits) other o) (sym (leaves other)) (cases other (eqb unit other) refl));
+  hosts = λ number. subst (λ (cs : List Edit). IsHostAt w (edited w cs) number (get nat_cmp new.hosts number)) (sym edits)
+      (subst (λ (m : BTreeMap ℕ HostRow). IsHostAt w (edited w old.edits) number (get nat_cmp m number)) (sym hosts) (page.hosts number));
+  rest = subst (λ (cs : List Edit). edited w cs ≡ record w { units = (edited w cs).units; hosts = (edited w cs).hosts }) (sym edits) page.rest;
+  names = λ name. ap (λ cs. unit_named (edited w cs) name) edits ∙ page.names name;
 }
   where
-    cases : (other : ℕ) (b : Bool) → eqb unit other ≡ b → IsLeafAt w (applied w old.delta) other (cond b (Some k) (get nat_cmp old.leaves other))
-    cases other true is = subst (λ (n : ℕ). IsLeafAt w (applied w old.delta) n (Some k)) (eqb-true unit other is) leaf
+    cases : (other : ℕ) (b : Bool) → eqb unit other ≡ b → IsLeafAt w (edited w old.edits) other (cond b (Some k) (get nat_cmp old.leaves other))
+    cases other true is = subst (λ (n : ℕ). IsLeafAt w (edited w old.edits) n (Some k)) (eqb-true unit other is) leaf
     cases other false is = page.leaves other
 
 -- a change that was pushed and taken back
@@ -86,8 +86,8 @@ taken_back xs x =
     let long : length (xs ++ x ∷ []) ≡ length xs + 1 = length-append xs (x ∷ []) in
     ap (λ n. take n (xs ++ x ∷ [])) (let same : length (xs ++ x ∷ []) - 1 ≡ length xs = omega arith in same) ∙ front xs (x ∷ [])
 
-one_more : (w : World) (cs : List Change) (c : Change) → applied w (cs ++ c ∷ []) ≡ applied_one (applied w cs) c
-one_more w cs c = fold-append applied_one w cs (c ∷ [])
+one_more : (w : World) (cs : List Edit) (c : Edit) → edited w (cs ++ c ∷ []) ≡ edited_one (edited w cs) c
+one_more w cs c = fold-append edited_one w cs (c ∷ [])
 
 -- a change of a workunit, and the same change of its leaf
 record AreAlike (f : UnitBook → UnitBook) (g : Leaf → Leaf) : Type 0 where
@@ -110,77 +110,77 @@ leaf_done f g alike entry present after unit true (Some k) some is leaf = record
 }
 
 -- the change is made on the leaf of the workunit at a place, and is the last change
-unit_done : (f : UnitBook → UnitBook) (g : Leaf → Leaf) → AreAlike f g → (w : World) (old new : Page) (place : ℕ) (c : Change)
-    → ((v : World) → applied_one v c ≡ record v { units = modify_nth f v.units place })
-    → new.settings ≡ old.settings → new.hosts ≡ old.hosts → new.delta ≡ old.delta ++ c ∷ []
+unit_done : (f : UnitBook → UnitBook) (g : Leaf → Leaf) → AreAlike f g → (w : World) (old new : Page) (place : ℕ) (c : Edit)
+    → ((v : World) → edited_one v c ≡ record v { units = modify_nth f v.units place })
+    → new.settings ≡ old.settings → new.hosts ≡ old.hosts → new.edits ≡ old.edits ++ c ∷ []
     → IsSome (get nat_cmp old.leaves place)
     → ((unit : ℕ) → get nat_cmp new.leaves unit ≡ cond (eqb place unit) (option_map g (get nat_cmp old.leaves unit)) (get nat_cmp old.leaves unit))
     → IsPageOf w old → IsPageOf w new
-unit_done f g alike w old new place c makes settings hosts delta there leaves page = record {
+unit_done f g alike w old new place c makes settings hosts edits there leaves page = record {
   settings = settings ∙ page.settings;
-  leaves = λ unit. subst (λ (o : Option Leaf). IsLeafAt w (applied w new.delta) unit o) (sym (leaves unit))
-      (leaf_done f g alike w (applied w old.delta) (applied w new.delta) unit (eqb place unit) (get nat_cmp old.leaves unit) (some unit) (units unit) (page.leaves unit));
+  leaves = λ unit. subst (λ (o : Option Leaf). IsLeafAt w (edited w new.edits) unit o) (sym (leaves unit))
+      (leaf_done f g alike w (edited w old.edits) (edited w new.edits) unit (eqb place unit) (get nat_cmp old.leaves unit) (some unit) (units unit) (page.leaves unit));
   hosts = λ number. subst (λ (v : World). IsHostAt w v number (get nat_cmp new.hosts number)) (sym after)
-      (subst (λ (m : BTreeMap ℕ HostRow). IsHostAt w (applied w old.delta) number (get nat_cmp m number)) (sym hosts) (page.hosts number));
+      (subst (λ (m : BTreeMap ℕ HostRow). IsHostAt w (edited w old.edits) number (get nat_cmp m number)) (sym hosts) (page.hosts number));
   rest = subst (λ (v : World). v ≡ record w { units = v.units; hosts = v.hosts }) (sym after)
-      (ap (λ (v : World). record v { units = modify_nth f (applied w old.delta).units place }) page.rest);
+      (ap (λ (v : World). record v { units = modify_nth f (edited w old.edits).units place }) page.rest);
   names = λ name. ap (λ v. unit_named v name) after
-      ∙ place_where-modify_nth (λ (b : UnitBook). bytes_eq b.unit.name name) f (λ b. ap (λ n. bytes_eq n name) (alike.name b)) (applied w old.delta).units place
+      ∙ place_where-modify_nth (λ (b : UnitBook). bytes_eq b.unit.name name) f (λ b. ap (λ n. bytes_eq n name) (alike.name b)) (edited w old.edits).units place
       ∙ page.names name;
 }
   where
-    after : applied w new.delta ≡ record (applied w old.delta) { units = modify_nth f (applied w old.delta).units place }
-    after = ap (applied w) delta ∙ one_more w old.delta c ∙ makes (applied w old.delta)
+    after : edited w new.edits ≡ record (edited w old.edits) { units = modify_nth f (edited w old.edits).units place }
+    after = ap (edited w) edits ∙ one_more w old.edits c ∙ makes (edited w old.edits)
 
-    units : (unit : ℕ) → unit_at (applied w new.delta) unit
-        ≡ cond (eqb place unit) (option_map f (unit_at (applied w old.delta) unit)) (unit_at (applied w old.delta) unit)
-    units unit = ap (λ v. unit_at v unit) after ∙ nth-modify_nth f (applied w old.delta).units place unit
+    units : (unit : ℕ) → unit_at (edited w new.edits) unit
+        ≡ cond (eqb place unit) (option_map f (unit_at (edited w old.edits) unit)) (unit_at (edited w old.edits) unit)
+    units unit = ap (λ v. unit_at v unit) after ∙ nth-modify_nth f (edited w old.edits).units place unit
 
     some : (unit : ℕ) → eqb place unit ≡ true → IsSome (get nat_cmp old.leaves unit)
     some unit same = subst (λ (n : ℕ). IsSome (get nat_cmp old.leaves n)) (eqb-true place unit same) there
 
 -- an instance is put on its workunit's leaf, and is the last change
 pub instance_put : (w : World) (old new : Page) (p : Place) (x y : Instance) → y ≡ x → new.settings ≡ old.settings → new.hosts ≡ old.hosts
-    → new.delta ≡ old.delta ++ change.Instance p x ∷ [] → ArePut old.leaves new.leaves p y → IsPageOf w old → IsPageOf w new
-instance_put w old new p x y copy settings hosts delta puts page =
+    → new.edits ≡ old.edits ++ edit.Instance p x ∷ [] → ArePut old.leaves new.leaves p y → IsPageOf w old → IsPageOf w new
+instance_put w old new p x y copy settings hosts edits puts page =
     let same : ArePut old.leaves new.leaves p x = subst (λ (z : Instance). ArePut old.leaves new.leaves p z) copy puts in
     unit_done (with_instance p.number x) (with_put p x) (record { name = λ b. refl; now = λ k. refl; before = λ k. refl; agreement = λ k. refl })
-    w old new p.unit (change.Instance p x) (λ v. refl) settings hosts delta same.0 same.1 page
+    w old new p.unit (edit.Instance p x) (λ v. refl) settings hosts edits same.0 same.1 page
 
 -- a version of a class is granted on its workunit's leaf, and that is the last change
 pub class_put : (w : World) (old new : Page) (unit : ℕ) (class copied : List ℕ) → copied ≡ class → new.settings ≡ old.settings → new.hosts ≡ old.hosts
-    → new.delta ≡ old.delta ++ change.Class unit copied ∷ [] → AreClassed old.leaves new.leaves unit class → IsPageOf w old → IsPageOf w new
-class_put w old new unit class copied copy settings hosts delta puts page =
+    → new.edits ≡ old.edits ++ edit.Class unit copied ∷ [] → AreClassed old.leaves new.leaves unit class → IsPageOf w old → IsPageOf w new
+class_put w old new unit class copied copy settings hosts edits puts page =
     unit_done (with_class class) (with_granted class) (record { name = λ b. refl; now = λ k. refl; before = λ k. refl; agreement = λ k. refl })
-    w old new unit (change.Class unit class) (λ v. refl) settings hosts (delta ∙ ap (λ c. old.delta ++ change.Class unit c ∷ []) copy) puts.0 puts.1 page
+    w old new unit (edit.Class unit class) (λ v. refl) settings hosts (edits ∙ ap (λ c. old.edits ++ edit.Class unit c ∷ []) copy) puts.0 puts.1 page
 
 -- a host is put, and is the last change
-pub host_put : (w : World) (old new : Page) (number : ℕ) (h k : HostRow) → k ≡ h → HasPlace (applied w old.delta) number → new.settings ≡ old.settings → new.leaves ≡ old.leaves
-    → new.delta ≡ old.delta ++ change.Host number h ∷ []
+pub host_put : (w : World) (old new : Page) (number : ℕ) (h k : HostRow) → k ≡ h → HasPlace (edited w old.edits) number → new.settings ≡ old.settings → new.leaves ≡ old.leaves
+    → new.edits ≡ old.edits ++ edit.Host number h ∷ []
     → ((n : ℕ) → get nat_cmp new.hosts n ≡ cond (eqb number n) (Some k) (get nat_cmp old.hosts n)) → IsPageOf w old → IsPageOf w new
-host_put w old new number h k copy place settings leaves delta hosts page = record {
+host_put w old new number h k copy place settings leaves edits hosts page = record {
   settings = settings ∙ page.settings;
-  leaves = λ unit. subst (λ (m : BTreeMap ℕ Leaf). IsLeafAt w (applied w new.delta) unit (get nat_cmp m unit)) (sym leaves)
+  leaves = λ unit. subst (λ (m : BTreeMap ℕ Leaf). IsLeafAt w (edited w new.edits) unit (get nat_cmp m unit)) (sym leaves)
       (same unit (get nat_cmp old.leaves unit) (page.leaves unit));
-  hosts = λ n. subst (λ (o : Option HostRow). IsHostAt w (applied w new.delta) n o) (sym (hosts n ∙ ap (λ (r : HostRow). cond (eqb number n) (Some r) (get nat_cmp old.hosts n)) copy))
+  hosts = λ n. subst (λ (o : Option HostRow). IsHostAt w (edited w new.edits) n o) (sym (hosts n ∙ ap (λ (r : HostRow). cond (eqb number n) (Some r) (get nat_cmp old.hosts n)) copy))
       (cases n (eqb number n) (get nat_cmp old.hosts n) (at n) (page.hosts n));
   rest = subst (λ (v : World). v ≡ record w { units = v.units; hosts = v.hosts }) (sym after)
-      (ap (λ (v : World). record v { hosts = set_nth (applied w old.delta).hosts number h }) page.rest);
+      (ap (λ (v : World). record v { hosts = set_nth (edited w old.edits).hosts number h }) page.rest);
   names = λ name. ap (λ v. unit_named v name) after ∙ page.names name;
 }
   where
-    after : applied w new.delta ≡ applied_one (applied w old.delta) (change.Host number h)
-    after = ap (applied w) delta ∙ one_more w old.delta (change.Host number h)
+    after : edited w new.edits ≡ edited_one (edited w old.edits) (edit.Host number h)
+    after = ap (edited w) edits ∙ one_more w old.edits (edit.Host number h)
 
-    same : (unit : ℕ) (o : Option Leaf) → IsLeafAt w (applied w old.delta) unit o → IsLeafAt w (applied w new.delta) unit o
+    same : (unit : ℕ) (o : Option Leaf) → IsLeafAt w (edited w old.edits) unit o → IsLeafAt w (edited w new.edits) unit o
     same unit None leaf = ap (λ v. unit_at v unit) after ∙ leaf
     same unit (Some k) leaf = record { before = leaf.before; here = ap (λ v. unit_at v unit) after ∙ leaf.here; agreement = leaf.agreement }
 
-    at : (n : ℕ) → host_at (applied w new.delta) n ≡ cond (eqb number n) (Some h) (host_at (applied w old.delta) n)
-    at n = ap (λ v. host_at v n) after ∙ nth-put (applied w old.delta).hosts number h n place.0 place.1
+    at : (n : ℕ) → host_at (edited w new.edits) n ≡ cond (eqb number n) (Some h) (host_at (edited w old.edits) n)
+    at n = ap (λ v. host_at v n) after ∙ nth-put (edited w old.edits).hosts number h n place.0 place.1
 
-    cases : (n : ℕ) (b : Bool) (o : Option HostRow) → host_at (applied w new.delta) n ≡ cond b (Some h) (host_at (applied w old.delta) n)
-        → IsHostAt w (applied w old.delta) n o → IsHostAt w (applied w new.delta) n (cond b (Some h) o)
+    cases : (n : ℕ) (b : Bool) (o : Option HostRow) → host_at (edited w new.edits) n ≡ cond b (Some h) (host_at (edited w old.edits) n)
+        → IsHostAt w (edited w old.edits) n o → IsHostAt w (edited w new.edits) n (cond b (Some h) o)
     cases n true o is host = is
     cases n false None is host = is ∙ host
     cases n false (Some k) is host = is ∙ host
@@ -223,7 +223,7 @@ read_in_turn w v u unit row rule a before present same next is agrees lists copy
         }
 
 -- the world with one more change
-pub world_put : (w v : World) (old new : List Change) (c : Change) → v ≡ w → new ≡ old ++ c ∷ [] → applied v new ≡ applied_one (applied w old) c
-world_put w v old new c same is = ap (λ (u : World). applied u new) same ∙ ap (applied w) is ∙ one_more w old c
+pub world_put : (w v : World) (old new : List Edit) (c : Edit) → v ≡ w → new ≡ old ++ c ∷ [] → edited v new ≡ edited_one (edited w old) c
+world_put w v old new c same is = ap (λ (u : World). edited u new) same ∙ ap (edited w) is ∙ one_more w old c
 
 pub ruleset put_steps = (world_put)

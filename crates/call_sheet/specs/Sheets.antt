@@ -6,7 +6,7 @@ use Rattle.std.specs.Ordering.{nat_cmp}
 use Rattle.sched_book.specs.Classes.{rule_after}
 use Rattle.sched_book.specs.Count.{status}
 use Rattle.sched_book.specs.Places.{unit_at, host_at, unit_named, agreement_by}
-use Rattle.sched_book.specs.Delta.{applied, set_at}
+use Rattle.sched_book.specs.Delta.{edited, set_at}
 use Rattle.sched_book.specs.declared.instance.Instance.{Instance}
 use Rattle.sched_book.specs.declared.instance.Place.{Place}
 use Rattle.sched_book.specs.declared.instance.Status.{Status}
@@ -45,14 +45,13 @@ abbrev pub IsHostAt : World → World → ℕ → Option HostRow → Type 0
 IsHostAt entry present number None = host_at present number ≡ host_at entry number
 IsHostAt entry present number (Some h) = host_at present number ≡ Some h
 
--- A page of a call that found this world. The changes of the page are only of instances, of classes of workunits, and of
--- hosts. Each leaf and each host is that of the world with these changes made.
+-- A page of a call that found this world. Each leaf and each host is that of the world with the page's edits made.
 pub record IsPageOf (entry : World) (p : Page) : Type 0 where
   pub settings : p.settings ≡ entry.settings
-  pub leaves : (unit : ℕ) → IsLeafAt entry (applied entry p.delta) unit (get nat_cmp p.leaves unit)
-  pub hosts : (number : ℕ) → IsHostAt entry (applied entry p.delta) number (get nat_cmp p.hosts number)
-  pub rest : applied entry p.delta ≡ record entry { units = (applied entry p.delta).units; hosts = (applied entry p.delta).hosts }
-  pub names : (name : List ℕ) → unit_named (applied entry p.delta) name ≡ unit_named entry name
+  pub leaves : (unit : ℕ) → IsLeafAt entry (edited entry p.edits) unit (get nat_cmp p.leaves unit)
+  pub hosts : (number : ℕ) → IsHostAt entry (edited entry p.edits) number (get nat_cmp p.hosts number)
+  pub rest : edited entry p.edits ≡ record entry { units = (edited entry p.edits).units; hosts = (edited entry p.edits).hosts }
+  pub names : (name : List ℕ) → unit_named (edited entry p.edits) name ≡ unit_named entry name
 
 -- the number of a host, or the next number
 abbrev pub HasPlace : World → ℕ → Type 0

@@ -4,11 +4,11 @@ ghost use Rattle.std.specs.Prelude.{◌≡◌, ◌≤◌, ◌+◌, ◌++◌, Lis
 ghost use Rattle.std.specs.Option.{option_copied};
 ghost use Rattle.sched_book.specs.Places.{host_at, held_by, unit_at, unit_named, host_credit, user_credit};
 ghost use Rattle.sched_book.specs.Desk.{account_by_key, app_by_name};
-ghost use Rattle.sched_book.specs.Delta.{applied, applied_one};
+ghost use Rattle.sched_book.specs.Delta.{edited, edited_one};
 ghost use Rattle.sched_book.specs.Fits.{version_at};
 ghost use Rattle.sched_book.specs.Trusted.{Trusted};
-ghost use Rattle.sched_book.specs.declared.delta.Change.{Change};
-ghost use Rattle.sched_book.specs.declared.delta.Change.TheVariants as change;
+ghost use Rattle.sched_book.specs.declared.delta.Edit.{Edit};
+ghost use Rattle.sched_book.specs.declared.delta.Edit.TheVariants as edit;
 ghost use Rattle.sched_book.specs.declared.world.World.{World};
 ghost use Rattle.call_sheet.specs.Sheets.{IsLeafAt, IsReadAt, HasPlace, AreAllOf};
 ghost use Rattle.call_sheet.specs.declared.leaf.Leaf.{Leaf};
@@ -20,16 +20,16 @@ use sched_book::{
 use std::alloc::Global;
 use texts::{Listed, Memory, Text};
 
-/// Who represents the world that a call found, with the changes that the call makes.
+/// Who represents the world that a call found, with the edits that the call makes.
 ///
-/// As [`Units`] it answers for the world with the changes made. Its further look-ups are of the world that the call
+/// As [`Units`] it answers for the world with the edits made. Its further look-ups are of the world that the call
 /// found, except those of workunits and hosts.
 pub trait Draft: Units {
     /// The world that the call found.
     ghost entry: { Self → World };
 
-    /// The changes so far.
-    ghost delta: { Self → List Change };
+    /// The edits so far.
+    ghost edits: { Self → List Edit };
 
     /// The workunits that were read.
     ghost kept: { Self → ℕ → Option Leaf };
@@ -65,25 +65,25 @@ pub trait Draft: Units {
     fn put_instance(&mut self, place: Place, row: &Instance) -> Result<(), Unavailable>
         ensures works { works self.old self.new }
         ensures put { Trusted Self.Units self.old self.new (
-            OnOk result (Self.world self.new ≡ applied_one (Self.world self.old) (change.Instance place row.now))) }
-        ensures delta { OnOk result (delta self.new ≡ delta self.old ++ change.Instance place row.now ∷ []) };
+            OnOk result (Self.world self.new ≡ edited_one (Self.world self.old) (edit.Instance place row.now))) }
+        ensures edits { OnOk result (edits self.new ≡ edits self.old ++ edit.Instance place row.now ∷ []) };
 
     /// Grants a version of a class for a workunit, which must have been read. If it is marked, it takes the class with
     /// its first one.
     fn put_class(&mut self, unit: u32, class: &Text) -> Result<(), Unavailable>
         ensures works { works self.old self.new }
         ensures put { Trusted Self.Units self.old self.new (
-            OnOk result (Self.world self.new ≡ applied_one (Self.world self.old) (change.Class unit class.now))) }
-        ensures delta { OnOk result (delta self.new ≡ delta self.old ++ change.Class unit class.now ∷ []) };
+            OnOk result (Self.world self.new ≡ edited_one (Self.world self.old) (edit.Class unit class.now))) }
+        ensures edits { OnOk result (edits self.new ≡ edits self.old ++ edit.Class unit class.now ∷ []) };
 
     /// Replaces the host of this number. Unavailable if there is no such host.
     fn put_host(&mut self, alloc: Global, number: u32, row: &HostRow) -> Result<(), Unavailable>
         ensures works { works self.old self.new }
         ensures put { Trusted Self.Units self.old self.new (
-            OnOk result (Self.world self.new ≡ applied_one (Self.world self.old) (change.Host number row.now))) }
-        ensures delta { OnOk result (delta self.new ≡ delta self.old ++ change.Host number row.now ∷ []) };
+            OnOk result (Self.world self.new ≡ edited_one (Self.world self.old) (edit.Host number row.now))) }
+        ensures edits { OnOk result (edits self.new ≡ edits self.old ++ edit.Host number row.now ∷ []) };
 
-    /// Adds a host after the others, before any other change, and returns its number; none if the limit is reached
+    /// Adds a host after the others, before any other edit, and returns its number; none if the limit is reached
     /// hosts.
     fn add_host(&mut self, row: &HostRow, most: u32) -> Result<Option<u32>, Unavailable>
         ensures works { works self.old self.new }
@@ -92,8 +92,8 @@ pub trait Draft: Units {
         ensures full { Trusted Self.Units self.old self.new (
             IfOk result (λ n. n ≡ None → (most ≤ length (entry self.old).hosts) × (Self.world self.new ≡ Self.world self.old))) }
         ensures put { Trusted Self.Units self.old self.new (IfOk result (λ n. IfSome n (λ number.
-            Self.world self.new ≡ applied_one (Self.world self.old) (change.Host number row.now)))) }
-        ensures delta { IfOk result (λ n. IfSome n (λ number. delta self.new ≡ delta self.old ++ change.Host number row.now ∷ [])) };
+            Self.world self.new ≡ edited_one (Self.world self.old) (edit.Host number row.now)))) }
+        ensures edits { IfOk result (λ n. IfSome n (λ number. edits self.new ≡ edits self.old ++ edit.Host number row.now ∷ [])) };
 
     /// The places of the instances that the host held when the call came, in order.
     fn held_before(&mut self, alloc: Global, host: u32) -> Result<Listed<Place>, Unavailable>
@@ -135,7 +135,7 @@ pub trait Draft: Units {
         ensures answer { Trusted Self.Units self.old self.new (IfOk result (λ r. r ≡ version_at (entry self.old) host.now app)) };
 
     // It represents the world that the call found, with the changes made.
-    ghost is_applied: { (s : Self) → Self.world s ≡ applied (entry s) (delta s) };
+    ghost is_edited: { (s : Self) → Self.world s ≡ edited (entry s) (edits s) };
 
     // The changes are only of instances, of classes of workunits, and of hosts. No workunit gets another name.
     ghost rest_stays: { (s : Self) → Self.well_kept s → Self.world s ≡ record (entry s) { units = (Self.world s).units; hosts = (Self.world s).hosts } };
@@ -149,7 +149,7 @@ pub trait Draft: Units {
     // found.
     ghost reads_works: { (s t : Self) → Self.reads s t → works s t };
 
-    ghost reads_delta: { (s t : Self) → Self.reads s t → delta t ≡ delta s };
+    ghost reads_edits: { (s t : Self) → Self.reads s t → edits t ≡ edits s };
 
     ghost works_none: { (s : Self) → works s s };
 

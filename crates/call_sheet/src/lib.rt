@@ -1,7 +1,7 @@
-//! The sheet of a call: what the call read, each row once, and the changes that it makes.
+//! The sheet of a call: what the call read, each row once, and the edits that it makes.
 //!
-//! A [`Page`] has what was read of a desk, and the changes so far. A [`Sheet`] is a desk with its page, and answers for
-//! the world with the changes made. A step of a call is generic in what a sheet does ([`Draft`]), decides by a [`Leaf`],
+//! A [`Page`] has what was read of a desk, and the edits so far. A [`Sheet`] is a desk with its page, and answers for
+//! the world with the edits made. A step of a call is generic in what a sheet does ([`Draft`]), decides by a [`Leaf`],
 //! and puts what it changes.
 #![tactic(auto)]
 

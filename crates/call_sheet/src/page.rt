@@ -1,40 +1,40 @@
-//! What a call read, and the changes that it makes.
+//! What a call read, and the edits that it makes.
 
 ghost use Rattle.std.specs.Prelude.{ℕ, ◌≡◌, ◌==◌, ◌++◌, if◌then◌else◌, [], ◌∷◌, Some, IfOk, OnOk, OnErr, option_map, is_some};
 ghost use Rattle.std.specs.BTreeMap.{get};
 ghost use Rattle.std.specs.Option.{option_copied};
 ghost use Rattle.std.specs.Ordering.{nat_cmp};
-ghost use Rattle.sched_book.specs.Delta.{applied};
-ghost use Rattle.sched_book.specs.declared.delta.Change.TheVariants as change;
+ghost use Rattle.sched_book.specs.Delta.{edited};
+ghost use Rattle.sched_book.specs.declared.delta.Edit.TheVariants as edit;
 ghost use Rattle.sched_book.specs.declared.world.World.{World};
 ghost use Rattle.call_sheet.specs.Sheets.{IsPageOf, IsLeafAt, IsHostAt, HasPlace, ArePut, AreClassed, AreAllOf};
 
 use crate::leaf::Leaf;
-use sched_book::{Change, Delta, HostRow, Instance, Place, Settings, Unavailable, copy_of};
+use sched_book::{Edit, Edits, HostRow, Instance, Place, Settings, Unavailable, copy_of};
 use std::alloc::Global;
 use std::collections::BTreeMap;
 use texts::{Listed, Memory, Text};
 
-/// The settings, the workunits and the hosts that a call has read, as they are now, and its changes in their order.
+/// The settings, the workunits and the hosts that a call has read, as they are now, and its edits in their order.
 #[derive(Drop)]
 pub struct Page {
     pub settings: Settings,
     pub leaves: BTreeMap<u32, Leaf>,
     pub hosts: BTreeMap<u32, HostRow>,
-    pub delta: Delta,
+    pub edits: Edits,
 }
 
 impl Page {
     /// The page of a call that has read its settings and nothing else yet.
     pub fn new(alloc: Global, settings: Settings) -> Page
         ensures page { (w : World) → settings ≡ w.settings → IsPageOf w result }
-        ensures delta { result.delta ≡ [] }
+        ensures edits { result.edits ≡ [] }
     {
         Page {
             settings,
             leaves: BTreeMap::new(alloc),
             hosts: BTreeMap::new(alloc),
-            delta: Listed::new(alloc),
+            edits: Listed::new(alloc),
         }
     }
 
@@ -55,9 +55,9 @@ impl Page {
     /// Keeps the leaf of a workunit that was read.
     #[tactic(auto, using(crate::proofs::Pages::page_steps))]
     pub fn keep_leaf(&mut self, unit: u32, leaf: Leaf) -> Result<(), Memory>
-        ensures page { OnOk result ((w : World) → IsLeafAt w (applied w self.old.delta) unit (Some leaf) → IsPageOf w self.old → IsPageOf w self.new) }
+        ensures page { OnOk result ((w : World) → IsLeafAt w (edited w self.old.edits) unit (Some leaf) → IsPageOf w self.old → IsPageOf w self.new) }
         ensures kept { OnOk result (get nat_cmp self.new.leaves unit ≡ Some leaf) }
-        ensures delta { self.new.delta ≡ self.old.delta }
+        ensures edits { self.new.edits ≡ self.old.edits }
         ensures err { OnErr result ((w : World) → IsPageOf w self.old → IsPageOf w self.new) }
     {
         self.leaves.insert(unit, leaf)?;
@@ -77,7 +77,7 @@ impl Page {
         ensures err { OnErr result ((n : ℕ) → get nat_cmp self.new.hosts n ≡ get nat_cmp self.old.hosts n) }
         ensures leaves { self.new.leaves ≡ self.old.leaves }
         ensures settings { self.new.settings ≡ self.old.settings }
-        ensures delta { self.new.delta ≡ self.old.delta }
+        ensures edits { self.new.edits ≡ self.old.edits }
     {
         self.hosts.insert(number, row)?;
         Ok(())
@@ -89,7 +89,7 @@ impl Page {
         ensures err { OnErr result ((unit : ℕ) → get nat_cmp self.new.leaves unit ≡ get nat_cmp self.old.leaves unit) }
         ensures hosts { self.new.hosts ≡ self.old.hosts }
         ensures settings { self.new.settings ≡ self.old.settings }
-        ensures delta { self.new.delta ≡ self.old.delta }
+        ensures edits { self.new.edits ≡ self.old.edits }
     {
         match self.leaves.get_mut(&place.unit) {
             None => Err(Unavailable),
@@ -102,16 +102,16 @@ impl Page {
     #[tactic(auto, using(crate::proofs::Pages::page_steps))]
     pub fn put_instance(&mut self, place: Place, row: &Instance) -> Result<(), Unavailable>
         ensures page { (w : World) → IsPageOf w self.old → IsPageOf w self.new }
-        ensures ok { OnOk result (self.new.delta ≡ self.old.delta ++ change.Instance place row.now ∷ []) }
-        ensures err { OnErr result (self.new.delta ≡ self.old.delta) }
+        ensures ok { OnOk result (self.new.edits ≡ self.old.edits ++ edit.Instance place row.now ∷ []) }
+        ensures err { OnErr result (self.new.edits ≡ self.old.edits) }
     {
         let pushed = copy_of(row)?;
         let put = copy_of(row)?;
-        self.delta.push(Change::Instance { place, row: pushed })?;
+        self.edits.push(Edit::Instance { place, row: pushed })?;
         match self.put_on_leaf(place, put) {
             Ok(()) => Ok(()),
             Err(failed) => {
-                self.delta.drop_last();
+                self.edits.drop_last();
                 Err(failed)
             }
         }
@@ -123,7 +123,7 @@ impl Page {
         ensures err { OnErr result ((other : ℕ) → get nat_cmp self.new.leaves other ≡ get nat_cmp self.old.leaves other) }
         ensures hosts { self.new.hosts ≡ self.old.hosts }
         ensures settings { self.new.settings ≡ self.old.settings }
-        ensures delta { self.new.delta ≡ self.old.delta }
+        ensures edits { self.new.edits ≡ self.old.edits }
     {
         match self.leaves.get_mut(&unit) {
             None => Err(Unavailable),
@@ -138,18 +138,18 @@ impl Page {
     #[tactic(auto, using(crate::proofs::Pages::page_steps))]
     pub fn put_class(&mut self, unit: u32, class: &Text) -> Result<(), Unavailable>
         ensures page { (w : World) → IsPageOf w self.old → IsPageOf w self.new }
-        ensures ok { OnOk result (self.new.delta ≡ self.old.delta ++ change.Class unit class.now ∷ []) }
-        ensures err { OnErr result (self.new.delta ≡ self.old.delta) }
+        ensures ok { OnOk result (self.new.edits ≡ self.old.edits ++ edit.Class unit class.now ∷ []) }
+        ensures err { OnErr result (self.new.edits ≡ self.old.edits) }
     {
         let pushed = copy_of(class)?;
-        self.delta.push(Change::Class {
+        self.edits.push(Edit::Class {
             unit,
             class: pushed,
         })?;
         match self.class_on_leaf(unit, class) {
             Ok(()) => Ok(()),
             Err(failed) => {
-                self.delta.drop_last();
+                self.edits.drop_last();
                 Err(failed)
             }
         }
@@ -158,20 +158,20 @@ impl Page {
     /// Puts a host at its number, or at the next.
     #[tactic(auto, using(crate::proofs::Pages::page_steps))]
     pub fn put_host(&mut self, number: u32, row: &HostRow) -> Result<(), Memory>
-        ensures page { (w : World) → HasPlace (applied w self.old.delta) number → IsPageOf w self.old → IsPageOf w self.new }
-        ensures ok { OnOk result (self.new.delta ≡ self.old.delta ++ change.Host number row.now ∷ []) }
-        ensures err { OnErr result (self.new.delta ≡ self.old.delta) }
+        ensures page { (w : World) → HasPlace (edited w self.old.edits) number → IsPageOf w self.old → IsPageOf w self.new }
+        ensures ok { OnOk result (self.new.edits ≡ self.old.edits ++ edit.Host number row.now ∷ []) }
+        ensures err { OnErr result (self.new.edits ≡ self.old.edits) }
     {
         let pushed = copy_of(row)?;
         let kept = copy_of(row)?;
-        self.delta.push(Change::Host {
+        self.edits.push(Edit::Host {
             number,
             row: pushed,
         })?;
         match self.keep_host(number, kept) {
             Ok(()) => Ok(()),
             Err(failed) => {
-                self.delta.drop_last();
+                self.edits.drop_last();
                 Err(failed)
             }
         }

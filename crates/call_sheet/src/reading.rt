@@ -4,9 +4,9 @@ ghost use Rattle.std.specs.Prelude.{◌≡◌, ◌≤◌, ◌+◌, ◌++◌, [],
 ghost use Rattle.std.specs.BTreeMap.{get};
 ghost use Rattle.std.specs.Ordering.{nat_cmp};
 ghost use Rattle.sched_book.specs.Places.{host_at};
-ghost use Rattle.sched_book.specs.Delta.{applied};
+ghost use Rattle.sched_book.specs.Delta.{edited};
 ghost use Rattle.sched_book.specs.Trusted.{Trusted};
-ghost use Rattle.sched_book.specs.declared.delta.Change.TheVariants as change;
+ghost use Rattle.sched_book.specs.declared.delta.Edit.TheVariants as edit;
 ghost use Rattle.call_sheet.specs.Sheets.{IsPageOf, IsReadAt, HasPlace};
 
 use crate::instances::Instances;
@@ -48,8 +48,8 @@ pub(crate) fn read_leaf<D: Desk>(
     ensures reads { D.reads desk.old desk.new }
     ensures page { Trusted D.Units desk.old desk.new (IsPageOf (D.world desk.old) page.old → IsPageOf (D.world desk.old) page.new) }
     ensures answer { Trusted D.Units desk.old desk.new (IsPageOf (D.world desk.old) page.old → OnOk result (
-        IsReadAt (D.world desk.old) (applied (D.world desk.old) page.old.delta) unit (get nat_cmp page.new.leaves unit))) }
-    ensures delta { page.new.delta ≡ page.old.delta }
+        IsReadAt (D.world desk.old) (edited (D.world desk.old) page.old.edits) unit (get nat_cmp page.new.leaves unit))) }
+    ensures edits { page.new.edits ≡ page.old.edits }
 {
     if page.leaf(unit).is_some() {
         return Ok(());
@@ -71,8 +71,8 @@ pub(crate) fn read_host<D: Desk>(
     ensures reads { D.reads desk.old desk.new }
     ensures page { Trusted D.Units desk.old desk.new (IsPageOf (D.world desk.old) page.old → IsPageOf (D.world desk.old) page.new) }
     ensures answer { Trusted D.Units desk.old desk.new (IsPageOf (D.world desk.old) page.old →
-        IfOk result (λ r. r ≡ host_at (applied (D.world desk.old) page.old.delta) number)) }
-    ensures delta { page.new.delta ≡ page.old.delta }
+        IfOk result (λ r. r ≡ host_at (edited (D.world desk.old) page.old.edits) number)) }
+    ensures edits { page.new.edits ≡ page.old.edits }
 {
     if let Some(row) = page.host(number) {
         return Ok(Some(copy_of(row)?));
@@ -94,8 +94,8 @@ pub(crate) fn put_host<D: Desk>(
 ) -> Result<(), Unavailable>
     ensures reads { D.reads desk.old desk.new }
     ensures page { Trusted D.Units desk.old desk.new (IsPageOf (D.world desk.old) page.old → IsPageOf (D.world desk.old) page.new) }
-    ensures delta { OnOk result (page.new.delta ≡ page.old.delta ++ change.Host number row.now ∷ []) }
-    ensures err { OnErr result (page.new.delta ≡ page.old.delta) }
+    ensures edits { OnOk result (page.new.edits ≡ page.old.edits ++ edit.Host number row.now ∷ []) }
+    ensures err { OnErr result (page.new.edits ≡ page.old.edits) }
 {
     let Some(_) = read_host(alloc, desk, page, number)? else {
         return Err(Unavailable);
@@ -117,11 +117,11 @@ pub(crate) fn add_host<D: Desk>(
     ensures number { Trusted D.Units desk.old desk.new (
         IfOk result (λ n. IfSome n (λ number. (number ≡ length (D.world desk.old).hosts + 1) × (number ≤ most)))) }
     ensures full { Trusted D.Units desk.old desk.new (IfOk result (λ n. n ≡ None → most ≤ length (D.world desk.old).hosts)) }
-    ensures added { IfOk result (λ n. IfSome n (λ number. page.new.delta ≡ page.old.delta ++ change.Host number row.now ∷ [])) }
-    ensures none { IfOk result (λ n. n ≡ None → page.new.delta ≡ page.old.delta) }
-    ensures err { OnErr result (page.new.delta ≡ page.old.delta) }
+    ensures added { IfOk result (λ n. IfSome n (λ number. page.new.edits ≡ page.old.edits ++ edit.Host number row.now ∷ [])) }
+    ensures none { IfOk result (λ n. n ≡ None → page.new.edits ≡ page.old.edits) }
+    ensures err { OnErr result (page.new.edits ≡ page.old.edits) }
 {
-    if !page.delta.is_empty() {
+    if !page.edits.is_empty() {
         return Err(Unavailable);
     }
     let count = desk.counts()?.hosts;

@@ -31,16 +31,16 @@ impl<'a, D> Drop for Sheet<'a, D> {
 impl<'a, D: Desk> Units for Sheet<'a, D> {
     ghost use Rattle.std.specs.Prelude.{◌≡◌};
     ghost use Rattle.std.proofs.Common.{rules};
-    ghost use Rattle.sched_book.specs.Delta.{applied};
+    ghost use Rattle.sched_book.specs.Delta.{edited};
     ghost use Rattle.call_sheet.specs.Sheets.{IsPageOf};
 
-    ghost world = { λ s. applied (D.world s.desk.now) s.page.now.delta };
+    ghost world = { λ s. edited (D.world s.desk.now) s.page.now.edits };
 
     ghost honest = { λ s. D.honest s.desk.now };
 
     ghost well_kept = { λ s. D.well_kept s.desk.now × IsPageOf (D.world s.desk.now) s.page.now };
 
-    ghost reads = { λ s t. D.reads s.desk.now t.desk.now × (t.page.now.delta ≡ s.page.now.delta)
+    ghost reads = { λ s t. D.reads s.desk.now t.desk.now × (t.page.now.edits ≡ s.page.now.edits)
         × (D.honest t.desk.now → D.well_kept s.desk.now → IsPageOf (D.world s.desk.now) s.page.now → IsPageOf (D.world s.desk.now) t.page.now)
         × (t.desk.ghost_name ≡ s.desk.ghost_name) × (t.page.ghost_name ≡ s.page.ghost_name) };
 
@@ -108,7 +108,7 @@ impl<'a, D: Desk> Draft for Sheet<'a, D> {
 
     ghost entry = { λ s. D.world s.desk.now };
 
-    ghost delta = { λ s. s.page.now.delta };
+    ghost edits = { λ s. s.page.now.edits };
 
     ghost kept = { λ s. get nat_cmp s.page.now.leaves };
 
@@ -193,7 +193,7 @@ impl<'a, D: Desk> Draft for Sheet<'a, D> {
         self.desk.version_for(alloc, host, app)
     }
 
-    ghost is_applied = { λ s. refl };
+    ghost is_edited = { λ s. refl };
 
     ghost rest_stays = { λ s kept. kept.1.rest };
 
@@ -203,7 +203,7 @@ impl<'a, D: Desk> Draft for Sheet<'a, D> {
 
     ghost reads_works = { λ s t h. (h.0, h.2, h.3, h.4) };
 
-    ghost reads_delta = { λ s t h. h.1 };
+    ghost reads_edits = { λ s t h. h.1 };
 
     ghost works_none = { λ s. (D.reads_none s.desk.now, Prim.search rules, Prim.search rules, Prim.search rules) };
 

@@ -1,16 +1,16 @@
-//! Places by names, and several changes at once.
+//! Places by names, and several edits at once.
 
 ghost use Rattle.std.specs.Prelude.{◌≡◌, ◌++◌, [], ◌∷◌, IfOk, OnOk};
 ghost use Rattle.std.specs.Option.{option_copied};
 ghost use Rattle.sched_book.specs.Places.{place_named};
-ghost use Rattle.sched_book.specs.Delta.{applied, applied_one};
+ghost use Rattle.sched_book.specs.Delta.{edited, edited_one};
 ghost use Rattle.sched_book.specs.Trusted.{Trusted};
-ghost use Rattle.sched_book.specs.declared.delta.Change.TheVariants as change;
+ghost use Rattle.sched_book.specs.declared.delta.Edit.TheVariants as edit;
 ghost use Rattle.call_sheet.specs.Sheets.{existing_on};
 
 use crate::draft::Draft;
 use crate::leaf::Leaf;
-use sched_book::{Change, HostRow, Place, Unavailable, split_name};
+use sched_book::{Edit, HostRow, Place, Unavailable, split_name};
 use std::alloc::Global;
 
 /// The place, if there was an instance when the call came.
@@ -55,8 +55,8 @@ fn put_row<S: Draft>(
 ) -> Result<(), Unavailable>
     ensures works { S.works sheet.old sheet.new }
     ensures put { Trusted S.Units sheet.old sheet.new (
-        OnOk result (S.world sheet.new ≡ applied_one (S.world sheet.old) (change.Host number row.now))) }
-    ensures delta { OnOk result (S.delta sheet.new ≡ S.delta sheet.old ++ change.Host number row.now ∷ []) }
+        OnOk result (S.world sheet.new ≡ edited_one (S.world sheet.old) (edit.Host number row.now))) }
+    ensures edits { OnOk result (S.edits sheet.new ≡ S.edits sheet.old ++ edit.Host number row.now ∷ []) }
 {
     if sheet.host(alloc, number)?.is_some() {
         return sheet.put_host(alloc, number, row);
@@ -67,40 +67,35 @@ fn put_row<S: Draft>(
     }
 }
 
-/// Makes one change, of an instance, of a class or of a host. Any other is refused.
-fn put_change<S: Draft>(alloc: Global, sheet: &mut S, change: &Change) -> Result<(), Unavailable>
+/// Makes one edit. A host must be at an existing number or at the next one.
+fn put_one<S: Draft>(alloc: Global, sheet: &mut S, edit: &Edit) -> Result<(), Unavailable>
     ensures works { S.works sheet.old sheet.new }
     ensures put { Trusted S.Units sheet.old sheet.new (
-        OnOk result (S.world sheet.new ≡ applied_one (S.world sheet.old) change.now)) }
-    ensures delta { OnOk result (S.delta sheet.new ≡ S.delta sheet.old ++ change.now ∷ []) }
+        OnOk result (S.world sheet.new ≡ edited_one (S.world sheet.old) edit.now)) }
+    ensures edits { OnOk result (S.edits sheet.new ≡ S.edits sheet.old ++ edit.now ∷ []) }
 {
-    match change {
-        Change::Instance { place, row } => {
+    match edit {
+        Edit::Instance { place, row } => {
             sheet.read(alloc, place.unit)?;
             sheet.put_instance(*place, row)
         }
-        Change::Class { unit, class } => {
+        Edit::Class { unit, class } => {
             sheet.read(alloc, *unit)?;
             sheet.put_class(*unit, class)
         }
-        Change::Host { number, row } => put_row(alloc, sheet, *number, row),
-        _ => Err(Unavailable),
+        Edit::Host { number, row } => put_row(alloc, sheet, *number, row),
     }
 }
 
-/// Makes changes of instances, of classes and of hosts in turn. Any other is refused.
-pub fn put_all<S: Draft>(
-    alloc: Global,
-    sheet: &mut S,
-    changes: &[Change],
-) -> Result<(), Unavailable>
+/// Makes edits in turn. A host must be at an existing number or at the next one.
+pub fn put_all<S: Draft>(alloc: Global, sheet: &mut S, edits: &[Edit]) -> Result<(), Unavailable>
     ensures works { S.works sheet.old sheet.new }
     ensures put { Trusted S.Units sheet.old sheet.new (
-        OnOk result (S.world sheet.new ≡ applied (S.world sheet.old) changes.now)) }
-    ensures delta { OnOk result (S.delta sheet.new ≡ S.delta sheet.old ++ changes.now) }
+        OnOk result (S.world sheet.new ≡ edited (S.world sheet.old) edits.now)) }
+    ensures edits { OnOk result (S.edits sheet.new ≡ S.edits sheet.old ++ edits.now) }
 {
-    for change in changes {
-        put_change(alloc, sheet, change)?;
+    for edit in edits {
+        put_one(alloc, sheet, edit)?;
     }
     Ok(())
 }

@@ -3,10 +3,10 @@ use Rattle.std.proofs.Common.{◌≡◌, ℕ, zero, suc, ◌-◌, Bool, true, fa
 use Rattle.std.specs.Prelude.{fold, filter_map, option_map, option_and_then, slice_get}
 use Rattle.std.specs.List.{cons_option}
 use Rattle.sched_book.specs.Places.{nth, unit_at, instance_at, is_same}
-use Rattle.sched_book.specs.Delta.{with_instance, applied_one, applied}
+use Rattle.sched_book.specs.Delta.{with_instance, edited_one, edited}
 use Rattle.sched_book.specs.Reports.{modify_at, modify_nth, with_number, with_changed}
-use Rattle.sched_book.specs.declared.delta.Change.{Change}
-use Rattle.sched_book.specs.declared.delta.Change.TheVariants as change
+use Rattle.sched_book.specs.declared.delta.Edit.{Edit}
+use Rattle.sched_book.specs.declared.delta.Edit.TheVariants as edit
 use Rattle.sched_book.specs.declared.instance.Instance.{Instance}
 use Rattle.sched_book.specs.declared.instance.Owner.{Owner}
 use Rattle.sched_book.specs.declared.instance.Place.{Place}
@@ -66,7 +66,7 @@ module _ (w : World) (p : Place) where
       ∙ modify_nth-none w.units p.unit)
 
   -- if there is one, the changed instance is put in its place
-  pub with_changed-is : (f : Instance → Instance) (x : Instance) → instance_at w p ≡ Some x → with_changed f w p ≡ applied_one w (change.Instance p (f x))
+  pub with_changed-is : (f : Instance → Instance) (x : Instance) → instance_at w p ≡ Some x → with_changed f w p ≡ edited_one w (edit.Instance p (f x))
   with_changed-is f x stands =
       ap (λ units. record w { units = units })
       (modify_nth-same (with_number f p.number) (with_instance p.number (f x)) w.units p.unit
@@ -108,25 +108,25 @@ module _ (r : Place → Option ℕ) (before : World) where
           ∙ twice (instance_at w p)
 
   -- one fate as a change
-  one : (w : World) (p : Place) (rest : List Change) (o now : Option Instance) → instance_at w p ≡ now
+  one : (w : World) (p : Place) (rest : List Edit) (o now : Option Instance) → instance_at w p ≡ now
       → option_map (fated (r p)) now ≡ option_map (fated (r p)) o
-      → applied w (cons_option (option_map (λ x. change.Instance p (fated (r p) x)) o) rest) ≡ applied (with_fate w (by_place p)) rest
-  one w p rest None None is same = ap (λ z. applied z rest) (sym (with_changed-none w p (fated (r p)) is))
+      → edited w (cons_option (option_map (λ x. edit.Instance p (fated (r p) x)) o) rest) ≡ edited (with_fate w (by_place p)) rest
+  one w p rest None None is same = ap (λ z. edited z rest) (sym (with_changed-none w p (fated (r p)) is))
   one w p rest None (Some y) is same = absurd cc
   one w p rest (Some x) None is same = absurd cc
   one w p rest (Some x) (Some y) is same =
       let alike : fated (r p) y ≡ fated (r p) x = cc in
-      ap (λ z. applied z rest)
-      (ap (λ z. applied_one w (change.Instance p z)) (sym alike) ∙ sym (with_changed-is w p (fated (r p)) y is))
+      ap (λ z. edited z rest)
+      (ap (λ z. edited_one w (edit.Instance p z)) (sym alike) ∙ sym (with_changed-is w p (fated (r p)) y is))
 
-  in_turn : (w : World) (ps : List Place) → Alike w → applied w (filter_map (fate_change before) (map by_place ps)) ≡ fold with_fate w (map by_place ps)
+  in_turn : (w : World) (ps : List Place) → Alike w → edited w (filter_map (fate_change before) (map by_place ps)) ≡ fold with_fate w (map by_place ps)
   in_turn w [] alike = refl
   in_turn w (p ∷ ps) alike =
       one w p (filter_map (fate_change before) (map by_place ps)) (instance_at before p) (instance_at w p) refl (alike p)
       ∙ in_turn (with_fate w (by_place p)) ps (stay_alike w p alike)
 
 -- the changes of fates that follow from the places do the same as these fates in turn
-pub made_by_fates : (w : World) (fates : List Fate) → AreByPlace fates → applied w (filter_map (fate_change w) fates) ≡ fold with_fate w fates
+pub made_by_fates : (w : World) (fates : List Fate) → AreByPlace fates → edited w (filter_map (fate_change w) fates) ≡ fold with_fate w fates
 made_by_fates w fates by =
-    subst (λ fs. applied w (filter_map (fate_change w) fs) ≡ fold with_fate w fs) (sym by.are)
+    subst (λ fs. edited w (filter_map (fate_change w) fs) ≡ fold with_fate w fs) (sym by.are)
     (in_turn by.resent_at w w by.places (λ p. refl))

@@ -8,7 +8,7 @@ use Rattle.sched_book.specs.Lost.{deadline_after}
 use Rattle.sched_book.specs.Names.{instance_name}
 use Rattle.sched_book.specs.Places.{unit_at, status_at, is_held_by, name_at, deadline_of}
 use Rattle.sched_book.specs.Step.{deadline_at}
-use Rattle.sched_book.specs.declared.delta.Change.TheVariants as change
+use Rattle.sched_book.specs.declared.delta.Edit.TheVariants as edit
 use Rattle.sched_book.specs.declared.instance.Instance.{Instance}
 use Rattle.sched_book.specs.declared.instance.Place.{Place}
 use Rattle.sched_book.specs.declared.instance.Status.{Status}
@@ -50,7 +50,7 @@ pub ruleset missing_steps = (missing-is)
 -- what a fate changes
 pub change-is : (entry present : World) (f : Fate) (o : Option Leaf) → IsReadAt entry present f.place.unit o → change_on o f ≡ fate_change present f
 change-is entry present f o read =
-    ap (option_map (λ x. change.Instance f.place (fated f.resent x))) (instance_now-is entry present f.place o read)
+    ap (option_map (λ x. edit.Instance f.place (fated f.resent x))) (instance_now-is entry present f.place o read)
 
 pub ruleset change_steps = (change-is)
 

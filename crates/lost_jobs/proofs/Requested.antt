@@ -3,13 +3,13 @@ use Rattle.std.proofs.Common.{◌≡◌, ℕ, List, [], Option, Some, None, sym,
 use Rattle.std.specs.Prelude.{Contains, option_map, unwrap_or}
 use Rattle.std.proofs.lemmas.List.Elements.{All-weaker}
 use Rattle.rpc_records.specs.declared.request.Request.{Request}
-use Rattle.sched_book.specs.Delta.{applied}
+use Rattle.sched_book.specs.Delta.{edited}
 use Rattle.sched_book.specs.Lost.{lost}
 use Rattle.sched_book.specs.Names.{instance_name}
 use Rattle.sched_book.specs.Places.{nth, name_at}
 use Rattle.sched_book.specs.PlaceLaws.{ChangesInstancesAlone, IsLost}
 use Rattle.sched_book.specs.Reports.{recorded}
-use Rattle.sched_book.specs.declared.delta.Change.{Change}
+use Rattle.sched_book.specs.declared.delta.Edit.{Edit}
 use Rattle.sched_book.specs.declared.instance.Place.{Place}
 use Rattle.sched_book.specs.declared.instance.UnitBook.{UnitBook}
 use Rattle.sched_book.specs.declared.rows.HostRow.{HostRow}
@@ -90,8 +90,8 @@ lost_of_both host r ps v before changed after same_before same_after are no_more
     ∙ ap (λ u. lost u host r.other_results) same_after
 
 -- the lost jobs after changes that record the reports: after these the host holds no more than before
-pub lost_by_request : (w : World) (changes : List Change) (host : ℕ) (r : Request) → RecordsReports w changes host r → (ps : List Place)
-    → (HoldsNoMore w (applied w changes) host → ps ≡ lost (applied w changes) host r.other_results) → AreLostBy w host r ps
+pub lost_by_request : (w : World) (changes : List Edit) (host : ℕ) (r : Request) → RecordsReports w changes host r → (ps : List Place)
+    → (HoldsNoMore w (edited w changes) host → ps ≡ lost (edited w changes) host r.other_results) → AreLostBy w host r ps
 lost_by_request w changes host r records ps are =
     let no_more =
     subst (λ v. HoldsNoMore w v host) (sym records.is) (reports_hold_no_more (record w { hosts = records.hosts }) host r.results) in

@@ -3,8 +3,8 @@ use Rattle.std.specs.Prelude.{◌≡◌, ℕ, List, map, Option, Some, None, opt
 use Rattle.sched_book.specs.Places.{instance_at}
 use Rattle.sched_book.specs.Reports.{with_changed}
 use Rattle.sched_book.specs.Lost.{with_deadline, with_lapse}
-use Rattle.sched_book.specs.declared.delta.Change.{Change}
-use Rattle.sched_book.specs.declared.delta.Change.TheVariants as change
+use Rattle.sched_book.specs.declared.delta.Edit.{Edit}
+use Rattle.sched_book.specs.declared.delta.Edit.TheVariants as edit
 use Rattle.sched_book.specs.declared.instance.Instance.{Instance}
 use Rattle.sched_book.specs.declared.instance.Lapse.TheVariants.{Dropped}
 use Rattle.sched_book.specs.declared.instance.Place.{Place}
@@ -21,8 +21,8 @@ abbrev pub with_fate : World → Fate → World
 with_fate w f = with_changed (fated f.resent) w f.place
 
 -- the same as a change; none if there is no instance
-abbrev pub fate_change : World → Fate → Option Change
-fate_change w f = option_map (λ x. change.Instance f.place (fated f.resent x)) (instance_at w f.place)
+abbrev pub fate_change : World → Fate → Option Edit
+fate_change w f = option_map (λ x. edit.Instance f.place (fated f.resent x)) (instance_at w f.place)
 
 -- Fates that follow from the places: two fates of one place are the same.
 pub record AreByPlace (fates : List Fate) : Type 0 where

@@ -4,8 +4,8 @@ use Rattle.std.specs.Str.{bytes_eq}
 use Rattle.sched_book.specs.Count.{is_open, status}
 use Rattle.sched_book.specs.Names.{instance_name}
 use Rattle.sched_book.specs.Places.{option_any, is_held_by, deadline_of}
-use Rattle.sched_book.specs.declared.delta.Change.{Change}
-use Rattle.sched_book.specs.declared.delta.Change.TheVariants as change
+use Rattle.sched_book.specs.declared.delta.Edit.{Edit}
+use Rattle.sched_book.specs.declared.delta.Edit.TheVariants as edit
 use Rattle.sched_book.specs.declared.instance.Instance.{Instance}
 use Rattle.call_sheet.specs.Sheets.{instance_now}
 use Rattle.call_sheet.specs.declared.leaf.Leaf.{Leaf}
@@ -33,5 +33,5 @@ open_job_on (Some k) number =
     else None
 
 -- what a fate changes of the instance as it is now; nothing if there is no instance
-abbrev pub change_on : Option Leaf → Fate → Option Change
-change_on k f = option_map (λ x. change.Instance f.place (fated f.resent x)) (instance_now k f.place.number)
+abbrev pub change_on : Option Leaf → Fate → Option Edit
+change_on k f = option_map (λ x. edit.Instance f.place (fated f.resent x)) (instance_now k f.place.number)

@@ -3,19 +3,19 @@
 use Rattle.std.specs.Prelude.{◌≡◌, ℕ, true, List, All, AllPairs, Contains, Some}
 use Rattle.rpc_records.specs.declared.request.Report.{Report}
 use Rattle.rpc_records.specs.declared.request.Request.{Request}
-use Rattle.sched_book.specs.Delta.{applied}
+use Rattle.sched_book.specs.Delta.{edited}
 use Rattle.sched_book.specs.Lost.{lost}
 use Rattle.sched_book.specs.Places.{passes, is_held_by, is_before, name_at, place_named}
 use Rattle.sched_book.specs.Reports.{recorded}
-use Rattle.sched_book.specs.declared.delta.Change.{Change}
+use Rattle.sched_book.specs.declared.delta.Edit.{Edit}
 use Rattle.sched_book.specs.declared.instance.Place.{Place}
 use Rattle.sched_book.specs.declared.rows.HostRow.{HostRow}
 use Rattle.sched_book.specs.declared.world.World.{World}
 
 -- The changes renew the rows of hosts, and record the request's reports for a host.
-pub record RecordsReports (w : World) (changes : List Change) (host : ℕ) (r : Request) : Type 0 where
+pub record RecordsReports (w : World) (changes : List Edit) (host : ℕ) (r : Request) : Type 0 where
   pub hosts : List HostRow
-  pub is : applied w changes ≡ recorded (record w { hosts = hosts }) host r.results
+  pub is : edited w changes ≡ recorded (record w { hosts = hosts }) host r.results
 
 -- Lost jobs are sent again, the client sent a list, and the host held the instance at the place. No report of the
 -- request names it, and its name is not in the list.

@@ -8,7 +8,7 @@ ghost use Rattle.lost_jobs.specs.Leaves.{change_on};
 
 use crate::fates::Fate;
 use call_sheet::{Draft, Leaf, put_all};
-use sched_book::{Change, Instance, Lapse, Owner, Unavailable};
+use sched_book::{Edit, Instance, Lapse, Owner, Unavailable};
 use std::alloc::Global;
 use texts::{Listed, Memory};
 
@@ -25,7 +25,7 @@ fn fated(resent: Option<u64>, instance: &Instance) -> Result<Instance, Memory>
 }
 
 /// What a fate changes on a leaf; nothing if there is no instance.
-fn change_on(leaf: Option<&Leaf>, fate: Fate) -> Result<Option<Change>, Memory>
+fn change_on(leaf: Option<&Leaf>, fate: Fate) -> Result<Option<Edit>, Memory>
     ensures { IfOk result (λ change. change ≡ change_on (option_copied leaf.entry) fate) }
 {
     let place = fate.place;
@@ -34,7 +34,7 @@ fn change_on(leaf: Option<&Leaf>, fate: Fate) -> Result<Option<Change>, Memory>
     };
     match leaf.present.as_slice().get(place.number as usize) {
         None => Ok(None),
-        Some(instance) => Ok(Some(Change::Instance {
+        Some(instance) => Ok(Some(Edit::Instance {
             place,
             row: fated(fate.resent, instance)?,
         })),
@@ -51,8 +51,8 @@ pub fn put_fates<S: Draft>(alloc: Global, sheet: &mut S, fates: &[Fate]) -> Resu
     ensures works { S.works sheet.old sheet.new }
     ensures put { Trusted S.Units sheet.old sheet.new (
         OnOk result (AreByPlace fates.now → S.world sheet.new ≡ fold with_fate (S.world sheet.old) fates.now)) }
-    ensures delta { Trusted S.Units sheet.old sheet.new (
-        OnOk result (S.delta sheet.new ≡ S.delta sheet.old ++ filter_map (fate_change (S.world sheet.old)) fates.now)) }
+    ensures edits { Trusted S.Units sheet.old sheet.new (
+        OnOk result (S.edits sheet.new ≡ S.edits sheet.old ++ filter_map (fate_change (S.world sheet.old)) fates.now)) }
 {
     let mut more = Listed::new(alloc);
     for fate in fates {

@@ -2,7 +2,7 @@
 //! scheduler. They open a sheet for the steps that the program runs, [`lost_on`] and [`fates_on`].
 
 ghost use Rattle.std.specs.Prelude.{◌≡◌, map, IfOk};
-ghost use Rattle.sched_book.specs.Delta.{applied};
+ghost use Rattle.sched_book.specs.Delta.{edited};
 ghost use Rattle.sched_book.specs.Lost.{lost};
 ghost use Rattle.sched_book.specs.Trusted.{Trusted};
 ghost use Rattle.lost_jobs.specs.Fates.{fate};
@@ -13,27 +13,27 @@ use crate::fates::{Fate, fates_on};
 use crate::missing::lost_on;
 use call_sheet::{Draft, Page, Sheet, put_all};
 use rpc_records::Request;
-use sched_book::{Delta, Desk, HostRow, Moment, Place, Unavailable};
+use sched_book::{Desk, Edits, HostRow, Moment, Place, Unavailable};
 use std::alloc::Global;
 use texts::Listed;
 
-/// The jobs of the host that its client lost, by place: what the host still holds after changes and the client does not
-/// list. There are none if lost jobs are not sent again, or if the client sent no list. The changes must leave the host
+/// The jobs of the host that its client lost, by place: what the host still holds after edits and the client does not
+/// list. There are none if lost jobs are not sent again, or if the client sent no list. The edits must leave the host
 /// no job that it did not hold before. If they record the request's reports, the lost jobs are those that the host held
 /// before, and that the request neither reports nor lists.
 pub fn lost<D: Desk>(
     alloc: Global,
     desk: &mut D,
-    delta: &Delta,
+    edits: &Edits,
     host: u32,
     request: &Request,
 ) -> Result<Listed<Place>, Unavailable>
     ensures reads { D.reads desk.old desk.new }
     ensures answer { Trusted D.Units desk.old desk.new (IfOk result (λ places.
-        HoldsNoMore (D.world desk.old) (applied (D.world desk.old) delta.now) host →
-        places ≡ lost (applied (D.world desk.old) delta.now) host request.now.other_results)) }
+        HoldsNoMore (D.world desk.old) (edited (D.world desk.old) edits.now) host →
+        places ≡ lost (edited (D.world desk.old) edits.now) host request.now.other_results)) }
     ensures of_request { Trusted D.Units desk.old desk.new (IfOk result (λ places.
-        RecordsReports (D.world desk.old) delta.now host request.now →
+        RecordsReports (D.world desk.old) edits.now host request.now →
         AreLostBy (D.world desk.old) host request.now places)) }
 {
     let mut page = Page::new(alloc, desk.settings(alloc)?);
@@ -41,7 +41,7 @@ pub fn lost<D: Desk>(
         desk,
         page: &mut page,
     };
-    put_all(alloc, &mut sheet, delta.as_slice())?;
+    put_all(alloc, &mut sheet, edits.as_slice())?;
     let held = sheet.held_before(alloc, host)?;
     lost_on(alloc, &mut sheet, host, held.as_slice(), request)
 }

@@ -18,7 +18,7 @@ use Rattle.sched_book.specs.Delta.{applied}
 use Rattle.sched_book.specs.Places.{account_place, known_host}
 use Rattle.sched_book.specs.Sound.{Sound}
 use Rattle.sched_book.specs.Step.{RpcStep, host_number}
-use Rattle.sched_book.specs.declared.delta.Change.{Change}
+use Rattle.sched_book.specs.declared.delta.Delta.{Delta}
 use Rattle.sched_book.specs.declared.machine.Answered.TheVariants as answered
 use Rattle.sched_book.specs.declared.machine.Call.TheVariants as call
 use Rattle.sched_book.specs.declared.machine.Caller.{Caller}
@@ -149,7 +149,7 @@ has_room max count None room = lt-ltb count max (room refl)
 has_room max count (Some number) room = refl
 
 -- the kept calls with this one are what the message leaves of each key, and are of hosts that exist
-calls_kept : (w : World) (c : Caller) (r : Request) (now : ℕ) (delta : List Change) (reply : Reply) → Sound w
+calls_kept : (w : World) (c : Caller) (r : Request) (now : ℕ) (delta : Delta) (reply : Reply) → Sound w
     → RpcStep w c r now (applied w delta) reply → (calls : Calls) → AreOfHosts w calls
     → AreOfHosts (applied w delta) (calls_with (entry_of_call r.rpc_seqno (canonical_text r) reply) calls)
     × ((key : Key) → calls_by_number (applied w delta) (calls_with (entry_of_call r.rpc_seqno (canonical_text r) reply) calls) key
@@ -162,7 +162,7 @@ calls_kept w c r now delta reply sound step calls of =
     subst P (sym number) (kept_by_number w (applied w delta) (Rpc r) (call.Rpc c r) now (answered.Rpc reply) sound refl step this_era calls of)
 
 -- A step was made for a call that may act, in the world of the store. It is committed with the call's entry.
-module _ (old new : Held) (w : World) (world_is : old.world ≡ w) (c : Caller) (r : Request) (now : ℕ) (delta : List Change) (reply : Reply) (text : List ℕ)
+module _ (old new : Held) (w : World) (world_is : old.world ≡ w) (c : Caller) (r : Request) (now : ℕ) (delta : Delta) (reply : Reply) (text : List ℕ)
     (moment : now ≤ last_moment) (range : IsInRange r) (spelt : text ≡ canonical_text r)
     (made : IsStep (λ v. IsAdmitted v c r) (λ v after. RpcStep v c r now after reply) delta w) where
   acts : IsKeptSoundly delta (entry_of_call r.rpc_seqno text reply) old new

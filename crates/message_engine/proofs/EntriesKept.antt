@@ -5,7 +5,7 @@ use Rattle.reply_register.specs.declared.key.Key.{Key}
 use Rattle.sched_book.specs.Delta.{applied, Fits}
 use Rattle.sched_book.specs.Sound.{Sound}
 use Rattle.sched_book.specs.Step.{Step}
-use Rattle.sched_book.specs.declared.delta.Change.{Change}
+use Rattle.sched_book.specs.declared.delta.Delta.{Delta}
 use Rattle.sched_book.specs.declared.machine.Answered.{Answered}
 use Rattle.sched_book.specs.declared.machine.Call.{Call}
 use Rattle.sched_book.specs.declared.world.World.{World}
@@ -41,7 +41,7 @@ pub left_stands : (old new : Held) → IsLeft old new → MayStand old → MaySt
 left_stands old new left = subst MayStand (sym (left_is old new left))
 
 -- what a commit makes is sound, if the changes and the entry make something sound
-committed_sound : (delta : List Change) (e : Entry) (old new : Held) → IsCommitted delta e old new
+committed_sound : (delta : Delta) (e : Entry) (old new : Held) → IsCommitted delta e old new
     → IsSoundStore (record { world = applied old.world delta; calls = calls_with e old.calls; batches = batches_with e old.batches }) → IsSoundStore new
 committed_sound delta e old new done = subst IsSoundStore (λ i. record {
   world = sym done.world_is i;
@@ -60,13 +60,13 @@ told_serves m answer old new told left sound =
     }
 
 -- A step was made of a sound world in which it is allowed. Its changes fit, and leave a sound world.
-pub record IsStep (May : World → Type 0) (Steps : World → World → Type 0) (delta : List Change) (w : World) : Type 0 where
+pub record IsStep (May : World → Type 0) (Steps : World → World → Type 0) (delta : Delta) (w : World) : Type 0 where
   pub step : Sound w → May w → Steps w (applied w delta)
   pub sound : Sound w → May w → Sound (applied w delta)
   pub fits : Sound w → May w → Fits w delta
 
 -- a first-heard message is one step, and its entry is kept
-pub step_serves : (m : Message) (c : Call) (answered : Answered) (delta : List Change) (e : Entry) (old new : Held)
+pub step_serves : (m : Message) (c : Call) (answered : Answered) (delta : Delta) (e : Entry) (old new : Held)
     → told_by (tables_by old) m.said ≡ None → SaysCall m.said c → IsInLimits c m.now
     → Step old.world c m.now (applied old.world delta) answered → Sound (applied old.world delta)
     → AreOfHosts (applied old.world delta) (calls_with e old.calls)

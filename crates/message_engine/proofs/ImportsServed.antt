@@ -14,7 +14,7 @@ use Rattle.sched_book.specs.Delta.{applied}
 use Rattle.sched_book.specs.Imports.{AreChecked, fault_of_rows, shelf_of}
 use Rattle.sched_book.specs.Limits.{last_moment, AreRowsInLimits}
 use Rattle.sched_book.specs.Step.{ImportStep}
-use Rattle.sched_book.specs.declared.delta.Change.{Change}
+use Rattle.sched_book.specs.declared.delta.Delta.{Delta}
 use Rattle.sched_book.specs.declared.machine.Answered.TheVariants as answered
 use Rattle.sched_book.specs.declared.machine.Call.TheVariants as call
 use Rattle.sched_book.specs.declared.rows.Rows.{Rows}
@@ -91,7 +91,7 @@ forbidden_serves now kind batch text rows refusal old new forbids left none =
 
 -- ---- rows that are added
 
-module _ (now count : ℕ) (kind : Kind) (batch text : List ℕ) (new_rows : Rows) (delta : List Change) (old new : Held) (w : World) (world_is : old.world ≡ w)
+module _ (now count : ℕ) (kind : Kind) (batch text : List ℕ) (new_rows : Rows) (delta : Delta) (old new : Held) (w : World) (world_is : old.world ≡ w)
     (soon : now ≤ last_moment) (limits : AreRowsInLimits new_rows)
     (made : IsStep (λ v. AreChecked v new_rows) (λ v after. ImportStep v new_rows after count) delta w) where
   rows_serve : IsKeptSoundly delta (entry_of_batch kind batch text count) old new

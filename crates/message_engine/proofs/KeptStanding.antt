@@ -15,7 +15,7 @@ use Rattle.sched_book.specs.Delta.{applied}
 use Rattle.sched_book.specs.Places.{nth, host_at}
 use Rattle.sched_book.specs.Sound.{Sound}
 use Rattle.sched_book.specs.Step.{RpcStep, Step}
-use Rattle.sched_book.specs.declared.delta.Change.{Change}
+use Rattle.sched_book.specs.declared.delta.Delta.{Delta}
 use Rattle.sched_book.specs.declared.machine.Answered.{Answered}
 use Rattle.sched_book.specs.declared.machine.Answered.TheVariants as answered
 use Rattle.sched_book.specs.declared.machine.Call.{Call}
@@ -99,7 +99,7 @@ batches_stand w (entry.Kept host k) batches may all = all
 batches_stand w entry.Nothing batches may all = all
 
 -- What a step leaves, with what is kept of its message, can be opened again if what it began with could.
-pub stands_with : (c : Call) (now : ℕ) (a : Answered) (delta : List Change) (e : Entry) (old new : Held) → Step old.world c now (applied old.world delta) a
+pub stands_with : (c : Call) (now : ℕ) (a : Answered) (delta : Delta) (e : Entry) (old new : Held) → Step old.world c now (applied old.world delta) a
     → Sound (applied old.world delta) → MayBeKept (applied old.world delta) e → IsCommitted delta e old new → MayStand old → MayStand new
 stands_with c now a delta e old new step sound may done stood =
     let after = applied old.world delta in

@@ -4,7 +4,7 @@ use Rattle.std.specs.Prelude.{Result, Ok, Err, IfOk, OnOk, ⊤}
 use Rattle.sched_book.specs.Delta.{applied}
 use Rattle.sched_book.specs.Limits.{last_moment}
 use Rattle.sched_book.specs.Step.{TickStep}
-use Rattle.sched_book.specs.declared.delta.Change.{Change}
+use Rattle.sched_book.specs.declared.delta.Delta.{Delta}
 use Rattle.sched_book.specs.declared.machine.Answered.TheVariants as answered
 use Rattle.sched_book.specs.declared.machine.Call.TheVariants as call
 use Rattle.sched_book.specs.declared.world.World.{World}
@@ -19,7 +19,7 @@ use Rattle.pasts.proofs.ByNumber.{kept_by_number}
 use Rattle.message_engine.specs.Stores.{IsServed, ServesIn}
 use Rattle.message_engine.proofs.EntriesKept.{step_serves, IsStep}
 
-module _ (now count : ℕ) (delta : List Change) (old new : Held) (w : World) (world_is : old.world ≡ w) (soon : now ≤ last_moment)
+module _ (now count : ℕ) (delta : Delta) (old new : Held) (w : World) (world_is : old.world ≡ w) (soon : now ≤ last_moment)
     (made : IsStep (λ v. ⊤) (λ v after. TickStep v now after count) delta w) where
   tick_serves : IsKeptSoundly delta entry.Nothing old new → ServesIn (heard_now now Tick) (Good (lapsed_text count)) old new
   tick_serves done sound =

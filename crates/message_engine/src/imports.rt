@@ -78,18 +78,18 @@ fn add_rows<S: Store>(
     kind: Kind,
     batch: &Text,
     text: &[u8],
-    rows: &Rows,
+    rows: Rows,
     now: Moment,
 ) -> Result<Answer, Unavailable>
-    requires limits { AreRowsInLimits rows.now }
+    requires limits { AreRowsInLimits rows }
     ensures acts { ActsWhole S.Store (is_ok result) (λ h.
-        (S.holds store.old).batches kind batch.now ≡ None → fault_of_rows (shelf_of (S.holds store.old).world) rows.now ≡ None →
-        IsServed (import_of now kind batch.now text.now (Ok rows.now)) (S.holds store.old) h) store.old store.new }
+        (S.holds store.old).batches kind batch.now ≡ None → fault_of_rows (shelf_of (S.holds store.old).world) rows ≡ None →
+        IsServed (import_of now kind batch.now text.now (Ok rows)) (S.holds store.old) h) store.old store.new }
     ensures exact { Trusted S.Units store.old store.new (IfOk result (λ answer.
-        (S.holds store.old).batches kind batch.now ≡ None → fault_of_rows (shelf_of (S.holds store.old).world) rows.now ≡ None →
-        ServesIn (import_of now kind batch.now text.now (Ok rows.now)) answer (S.holds store.old) (S.holds store.new))) }
+        (S.holds store.old).batches kind batch.now ≡ None → fault_of_rows (shelf_of (S.holds store.old).world) rows ≡ None →
+        ServesIn (import_of now kind batch.now text.now (Ok rows)) answer (S.holds store.old) (S.holds store.new))) }
 {
-    let (delta, count) = step_import(alloc, rows)?;
+    let (delta, count) = step_import(rows)?;
     let body = imported(alloc, kind.name(), batch.as_str(), count as u64)?;
     let entry = batch_entry(alloc, kind, batch, text, &body)?;
     commit_and_answer(store, &delta, &entry, body)
@@ -115,7 +115,7 @@ fn import_new<S: Store>(
         Err(fault) => return confirmed(store, Answer::Refusal(fault.fault())),
     };
     match check_rows(alloc, store, &rows) {
-        Ok(()) => add_rows(alloc, store, kind, batch, text, &rows, now),
+        Ok(()) => add_rows(alloc, store, kind, batch, text, rows, now),
         Err(RowsFault::Unavailable) => Err(Unavailable),
         Err(fault) => confirmed(store, Answer::Refusal(fault.fault())),
     }

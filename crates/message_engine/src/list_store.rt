@@ -2,6 +2,7 @@
 
 ghost use Rattle.std.specs.Prelude.{◌≡◌, [], length, find, Ok, ⊤, IfOk, OnOk, OnErr};
 ghost use Rattle.std.specs.Option.{option_copied};
+ghost use Rattle.sched_book.specs.declared.delta.Delta.TheVariants as kinds;
 ghost use Rattle.sched_book.specs.Desk.{counts, agreement_at, unit_status};
 ghost use Rattle.sched_book.specs.Places.{unit_named, known_host, held_by, sent_on_day, host_credit, user_credit};
 ghost use Rattle.stores.specs.Held.{IsCommitted, IsLeft, IsNew};
@@ -81,7 +82,7 @@ impl ListStore {
 
     /// Keeps an entry, or leaves everything as it was.
     fn keep(&mut self, entry: &Entry) -> Result<(), Memory>
-        ensures ok { OnOk result (IsCommitted [] entry.now (held_of self.old) (held_of self.new)) }
+        ensures ok { OnOk result (IsCommitted (kinds.Edits []) entry.now (held_of self.old) (held_of self.new)) }
         ensures err { OnErr result (IsLeft (held_of self.old) (held_of self.new)) }
     {
         match entry {

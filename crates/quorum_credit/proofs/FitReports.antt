@@ -11,10 +11,10 @@ use Rattle.sched_book.specs.Places.{unit_at, instance_at, is_same, option_any, i
 use Rattle.sched_book.specs.Limits.{most_instances, IsInstanceInLimits}
 use Rattle.sched_book.specs.Sound.{IsBare, HasOwnerAmong, IsSoundUnit, Sound}
 use Rattle.sched_book.specs.Desk.{instances_at}
-use Rattle.sched_book.specs.Delta.{applied_one, applied, FitsOne, Fits}
+use Rattle.sched_book.specs.Delta.{edited_one, edited, EditFits, EditsFit}
 use Rattle.sched_book.specs.Reports.{with_number, with_changed, awaits_report, with_report}
-use Rattle.sched_book.specs.declared.delta.Change.{Change}
-use Rattle.sched_book.specs.declared.delta.Change.TheVariants as change
+use Rattle.sched_book.specs.declared.delta.Edit.{Edit}
+use Rattle.sched_book.specs.declared.delta.Edit.TheVariants as edit
 use Rattle.sched_book.specs.declared.instance.Instance.{Instance}
 use Rattle.sched_book.specs.declared.instance.Outcome.{Outcome}
 use Rattle.sched_book.specs.declared.instance.Owner.{Owner}
@@ -109,7 +109,7 @@ place_in_range false n less = (omega arith, omega arith)
 -- a changed instance at a place fits, if it is within limits
 pub done_fits : (f : Instance → Instance) (w : World) (p : Place) (b : UnitBook) (x : Instance) → IsLimited w → unit_at w p.unit ≡ Some b
     → slice_get b.instances p.number ≡ Some x → HasOwnerAmong w.hosts (f x) × IsBare (f x) × IsInstanceInLimits (f x)
-    → FitsOne w (change.Instance p (f x)) × IsLimited (applied_one w (change.Instance p (f x)))
+    → EditFits w (edit.Instance p (f x)) × IsLimited (edited_one w (edit.Instance p (f x)))
 done_fits f w p b x limited stands is good =
     let few : length b.instances ≤ most_instances = limited.few p.unit b stands in
     let within : p.number < length b.instances = slice_get_within b.instances p.number x is in
@@ -132,11 +132,11 @@ owned host (Some o) b awaits none = absurd cc
 
 -- one more report, whose output is in range
 module _ (host : ℕ) (r : Report) (short : IsTrue (is_output r.output)) (failed : Bool) (w : World) (p : Place) (limited : IsLimited w) where
-  abbrev FitsAndStays : Change → Type 0
-  FitsAndStays c = FitsOne w c × IsLimited (applied_one w c)
+  abbrev FitsAndStays : Edit → Type 0
+  FitsAndStays c = EditFits w c × IsLimited (edited_one w c)
 
   put_fits : (b : UnitBook) (x : Instance) → unit_at w p.unit ≡ Some b → slice_get b.instances p.number ≡ Some x → awaits_report host x ≡ true
-      → FitsAndStays (change.Instance p (with_report r (place_among failed b.instances) x))
+      → FitsAndStays (edit.Instance p (with_report r (place_among failed b.instances) x))
   put_fits b x stands is awaits =
       let f = with_report r (place_among failed b.instances) in
       let few : length b.instances ≤ most_instances = limited.few p.unit b stands in
@@ -157,52 +157,52 @@ module _ (host : ℕ) (r : Report) (short : IsTrue (is_output r.output)) (failed
 
   at_instance : (b : UnitBook) → unit_at w p.unit ≡ Some b → (o : Option Instance) → slice_get b.instances p.number ≡ o
       → (t : Bool) → unwrap_or (option_map (awaits_report host) o) false ≡ t
-      → (y : Instance) → cond t (option_map (with_report r (place_among failed b.instances)) o) None ≡ Some y → FitsAndStays (change.Instance p y)
+      → (y : Instance) → cond t (option_map (with_report r (place_among failed b.instances)) o) None ≡ Some y → FitsAndStays (edit.Instance p y)
   at_instance b stands o is false awaits y puts = absurd cc
   at_instance b stands None is true awaits y puts = absurd cc
   at_instance b stands (Some x) is true awaits y puts =
       let value : with_report r (place_among failed b.instances) x ≡ y = cc in
-      subst (λ z. FitsAndStays (change.Instance p z)) value (put_fits b x stands is awaits)
+      subst (λ z. FitsAndStays (edit.Instance p z)) value (put_fits b x stands is awaits)
 
   at_unit : (o : Option UnitBook) → unit_at w p.unit ≡ o
       → (y : Instance) → reported_in host r failed (unwrap_or (option_map (λ (b : UnitBook). b.instances) o) []) p.number ≡ Some y
-      → FitsAndStays (change.Instance p y)
+      → FitsAndStays (edit.Instance p y)
   at_unit None stands y puts = absurd cc
   at_unit (Some b) stands y puts = at_instance b stands (slice_get b.instances p.number) refl _ refl y puts
 
-  pub report_fits : (y : Instance) → reported_in host r failed (instances_at w p.unit) p.number ≡ Some y → FitsAndStays (change.Instance p y)
+  pub report_fits : (y : Instance) → reported_in host r failed (instances_at w p.unit) p.number ≡ Some y → FitsAndStays (edit.Instance p y)
   report_fits y puts = at_unit (unit_at w p.unit) refl y puts
 
-fits_more : (w : World) (cs : List Change) (c : Change) → Fits w cs → FitsOne (applied w cs) c → Fits w (cs ++ c ∷ [])
+fits_more : (w : World) (cs : List Edit) (c : Edit) → EditsFit w cs → EditFits (edited w cs) c → EditsFit w (cs ++ c ∷ [])
 fits_more w [] c fits one = (one, tt)
-fits_more w (d ∷ ds) c fits one = (fits.0, fits_more (applied_one w d) ds c fits.1 one)
+fits_more w (d ∷ ds) c fits one = (fits.0, fits_more (edited_one w d) ds c fits.1 one)
 
 -- one more change that fits
-pub fit_more : (entry : World) (cs more : List Change) (c : Change) → more ≡ cs ++ c ∷ []
-    → (IsLimited (applied entry cs) → FitsOne (applied entry cs) c × IsLimited (applied_one (applied entry cs) c)) → FitWithin entry cs → FitWithin entry more
+pub fit_more : (entry : World) (cs more : List Edit) (c : Edit) → more ≡ cs ++ c ∷ []
+    → (IsLimited (edited entry cs) → EditFits (edited entry cs) c × IsLimited (edited_one (edited entry cs) c)) → FitWithin entry cs → FitWithin entry more
 fit_more entry cs more c pushed one before =
     let next = one before.limited in
     subst (FitWithin entry) (sym pushed)
     (record {
       fits = fits_more entry cs c before.fits next.0;
-      limited = subst IsLimited (sym (fold-append applied_one entry cs (c ∷ []))) next.1;
+      limited = subst IsLimited (sym (fold-append edited_one entry cs (c ∷ []))) next.1;
     })
 
 -- the changes of a page of a sound world fit, if the page began with none
-pub page_fits : (w v : World) (before after : List Change) → v ≡ w → before ≡ [] → (FitWithin v before → FitWithin v after) → Sound w → Fits w after
+pub page_fits : (w v : World) (before after : List Edit) → v ≡ w → before ≡ [] → (FitWithin v before → FitWithin v after) → Sound w → EditsFit w after
 page_fits w v before after same none more sound =
-    subst (λ u. Fits u after) same
+    subst (λ u. EditsFit u after) same
     (more (record {
-      fits = subst (Fits v) (sym none) tt;
-      limited = subst (λ cs. IsLimited (applied v cs)) (sym none) (limited_from_sound v (subst Sound (sym same) sound));
+      fits = subst (EditsFit v) (sym none) tt;
+      limited = subst (λ cs. IsLimited (edited v cs)) (sym none) (limited_from_sound v (subst Sound (sym same) sound));
     })).fits
 
-pub fit_report : (entry w : World) (host : ℕ) (r : Report) (failed : Bool) (p : Place) (y : Instance) (cs more : List Change)
-    → w ≡ applied entry cs → reported_in host r failed (instances_at w p.unit) p.number ≡ Some y → more ≡ cs ++ change.Instance p y ∷ []
+pub fit_report : (entry w : World) (host : ℕ) (r : Report) (failed : Bool) (p : Place) (y : Instance) (cs more : List Edit)
+    → w ≡ edited entry cs → reported_in host r failed (instances_at w p.unit) p.number ≡ Some y → more ≡ cs ++ edit.Instance p y ∷ []
     → IsTrue (is_output r.output) → FitWithin entry cs → FitWithin entry more
 fit_report entry w host r failed p y cs more here puts pushed short =
-    fit_more entry cs more (change.Instance p y) pushed (λ limited.
-    report_fits host r short failed (applied entry cs) p limited y
+    fit_more entry cs more (edit.Instance p y) pushed (λ limited.
+    report_fits host r short failed (edited entry cs) p limited y
     (ap (λ v. reported_in host r failed (instances_at v p.unit) p.number) (sym here) ∙ puts))
 
 -- the report at an index is in range if all reports are
@@ -211,6 +211,6 @@ pub report_there : (reports : List (Bor Report)) (i : ℕ) (r d : Bor Report) �
 report_there reports i r d is within all = subst (λ (x : Bor Report). IsReport x.now) (sym is) (all i d within)
 
 -- in a sound world everything is within limits before any change
-pub nothing_put_within : (w : World) (changes : List Change) → changes ≡ [] → Sound w → FitWithin w changes
+pub nothing_put_within : (w : World) (changes : List Edit) → changes ≡ [] → Sound w → FitWithin w changes
 nothing_put_within w changes none sound =
     subst (FitWithin w) (sym none) (let within : FitWithin w [] = record { fits = tt; limited = limited_from_sound w sound } in within)

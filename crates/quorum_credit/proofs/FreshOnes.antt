@@ -1,8 +1,8 @@
 -- New instances of one workunit, as changes.
 use Rattle.std.proofs.Common.{◌≡◌, ℕ, suc, ◌+◌, ◌-◌, ◌<◌, List, [], ◌∷◌, ◌++◌, length, Some, sym, ap, ◌∙◌, append_assoc, arith}
 use Rattle.sched_book.specs.Settle.{fresh}
-use Rattle.sched_book.specs.declared.delta.Change.{Change}
-use Rattle.sched_book.specs.declared.delta.Change.TheVariants as change
+use Rattle.sched_book.specs.declared.delta.Edit.{Edit}
+use Rattle.sched_book.specs.declared.delta.Edit.TheVariants as edit
 use Rattle.call_sheet.specs.declared.leaf.Leaf.{Leaf}
 use Rattle.quorum_credit.specs.Leaves.{growth_on}
 use Rattle.quorum_credit.specs.Growing.{fresh_changes}
@@ -11,18 +11,18 @@ use Rattle.quorum_credit.specs.Settled.{new_instances}
 -- the instance of the next number comes first
 fresh_next : (unit number end : ℕ) → number < end
     → fresh_changes unit number (end - number)
-    ≡ change.Instance (record { unit = unit; number = number }) fresh ∷ fresh_changes unit (number + 1) (end - (number + 1))
+    ≡ edit.Instance (record { unit = unit; number = number }) fresh ∷ fresh_changes unit (number + 1) (end - (number + 1))
 fresh_next unit number end less =
     ap (fresh_changes unit number) (let next : end - number ≡ suc (end - (number + 1)) = omega arith in next)
 
 -- one is put, and the others are left
-pub fresh_step : (before more all : List Change) (unit number end : ℕ) → number < end
-    → more ≡ before ++ change.Instance (record { unit = unit; number = number }) fresh ∷ []
+pub fresh_step : (before more all : List Edit) (unit number end : ℕ) → number < end
+    → more ≡ before ++ edit.Instance (record { unit = unit; number = number }) fresh ∷ []
     → before ++ fresh_changes unit number (end - number) ≡ all → more ++ fresh_changes unit (number + 1) (end - (number + 1)) ≡ all
 fresh_step before more all unit number end less pushed told =
     let rest = fresh_changes unit (number + 1) (end - (number + 1)) in
     ap (λ cs. cs ++ rest) pushed
-    ∙ append_assoc before (change.Instance (record { unit = unit; number = number }) fresh ∷ []) rest
+    ∙ append_assoc before (edit.Instance (record { unit = unit; number = number }) fresh ∷ []) rest
     ∙ sym (ap (λ cs. before ++ cs) (fresh_next unit number end less))
     ∙ told
 

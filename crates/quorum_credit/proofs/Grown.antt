@@ -6,14 +6,14 @@ use Rattle.std.proofs.lemmas.List.{append-nil}
 use Rattle.sched_book.specs.Count.{is_open, need}
 use Rattle.sched_book.specs.Places.{nth, unit_at, agreement_of, book_status}
 use Rattle.sched_book.specs.Settle.{fresh, grown, with_grown}
-use Rattle.sched_book.specs.Delta.{with_instance, applied_one, applied}
+use Rattle.sched_book.specs.Delta.{with_instance, edited_one, edited}
 use Rattle.sched_book.specs.UnitChanges.{book_after}
 use Rattle.sched_book.specs.Sound.{IsSoundUnit, Sound}
-use Rattle.sched_book.specs.declared.delta.Change.{Change}
-use Rattle.sched_book.specs.declared.delta.Change.TheVariants as change
+use Rattle.sched_book.specs.declared.delta.Edit.{Edit}
+use Rattle.sched_book.specs.declared.delta.Edit.TheVariants as edit
 use Rattle.sched_book.specs.declared.instance.UnitBook.{UnitBook}
 use Rattle.sched_book.specs.declared.world.World.{World}
-use Rattle.sched_book.proofs.UnitChanges.{unit_at-applied}
+use Rattle.sched_book.proofs.UnitChanges.{unit_at-edited}
 use Rattle.sched_book.proofs.Settling.{nth-map}
 use Rattle.quorum_credit.specs.Growing.{fresh_changes, growth_of, growth, all_growth}
 use Rattle.quorum_credit.specs.Settled.{new_instances}
@@ -25,39 +25,39 @@ use Rattle.sched_book.proofs.ByPlace.{all_nth, same_by_place, nth-map_places}
 abbrev pub one_behind : UnitBook → UnitBook
 one_behind b = record b { instances = b.instances ++ fresh ∷ [] }
 
-pub put_behind : (unit number count : ℕ) (b : UnitBook) → number ≡ length b.instances
-    → book_after unit count (Some b) (change.Instance (record { unit = unit; number = number }) fresh ∷ []) ≡ Some (one_behind b)
-put_behind unit number count b last =
+pub put_behind : (unit number : ℕ) (b : UnitBook) → number ≡ length b.instances
+    → book_after unit (Some b) (edit.Instance (record { unit = unit; number = number }) fresh ∷ []) ≡ Some (one_behind b)
+put_behind unit number b last =
     ap (λ (t : Bool). cond t (Some (with_instance number fresh b)) (Some b)) (eq-eqb unit unit refl)
     ∙ ap (λ (t : Bool). Some (record b { instances = cond t (slice_set b.instances number fresh) (b.instances ++ fresh ∷ []) }))
     (le-ltb number (length b.instances) (omega arith))
 
 -- `many` instances after its own
-pub fresh_here : (unit number count many : ℕ) (b : UnitBook) → number ≡ length b.instances
-    → book_after unit count (Some b) (fresh_changes unit number many) ≡ Some (record b { instances = b.instances ++ replicate many fresh })
-fresh_here unit number count zero b last = ap (λ xs. Some (record b { instances = xs })) (sym (append-nil b.instances))
-fresh_here unit number count (suc many) b last =
-    ap (λ o. book_after unit count o (fresh_changes unit (number + 1) many)) (put_behind unit number count b last)
-    ∙ fresh_here unit (number + 1) count many (one_behind b)
+pub fresh_here : (unit number many : ℕ) (b : UnitBook) → number ≡ length b.instances
+    → book_after unit (Some b) (fresh_changes unit number many) ≡ Some (record b { instances = b.instances ++ replicate many fresh })
+fresh_here unit number zero b last = ap (λ xs. Some (record b { instances = xs })) (sym (append-nil b.instances))
+fresh_here unit number (suc many) b last =
+    ap (λ o. book_after unit o (fresh_changes unit (number + 1) many)) (put_behind unit number b last)
+    ∙ fresh_here unit (number + 1) many (one_behind b)
     (let long : length (b.instances ++ fresh ∷ []) ≡ length b.instances + 1 = length-append b.instances (fresh ∷ []) in
     omega arith)
     ∙ ap (λ xs. Some (record b { instances = xs })) (append_assoc b.instances (fresh ∷ []) (replicate many fresh))
 
 -- the instances of another workunit leave it as it is
-pub fresh_elsewhere : (unit other number count many : ℕ) (o : Option UnitBook) → eqb other unit ≡ false
-    → book_after unit count o (fresh_changes other number many) ≡ o
-fresh_elsewhere unit other number count zero o apart = refl
-fresh_elsewhere unit other number count (suc many) o apart =
-    ap (λ (t : Bool). book_after unit count (cond t (option_map (with_instance number fresh) o) o) (fresh_changes other (number + 1) many)) apart
-    ∙ fresh_elsewhere unit other (number + 1) count many o apart
+pub fresh_elsewhere : (unit other number many : ℕ) (o : Option UnitBook) → eqb other unit ≡ false
+    → book_after unit o (fresh_changes other number many) ≡ o
+fresh_elsewhere unit other number zero o apart = refl
+fresh_elsewhere unit other number (suc many) o apart =
+    ap (λ (t : Bool). book_after unit (cond t (option_map (with_instance number fresh) o) o) (fresh_changes other (number + 1) many)) apart
+    ∙ fresh_elsewhere unit other (number + 1) many o apart
 
 -- first these instances, then others
-fresh_then : (unit other number count many : ℕ) (o : Option UnitBook) (rest : List Change)
-    → book_after unit count o (fresh_changes other number many ++ rest)
-    ≡ book_after unit count (book_after unit count o (fresh_changes other number many)) rest
-fresh_then unit other number count zero o rest = refl
-fresh_then unit other number count (suc many) o rest =
-    fresh_then unit other (number + 1) count many
+fresh_then : (unit other number many : ℕ) (o : Option UnitBook) (rest : List Edit)
+    → book_after unit o (fresh_changes other number many ++ rest)
+    ≡ book_after unit (book_after unit o (fresh_changes other number many)) rest
+fresh_then unit other number zero o rest = refl
+fresh_then unit other number (suc many) o rest =
+    fresh_then unit other (number + 1) many
     (cond (eqb other unit) (option_map (with_instance number fresh) o) o) rest
 
 -- a place below all of these is not one of them
@@ -68,8 +68,8 @@ above_others unit n (other ∷ units) same above =
     ap (λ t. t || is_among units unit) (ne_eqb other unit (λ equal. omega arith)) ∙ above_others unit n units same above.1
 
 -- the workunit at a place after what some workunit is to get
-module _ (w : World) (unit count : ℕ) where
-  growth_here : book_after unit count (unit_at w unit) (growth w unit) ≡ option_map (grown w.apps) (unit_at w unit)
+module _ (w : World) (unit : ℕ) where
+  growth_here : book_after unit (unit_at w unit) (growth w unit) ≡ option_map (grown w.apps) (unit_at w unit)
   growth_here = cases (unit_at w unit)
     where
       open_or_not : (b : UnitBook) (t : Bool)
@@ -78,35 +78,35 @@ module _ (w : World) (unit count : ℕ) where
       open_or_not b true = refl
       open_or_not b false = ap (λ xs. Some (record b { instances = xs })) (append-nil b.instances)
 
-      cases : (o : Option UnitBook) → book_after unit count o (unwrap_or (option_map (growth_of w unit) o) []) ≡ option_map (grown w.apps) o
+      cases : (o : Option UnitBook) → book_after unit o (unwrap_or (option_map (growth_of w unit) o) []) ≡ option_map (grown w.apps) o
       cases None = refl
       cases (Some b) =
-          fresh_here unit (length b.instances) count (new_instances (agreement_of w b) b.unit b.instances) b refl
+          fresh_here unit (length b.instances) (new_instances (agreement_of w b) b.unit b.instances) b refl
           ∙ open_or_not b (is_open (book_status w.apps b))
 
-  pub growth_elsewhere : (other : ℕ) (o : Option UnitBook) → eqb other unit ≡ false → book_after unit count o (growth w other) ≡ o
+  pub growth_elsewhere : (other : ℕ) (o : Option UnitBook) → eqb other unit ≡ false → book_after unit o (growth w other) ≡ o
   growth_elsewhere other o apart = cases (unit_at w other)
     where
-      cases : (q : Option UnitBook) → book_after unit count o (unwrap_or (option_map (growth_of w other) q) []) ≡ o
+      cases : (q : Option UnitBook) → book_after unit o (unwrap_or (option_map (growth_of w other) q) []) ≡ o
       cases None = refl
-      cases (Some b) = fresh_elsewhere unit other (length b.instances) count (new_instances (agreement_of w b) b.unit b.instances) o apart
+      cases (Some b) = fresh_elsewhere unit other (length b.instances) (new_instances (agreement_of w b) b.unit b.instances) o apart
 
-  growth_then : (other : ℕ) (o : Option UnitBook) (rest : List Change)
-      → book_after unit count o (growth w other ++ rest) ≡ book_after unit count (book_after unit count o (growth w other)) rest
+  growth_then : (other : ℕ) (o : Option UnitBook) (rest : List Edit)
+      → book_after unit o (growth w other ++ rest) ≡ book_after unit (book_after unit o (growth w other)) rest
   growth_then other o rest = cases (unit_at w other)
     where
       cases : (q : Option UnitBook)
-          → book_after unit count o (unwrap_or (option_map (growth_of w other) q) [] ++ rest)
-          ≡ book_after unit count (book_after unit count o (unwrap_or (option_map (growth_of w other) q) [])) rest
+          → book_after unit o (unwrap_or (option_map (growth_of w other) q) [] ++ rest)
+          ≡ book_after unit (book_after unit o (unwrap_or (option_map (growth_of w other) q) [])) rest
       cases None = refl
-      cases (Some b) = fresh_then unit other (length b.instances) count (new_instances (agreement_of w b) b.unit b.instances) o rest
+      cases (Some b) = fresh_then unit other (length b.instances) (new_instances (agreement_of w b) b.unit b.instances) o rest
 
   -- a workunit that is not one of these stays as it is
-  pub all_elsewhere : (units : List ℕ) (o : Option UnitBook) → is_among units unit ≡ false → book_after unit count o (all_growth w units) ≡ o
+  pub all_elsewhere : (units : List ℕ) (o : Option UnitBook) → is_among units unit ≡ false → book_after unit o (all_growth w units) ≡ o
   all_elsewhere [] o apart = refl
   all_elsewhere (other ∷ units) o apart =
       growth_then other o (all_growth w units)
-      ∙ ap (λ q. book_after unit count q (all_growth w units)) (growth_elsewhere other o (first (eqb other unit) _ apart))
+      ∙ ap (λ q. book_after unit q (all_growth w units)) (growth_elsewhere other o (first (eqb other unit) _ apart))
       ∙ all_elsewhere units o (later (eqb other unit) _ apart)
     where
       first : (a b : Bool) → (a || b) ≡ false → a ≡ false
@@ -119,39 +119,39 @@ module _ (w : World) (unit count : ℕ) where
 
   -- a workunit gets what it needs if it is one of these
   pub all_here : (units : List ℕ) → AreRising units
-      → book_after unit count (unit_at w unit) (all_growth w units)
+      → book_after unit (unit_at w unit) (all_growth w units)
       ≡ cond (is_among units unit) (option_map (grown w.apps) (unit_at w unit)) (unit_at w unit)
   all_here [] rising = refl
   all_here (other ∷ units) rising = growth_then other (unit_at w unit) (all_growth w units) ∙ cases (eqb other unit) refl (all_here units rising.1)
     where
       cases : (t : Bool) → eqb other unit ≡ t
-          → book_after unit count (unit_at w unit) (all_growth w units)
+          → book_after unit (unit_at w unit) (all_growth w units)
           ≡ cond (is_among units unit) (option_map (grown w.apps) (unit_at w unit)) (unit_at w unit)
-          → book_after unit count (book_after unit count (unit_at w unit) (growth w other)) (all_growth w units)
+          → book_after unit (book_after unit (unit_at w unit) (growth w other)) (all_growth w units)
           ≡ cond (t || is_among units unit) (option_map (grown w.apps) (unit_at w unit)) (unit_at w unit)
       cases true is later =
           let same : other ≡ unit = eqb-true other unit is in
-          all_elsewhere units (book_after unit count (unit_at w unit) (growth w other)) (above_others unit other units same rising.0)
-          ∙ ap (λ n. book_after unit count (unit_at w unit) (growth w n)) same
+          all_elsewhere units (book_after unit (unit_at w unit) (growth w other)) (above_others unit other units same rising.0)
+          ∙ ap (λ n. book_after unit (unit_at w unit) (growth w n)) same
           ∙ growth_here
-      cases false is later = ap (λ o. book_after unit count o (all_growth w units)) (growth_elsewhere other (unit_at w unit) is) ∙ later
+      cases false is later = ap (λ o. book_after unit o (all_growth w units)) (growth_elsewhere other (unit_at w unit) is) ∙ later
 
 -- only workunits are changed
-abbrev ChangesUnits : List Change → Type 0
-ChangesUnits cs = (v : World) → applied v cs ≡ record v { units = (applied v cs).units }
+abbrev ChangesUnits : List Edit → Type 0
+ChangesUnits cs = (v : World) → edited v cs ≡ record v { units = (edited v cs).units }
 
-fresh_units : (unit number many : ℕ) (rest : List Change) → ChangesUnits rest → ChangesUnits (fresh_changes unit number many ++ rest)
+fresh_units : (unit number many : ℕ) (rest : List Edit) → ChangesUnits rest → ChangesUnits (fresh_changes unit number many ++ rest)
 fresh_units unit number zero rest behind v = behind v
 fresh_units unit number (suc many) rest behind v =
-    fresh_units unit (number + 1) many rest behind (applied_one v (change.Instance (record { unit = unit; number = number }) fresh))
+    fresh_units unit (number + 1) many rest behind (edited_one v (edit.Instance (record { unit = unit; number = number }) fresh))
 
 all_units : (w : World) (units : List ℕ) → ChangesUnits (all_growth w units)
 all_units w [] v = refl
 all_units w (unit ∷ units) v = cases (unit_at w unit) (all_units w units)
   where
     cases : (o : Option UnitBook) → ChangesUnits (all_growth w units)
-        → applied v (unwrap_or (option_map (growth_of w unit) o) [] ++ all_growth w units)
-        ≡ record v { units = (applied v (unwrap_or (option_map (growth_of w unit) o) [] ++ all_growth w units)).units }
+        → edited v (unwrap_or (option_map (growth_of w unit) o) [] ++ all_growth w units)
+        ≡ record v { units = (edited v (unwrap_or (option_map (growth_of w unit) o) [] ++ all_growth w units)).units }
     cases None later = later v
     cases (Some b) later =
         fresh_units unit (length b.instances) (new_instances (agreement_of w b) b.unit b.instances) (all_growth w units) later v
@@ -168,13 +168,13 @@ grown_at units w n = nth-map_places (grown_among w.apps units) w.units n ∙ cas
     cases false (Some b) = refl
 
 -- the world after the new instances of these workunits
-pub all_grown_among : (w : World) (units : List ℕ) → AreRising units → applied w (all_growth w units) ≡ with_grown_among units w
+pub all_grown_among : (w : World) (units : List ℕ) → AreRising units → edited w (all_growth w units) ≡ with_grown_among units w
 all_grown_among w units rising =
     all_units w units w
     ∙ ap (λ us. record w { units = us })
-    (same_by_place (applied w (all_growth w units)).units (with_grown_among units w).units
+    (same_by_place (edited w (all_growth w units)).units (with_grown_among units w).units
     (λ n.
-    unit_at-applied w n (all_growth w units) ∙ all_here w n (length w.units) units rising ∙ sym (grown_at units w n)))
+    unit_at-edited w n (all_growth w units) ∙ all_here w n units rising ∙ sym (grown_at units w n)))
 
 -- a workunit that is as it was in a sound world needs nothing
 pub grown_sound : (old : World) (unit : ℕ) (b : UnitBook) → Sound old → unit_at old unit ≡ Some b → grown old.apps b ≡ b

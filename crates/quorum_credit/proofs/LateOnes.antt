@@ -4,11 +4,11 @@ use Rattle.std.specs.Prelude.{◌&&◌, is_none, is_some, option_map, option_and
 use Rattle.sched_book.specs.Count.{is_held}
 use Rattle.sched_book.specs.Places.{unit_at, instance_at}
 use Rattle.sched_book.specs.Desk.{instances_at}
-use Rattle.sched_book.specs.Delta.{applied_one, applied, FitsOne}
+use Rattle.sched_book.specs.Delta.{edited_one, edited, EditFits}
 use Rattle.sched_book.specs.Reports.{with_changed}
 use Rattle.sched_book.specs.Lost.{with_lapse}
-use Rattle.sched_book.specs.declared.delta.Change.{Change}
-use Rattle.sched_book.specs.declared.delta.Change.TheVariants as change
+use Rattle.sched_book.specs.declared.delta.Edit.{Edit}
+use Rattle.sched_book.specs.declared.delta.Edit.TheVariants as edit
 use Rattle.sched_book.specs.declared.instance.Instance.{Instance}
 use Rattle.sched_book.specs.declared.instance.Lapse.TheVariants.{Late}
 use Rattle.sched_book.specs.declared.instance.Owner.{Owner}
@@ -50,20 +50,20 @@ never_owned None b c held none = absurd cc
 never_owned (Some o) b c held none = absurd cc
 
 pub late_is : (w : World) (p : Place) (y : Instance) → Some y ≡ late_in (instances_at w p.unit) p.number
-    → applied_one w (change.Instance p y) ≡ with_changed (with_lapse Late) w p
+    → edited_one w (edit.Instance p y) ≡ with_changed (with_lapse Late) w p
 late_is w p y puts =
     let found = standing w p y puts in
-    ap (λ z. applied_one w (change.Instance p z)) (sym found.3)
+    ap (λ z. edited_one w (edit.Instance p z)) (sym found.3)
     ∙ sym (with_changed-is (with_lapse Late) w p found.1.book found.0 found.1.unit found.1.number)
 
 late_fits_one : (w : World) (p : Place) (y : Instance) → Some y ≡ late_in (instances_at w p.unit) p.number
-    → IsLimited w → FitsOne w (change.Instance p y) × IsLimited (applied_one w (change.Instance p y))
+    → IsLimited w → EditFits w (edit.Instance p y) × IsLimited (edited_one w (edit.Instance p y))
 late_fits_one w p y puts limited =
     let found = standing w p y puts in
     let here : instance_at w p ≡ Some found.0 =
     ap (option_and_then (λ (u : UnitBook). slice_get u.instances p.number)) found.1.unit ∙ found.1.number in
     let before = limited.each p found.0 here in
-    subst (λ z. FitsOne w (change.Instance p z) × IsLimited (applied_one w (change.Instance p z))) found.3
+    subst (λ z. EditFits w (edit.Instance p z) × IsLimited (edited_one w (edit.Instance p z))) found.3
     (done_fits (with_lapse Late) w p found.1.book found.0 limited found.1.unit found.1.number (
       before.0,
       (λ none. absurd (never_owned found.0.owner (is_none found.0.report) (is_none found.0.lapse) found.2 none)),
@@ -75,8 +75,8 @@ late_fits_one w p y puts limited =
       },
     ))
 
-pub late_fits : (entry w : World) (cs more : List Change) (p : Place) (y : Instance) → w ≡ applied entry cs
-    → Some y ≡ late_in (instances_at w p.unit) p.number → more ≡ cs ++ change.Instance p y ∷ [] → FitWithin entry cs → FitWithin entry more
+pub late_fits : (entry w : World) (cs more : List Edit) (p : Place) (y : Instance) → w ≡ edited entry cs
+    → Some y ≡ late_in (instances_at w p.unit) p.number → more ≡ cs ++ edit.Instance p y ∷ [] → FitWithin entry cs → FitWithin entry more
 late_fits entry w cs more p y here puts pushed =
-    fit_more entry cs more (change.Instance p y) pushed
-    (late_fits_one (applied entry cs) p y (puts ∙ ap (λ v. late_in (instances_at v p.unit) p.number) here))
+    fit_more entry cs more (edit.Instance p y) pushed
+    (late_fits_one (edited entry cs) p y (puts ∙ ap (λ v. late_in (instances_at v p.unit) p.number) here))

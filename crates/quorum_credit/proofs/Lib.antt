@@ -12,6 +12,5 @@ pub mod GrownFits
 pub mod Scored
 pub mod Sums
 pub mod Numbered
-pub mod RowsPut
 pub mod NewQuotas
 pub mod ScoredCredit

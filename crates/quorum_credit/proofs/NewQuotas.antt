@@ -7,9 +7,9 @@ use Rattle.std.specs.Prelude.{◌||◌, All, max, map, option_map}
 use Rattle.std.specs.List.{enumerate_from, cons_option}
 use Rattle.sched_book.specs.Places.{host_at}
 use Rattle.sched_book.specs.Settle.{next_quota}
-use Rattle.sched_book.specs.Delta.{applied_one, applied, FitsOne, Fits}
-use Rattle.sched_book.specs.declared.delta.Change.{Change}
-use Rattle.sched_book.specs.declared.delta.Change.TheVariants as change
+use Rattle.sched_book.specs.Delta.{edited_one, edited, EditFits, EditsFit}
+use Rattle.sched_book.specs.declared.delta.Edit.{Edit}
+use Rattle.sched_book.specs.declared.delta.Edit.TheVariants as edit
 use Rattle.sched_book.specs.declared.rows.HostRow.{HostRow}
 use Rattle.sched_book.specs.declared.world.World.{World}
 use Rattle.quorum_credit.specs.Scores.{charges_in, merits_in}
@@ -32,7 +32,7 @@ abbrev with_one : ℕ → Tally → (ℕ × HostRow → HostRow) → ℕ × Host
 with_one limit s f e = cond (eqb s.host e.0) (with_quota_by limit s e.1) (f e)
 
 put_one : (w : World) (limit : ℕ) (s : Tally) (f : ℕ × HostRow → HostRow) (h : HostRow) → host_at w s.host ≡ Some h
-    → applied_one (with_rows w f) (change.Host s.host (with_quota_by limit s h)) ≡ with_rows w (with_one limit s f)
+    → edited_one (with_rows w f) (edit.Host s.host (with_quota_by limit s h)) ≡ with_rows w (with_one limit s f)
 put_one w limit s f h stands = ap (λ hosts. record w { hosts = hosts }) (put_row f (with_quota_by limit s) w.hosts s.host h stands)
 
 abbrev quota_of : HostRow → ℕ → HostRow
@@ -51,7 +51,7 @@ module _ (scores : List Score) (w : World) where
 
   -- one more host
   put_quotas : (p : ℕ → Bool) (s : Tally) (h : HostRow) → host_at w s.host ≡ Some h → TellsAll s
-      → applied_one (with_rows w (with_quotas_where p)) (change.Host s.host (with_quota_by limit s h)) ≡ with_rows w (with_quotas_where (λ n. eqb s.host n || p n))
+      → edited_one (with_rows w (with_quotas_where p)) (edit.Host s.host (with_quota_by limit s h)) ≡ with_rows w (with_quotas_where (λ n. eqb s.host n || p n))
   put_quotas p s h stands tells =
       put_one w limit s (with_quotas_where p) h stands
       ∙ same_world w (with_one limit s (with_quotas_where p)) (with_quotas_where (λ n. eqb s.host n || p n)) (λ n g there. cases n g (eqb s.host n) refl)
@@ -78,13 +78,13 @@ module _ (scores : List Score) (w : World) where
 
   -- all hosts of these tallies
   put_all : (sums : List Tally) → All TellsAll sums → (p : ℕ → Bool)
-      → applied (with_rows w (with_quotas_where p)) (new_quotas w limit sums) ≡ with_rows w (with_quotas_where (λ n. is_tallied sums n || p n))
+      → edited (with_rows w (with_quotas_where p)) (new_quotas w limit sums) ≡ with_rows w (with_quotas_where (λ n. is_tallied sums n || p n))
   put_all [] all p = refl
   put_all (s ∷ ss) all p = cases (host_at w s.host) refl (put_all ss (all_rest s ss all))
     where
       cases : (o : Option HostRow) → host_at w s.host ≡ o
-          → ((p : ℕ → Bool) → applied (with_rows w (with_quotas_where p)) (new_quotas w limit ss) ≡ with_rows w (with_quotas_where (λ n. is_tallied ss n || p n)))
-          → applied (with_rows w (with_quotas_where p)) (cons_option (option_map (λ h. change.Host s.host (with_quota_by limit s h)) o) (new_quotas w limit ss))
+          → ((p : ℕ → Bool) → edited (with_rows w (with_quotas_where p)) (new_quotas w limit ss) ≡ with_rows w (with_quotas_where (λ n. is_tallied ss n || p n)))
+          → edited (with_rows w (with_quotas_where p)) (cons_option (option_map (λ h. edit.Host s.host (with_quota_by limit s h)) o) (new_quotas w limit ss))
           ≡ with_rows w (with_quotas_where (λ n. (eqb s.host n || is_tallied ss n) || p n))
       cases None none more =
           more p
@@ -96,7 +96,7 @@ module _ (scores : List Score) (w : World) where
           apart n h there true is = let same : s.host ≡ n = eqb-true s.host n is in absurd cc
           apart n h there false is = refl
       cases (Some h) stands more =
-          ap (λ v. applied v (new_quotas w limit ss)) (put_quotas p s h stands (all_first s ss all))
+          ap (λ v. edited v (new_quotas w limit ss)) (put_quotas p s h stands (all_first s ss all))
           ∙ more (λ n. eqb s.host n || p n)
           ∙ same_world w (with_quotas_where (λ n. is_tallied ss n || (eqb s.host n || p n))) (with_quotas_where (λ n. (eqb s.host n || is_tallied ss n) || p n))
           (λ n g there. ap (λ (b : Bool). cond b (quota_by scores limit (n, g)) g) (reordered (is_tallied ss n) (eqb s.host n) (p n)))
@@ -111,9 +111,9 @@ module _ (scores : List Score) (w : World) where
       ∙ ap (λ c. quota_of h (next_quota h.quota 0 c limit)) nothing.1
       ∙ ap (quota_of h) kept
 
-  pub quotas_are_new : (sums : List Tally) → AreSums scores sums → AreHostsInLimits w → applied w (new_quotas w limit sums) ≡ with_quotas_by scores w
+  pub quotas_are_new : (sums : List Tally) → AreSums scores sums → AreHostsInLimits w → edited w (new_quotas w limit sums) ≡ with_quotas_by scores w
   quotas_are_new sums are limits =
-      ap (λ hosts. applied (record w { hosts = hosts }) (new_quotas w limit sums)) (sym (same_row w.hosts))
+      ap (λ hosts. edited (record w { hosts = hosts }) (new_quotas w limit sums)) (sym (same_row w.hosts))
       ∙ put_all sums are.each (λ n. false)
       ∙ same_world w (with_quotas_where (λ n. is_tallied sums n || false)) (quota_by scores limit) (λ n h there. cases n h there (is_tallied sums n) refl)
     where
@@ -130,7 +130,7 @@ quota_within limit q e v some =
 
 module _ (w : World) (limits : AreHostsInLimits w) (some : 1 ≤ w.settings.daily_result_quota) where
   put_fits : (s : Tally) (f : ℕ × HostRow → HostRow) (h : HostRow) → host_at w s.host ≡ Some h
-      → FitsOne (with_rows w f) (change.Host s.host (with_quota_by w.settings.daily_result_quota s h))
+      → EditFits (with_rows w f) (edit.Host s.host (with_quota_by w.settings.daily_result_quota s h))
   put_fits s f h stands =
       let within = number_within w.hosts s.host h stands in
       let long : length (map f (enumerate_from 1 w.hosts)) ≡ length w.hosts = length-numbered f w.hosts in
@@ -150,36 +150,36 @@ module _ (w : World) (limits : AreHostsInLimits w) (some : 1 ≤ w.settings.dail
         },
       )
 
-  all_fit : (sums : List Tally) (f : ℕ × HostRow → HostRow) → Fits (with_rows w f) (new_quotas w w.settings.daily_result_quota sums)
+  all_fit : (sums : List Tally) (f : ℕ × HostRow → HostRow) → EditsFit (with_rows w f) (new_quotas w w.settings.daily_result_quota sums)
   all_fit [] f = tt
   all_fit (s ∷ ss) f = cases (host_at w s.host) refl (all_fit ss)
     where
       cases : (o : Option HostRow) → host_at w s.host ≡ o
-          → ((f : ℕ × HostRow → HostRow) → Fits (with_rows w f) (new_quotas w w.settings.daily_result_quota ss))
-          → Fits (with_rows w f) (cons_option (option_map (λ h. change.Host s.host (with_quota_by w.settings.daily_result_quota s h)) o) (new_quotas w w.settings.daily_result_quota ss))
+          → ((f : ℕ × HostRow → HostRow) → EditsFit (with_rows w f) (new_quotas w w.settings.daily_result_quota ss))
+          → EditsFit (with_rows w f) (cons_option (option_map (λ h. edit.Host s.host (with_quota_by w.settings.daily_result_quota s h)) o) (new_quotas w w.settings.daily_result_quota ss))
       cases None none more = more f
       cases (Some h) stands more =
           let limit = w.settings.daily_result_quota in (
             put_fits s f h stands,
-            subst (λ v. Fits v (new_quotas w limit ss)) (sym (put_one w limit s f h stands)) (more (with_one limit s f)),
+            subst (λ v. EditsFit v (new_quotas w limit ss)) (sym (put_one w limit s f h stands)) (more (with_one limit s f)),
           )
 
-  pub quotas_fit : (sums : List Tally) → Fits w (new_quotas w w.settings.daily_result_quota sums)
+  pub quotas_fit : (sums : List Tally) → EditsFit w (new_quotas w w.settings.daily_result_quota sums)
   quotas_fit sums =
-      subst (λ hosts. Fits (record w { hosts = hosts }) (new_quotas w w.settings.daily_result_quota sums)) (same_row w.hosts) (all_fit sums (λ e. e.1))
+      subst (λ hosts. EditsFit (record w { hosts = hosts }) (new_quotas w w.settings.daily_result_quota sums)) (same_row w.hosts) (all_fit sums (λ e. e.1))
 
 -- only hosts are put
-hosts_alone : (w v : World) (most : ℕ) (ms : List Tally) → applied v (new_quotas w most ms) ≡ record v { hosts = (applied v (new_quotas w most ms)).hosts }
+hosts_alone : (w v : World) (most : ℕ) (ms : List Tally) → edited v (new_quotas w most ms) ≡ record v { hosts = (edited v (new_quotas w most ms)).hosts }
 hosts_alone w v most [] = refl
 hosts_alone w v most (m ∷ ms) = cases (host_at w m.host) (λ z. hosts_alone w z most ms)
   where
-    cases : (o : Option HostRow) → ((z : World) → applied z (new_quotas w most ms) ≡ record z { hosts = (applied z (new_quotas w most ms)).hosts })
-        → applied v (cons_option (option_map (λ h. change.Host m.host (with_quota_by most m h)) o) (new_quotas w most ms))
-        ≡ record v { hosts = (applied v (cons_option (option_map (λ h. change.Host m.host (with_quota_by most m h)) o) (new_quotas w most ms))).hosts }
+    cases : (o : Option HostRow) → ((z : World) → edited z (new_quotas w most ms) ≡ record z { hosts = (edited z (new_quotas w most ms)).hosts })
+        → edited v (cons_option (option_map (λ h. edit.Host m.host (with_quota_by most m h)) o) (new_quotas w most ms))
+        ≡ record v { hosts = (edited v (cons_option (option_map (λ h. edit.Host m.host (with_quota_by most m h)) o) (new_quotas w most ms))).hosts }
     cases None more = more v
-    cases (Some h) more = more (applied_one v (change.Host m.host (with_quota_by most m h)))
+    cases (Some h) more = more (edited_one v (edit.Host m.host (with_quota_by most m h)))
 
-pub are_quotas : (scores : List Score) (sums : List Tally) (w : World) (most : ℕ) (quotas : List Change) → AreSums scores sums → most ≡ w.settings.daily_result_quota
+pub are_quotas : (scores : List Score) (sums : List Tally) (w : World) (most : ℕ) (quotas : List Edit) → AreSums scores sums → most ≡ w.settings.daily_result_quota
     → quotas ≡ new_quotas w most sums → AreQuotasBy scores w quotas
 are_quotas scores sums w most quotas are limit is =
     subst (AreQuotasBy scores w) (sym (is ∙ ap (λ n. new_quotas w n sums) limit))

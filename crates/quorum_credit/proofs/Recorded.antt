@@ -5,9 +5,9 @@ use Rattle.rpc_records.specs.declared.request.Report.{Report}
 use Rattle.sched_book.specs.Count.{is_judged, has_failed}
 use Rattle.sched_book.specs.Places.{nth, unit_at, passes, status_at}
 use Rattle.sched_book.specs.Desk.{instances_at}
-use Rattle.sched_book.specs.Delta.{with_instance, applied_one}
+use Rattle.sched_book.specs.Delta.{with_instance, edited_one}
 use Rattle.sched_book.specs.Reports.{modify_at, modify_nth, with_number, with_changed, awaits_report, with_report, judged_place, next_place, record_at}
-use Rattle.sched_book.specs.declared.delta.Change.TheVariants as change
+use Rattle.sched_book.specs.declared.delta.Edit.TheVariants as edit
 use Rattle.sched_book.specs.declared.instance.Instance.{Instance}
 use Rattle.sched_book.specs.declared.instance.Place.{Place}
 use Rattle.sched_book.specs.declared.instance.UnitBook.{UnitBook}
@@ -30,7 +30,7 @@ modify_nth-same {X} f g xs n x stands same = cases (eqb n 0) stands
 
 -- a change of the instance at a place, as a change of the world
 pub with_changed-is : (f : Instance → Instance) (w : World) (p : Place) (b : UnitBook) (x : Instance) → unit_at w p.unit ≡ Some b
-    → slice_get b.instances p.number ≡ Some x → with_changed f w p ≡ applied_one w (change.Instance p (f x))
+    → slice_get b.instances p.number ≡ Some x → with_changed f w p ≡ edited_one w (edit.Instance p (f x))
 with_changed-is f w p b x stands is =
     ap (λ units. record w { units = units })
     (modify_nth-same (with_number f p.number) (with_instance p.number (f x)) w.units p.unit b stands
@@ -42,7 +42,7 @@ module _ (entry : World) (host : ℕ) (w : World) (r : Report) (p : Place) where
 
   abbrev put : Option Instance → World
   put None = w
-  put (Some x) = applied_one w (change.Instance p x)
+  put (Some x) = edited_one w (edit.Instance p x)
 
   abbrev test : Option UnitBook → Bool
   test o = unwrap_or (option_and_then (λ (b : UnitBook). option_map (awaits_report host) (slice_get b.instances p.number)) o) false
@@ -58,7 +58,7 @@ module _ (entry : World) (host : ℕ) (w : World) (r : Report) (p : Place) where
   at_instance b stands (Some x) is true passes =
       let next : next_place w p.unit ≡ 1 + count_by is_judged b.instances = ap (λ o. unwrap_or (option_map (λ (b : UnitBook). 1 + count_by is_judged b.instances) o) 1) stands in
       with_changed-is (with_report r (judged_place entry w p.unit)) w p b x stands is
-      ∙ ap (λ n. applied_one w (change.Instance p (with_report r (cond failed None (Some n)) x))) next
+      ∙ ap (λ n. edited_one w (edit.Instance p (with_report r (cond failed None (Some n)) x))) next
 
   at_unit : (o : Option UnitBook) → unit_at w p.unit ≡ o
       → cond (test o) (with_changed (with_report r (judged_place entry w p.unit)) w p) w
@@ -72,5 +72,5 @@ module _ (entry : World) (host : ℕ) (w : World) (r : Report) (p : Place) where
 -- a report that its instance awaits
 pub report_some : (entry : World) (host : ℕ) (w : World) (r : Report) (p : Place) (x : Instance)
     → reported_in host r (has_failed (status_at entry p.unit)) (instances_at w p.unit) p.number ≡ Some x
-    → applied_one w (change.Instance p x) ≡ record_at entry host r w p
+    → edited_one w (edit.Instance p x) ≡ record_at entry host r w p
 report_some entry host w r p x some = sym (record_at-is entry host w r p ∙ ap (put entry host w r p) some)

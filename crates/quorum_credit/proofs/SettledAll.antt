@@ -1,21 +1,20 @@
 -- The steps of settlement lead to the settled world.
 use Rattle.std.proofs.Common.{◌≡◌, ℕ, ◌≤◌, Bool, true, false, cond, eqb, List, [], ◌∷◌, ◌++◌, length, Option, Some, None, drop, sym, refl, ap, ◌∙◌, subst, append_assoc, arith}
 use Rattle.std.specs.Prelude.{IsTrue, is_some, map, option_map, sum_by}
-use Rattle.std.specs.List.{enumerate_from, list_any, list_all}
+use Rattle.std.specs.List.{enumerate_from, list_any}
 use Rattle.std.proofs.lemmas.Bool.Decides.{nat_tests}
-use Rattle.std.proofs.lemmas.Bool.{and_parts, or_parts}
+use Rattle.std.proofs.lemmas.Bool.{or_parts}
 use Rattle.std.proofs.Math.Seq.{drop-append_seam}
-use Rattle.std.proofs.lemmas.List.Folds.{list_all-append}
 use Rattle.std.proofs.lemmas.List.Sums.{fold-append}
 use Rattle.sched_book.specs.Places.{nth, unit_at}
 use Rattle.sched_book.specs.Reports.{modify_nth}
-use Rattle.sched_book.specs.Delta.{with_instance, applied_one, applied, FitsOne, Fits}
+use Rattle.sched_book.specs.Delta.{with_instance, edited_one, edited, EditFits, EditsFit}
 use Rattle.sched_book.specs.Classes.{imported, with_class}
 use Rattle.sched_book.specs.Limits.{IsHostInLimits, IsUnitInLimits}
 use Rattle.sched_book.specs.Settle.{grown, with_grown, charges, merits, next_quota, with_quota, settled}
 use Rattle.sched_book.specs.Sound.{IsSoundUnit, IsSoundHost, Sound}
-use Rattle.sched_book.specs.declared.delta.Change.{Change}
-use Rattle.sched_book.specs.declared.delta.Change.TheVariants as change
+use Rattle.sched_book.specs.declared.delta.Edit.{Edit}
+use Rattle.sched_book.specs.declared.delta.Edit.TheVariants as edit
 use Rattle.sched_book.specs.declared.instance.UnitBook.{UnitBook}
 use Rattle.sched_book.specs.declared.rows.HostRow.{HostRow}
 use Rattle.sched_book.specs.declared.rows.Workunit.{Workunit}
@@ -25,7 +24,7 @@ use Rattle.sched_book.proofs.Classes.{first_stays, imported_in_limits}
 use Rattle.sched_book.proofs.PlacesOf.{nth-modify_nth, nth-within}
 use Rattle.sched_book.proofs.Settling.{settlement_is_pointwise}
 use Rattle.quorum_credit.specs.Scores.{charges_in, merits_in, unit_charges, unit_merits}
-use Rattle.quorum_credit.specs.Settling.{puts_row, TouchJust, with_grown_among, quota_by, with_quotas_by, AreHostsInLimits, AreUnitsInLimits, AreQuotasBy, IsSettlement}
+use Rattle.quorum_credit.specs.Settling.{TouchJust, with_grown_among, quota_by, with_quotas_by, AreHostsInLimits, AreUnitsInLimits, AreQuotasBy, IsSettlement}
 use Rattle.call_sheet.specs.Sheets.{IsLeafAt, AreAllOf, AreRising, is_among}
 use Rattle.call_sheet.specs.declared.leaf.Leaf.{Leaf}
 use Rattle.quorum_credit.specs.Growing.{all_growth}
@@ -42,48 +41,39 @@ use Rattle.quorum_credit.proofs.GrownFits.{fits_then, all_fit}
 use Rattle.quorum_credit.proofs.Scored.{charges_in-scores, merits_in-scores}
 use Rattle.quorum_credit.proofs.NewlyCounted.{charges_touched, merits_touched}
 
--- what changes that put hosts, instances and classes leave
-apps_stay : (w : World) (c : Change) → puts_row c ≡ true → (applied_one w c).apps ≡ w.apps
-apps_stay w (change.Account a) puts = absurd cc
-apps_stay w (change.App a) puts = absurd cc
-apps_stay w (change.Version v) puts = absurd cc
-apps_stay w (change.Workunit u) puts = absurd cc
-apps_stay w (change.Host number h) puts = refl
-apps_stay w (change.Instance p x) puts = refl
-apps_stay w (change.Class unit class) puts = refl
+-- what edits leave
+apps_stay : (w : World) (c : Edit) → (edited_one w c).apps ≡ w.apps
+apps_stay w (edit.Host number h) = refl
+apps_stay w (edit.Instance p x) = refl
+apps_stay w (edit.Class unit class) = refl
 
-unit_stays : (w : World) (c : Change) (unit : ℕ) → puts_row c ≡ true → touches unit c ≡ false → unit_at (applied_one w c) unit ≡ unit_at w unit
-unit_stays w (change.Account a) unit puts other = absurd cc
-unit_stays w (change.App a) unit puts other = absurd cc
-unit_stays w (change.Version v) unit puts other = absurd cc
-unit_stays w (change.Workunit u) unit puts other = absurd cc
-unit_stays w (change.Host number h) unit puts other = refl
-unit_stays w (change.Instance p x) unit puts other =
+unit_stays : (w : World) (c : Edit) (unit : ℕ) → touches unit c ≡ false → unit_at (edited_one w c) unit ≡ unit_at w unit
+unit_stays w (edit.Host number h) unit other = refl
+unit_stays w (edit.Instance p x) unit other =
     nth-modify_nth (with_instance p.number x) w.units p.unit unit
     ∙ ap (λ b. cond b (option_map (with_instance p.number x) (nth w.units unit)) (nth w.units unit)) other
-unit_stays w (change.Class place class) unit puts other =
+unit_stays w (edit.Class place class) unit other =
     nth-modify_nth (with_class class) w.units place unit
     ∙ ap (λ b. cond b (option_map (with_class class) (nth w.units unit)) (nth w.units unit)) other
 
-pub all_apps_stay : (w : World) (cs : List Change) → list_all puts_row cs ≡ true → (applied w cs).apps ≡ w.apps
-all_apps_stay w [] puts = refl
-all_apps_stay w (c ∷ cs) puts =
-    let parts = and_parts (puts_row c) (list_all puts_row cs) puts in all_apps_stay (applied_one w c) cs parts.1 ∙ apps_stay w c parts.0
+pub all_apps_stay : (w : World) (cs : List Edit) → (edited w cs).apps ≡ w.apps
+all_apps_stay w [] = refl
+all_apps_stay w (c ∷ cs) =
+    all_apps_stay (edited_one w c) cs ∙ apps_stay w c
 
-pub others_stay : (w : World) (cs : List Change) (unit : ℕ) → list_all puts_row cs ≡ true → list_any (touches unit) cs ≡ false
-    → unit_at (applied w cs) unit ≡ unit_at w unit
-others_stay w [] unit puts other = refl
-others_stay w (c ∷ cs) unit puts other =
-    let parts = and_parts (puts_row c) (list_all puts_row cs) puts in
+pub others_stay : (w : World) (cs : List Edit) (unit : ℕ) → list_any (touches unit) cs ≡ false
+    → unit_at (edited w cs) unit ≡ unit_at w unit
+others_stay w [] unit other = refl
+others_stay w (c ∷ cs) unit other =
     let apart = or_parts (touches unit c) (list_any (touches unit) cs) other in
-    others_stay (applied_one w c) cs unit parts.1 apart.1 ∙ unit_stays w c unit parts.0 apart.0
+    others_stay (edited_one w c) cs unit apart.1 ∙ unit_stays w c unit apart.0
 
-touch_just : (w : World) (cs : List Change) (units : List ℕ) → list_all puts_row cs ≡ true → AreTouched cs units → TouchJust units w (applied w cs)
-touch_just w cs units puts touched = record {
+touch_just : (w : World) (cs : List Edit) (units : List ℕ) → AreTouched cs units → TouchJust units w (edited w cs)
+touch_just w cs units touched = record {
   rising = touched.rising;
   settings = all_settings_stay w cs;
-  apps = all_apps_stay w cs puts;
-  others = λ unit other. others_stay w cs unit puts (sym (touched.just unit) ∙ other);
+  apps = all_apps_stay w cs;
+  others = λ unit other. others_stay w cs unit (sym (touched.just unit) ∙ other);
 }
 
 -- an untouched workunit is as in the sound world, and needs nothing
@@ -139,14 +129,10 @@ sound_hosts_in_limits w sound host h stands =
     let within = number_within w.hosts host h stands in
     (nth-within w.accounts h.account each.account.0 each.account.1, each.limits, (let few : length w.hosts ≤ w.settings.max_hosts = sound.rows.host_count in let here : host ≤ length w.hosts = within.1 in omega arith))
 
-hosts_one : (w : World) (c : Change) → puts_row c ≡ true → AreHostsInLimits w → FitsOne w c → AreHostsInLimits (applied_one w c)
-hosts_one w (change.Account a) puts limits fits = absurd cc
-hosts_one w (change.App a) puts limits fits = absurd cc
-hosts_one w (change.Version v) puts limits fits = absurd cc
-hosts_one w (change.Workunit u) puts limits fits = absurd cc
-hosts_one w (change.Instance p x) puts limits fits = limits
-hosts_one w (change.Class unit class) puts limits fits = limits
-hosts_one w (change.Host number h) puts limits fits = λ host k stands. cases host k (eqb number 0) (eqb (number_got (length w.hosts) number) host) refl (sym (nth-set_nth w.hosts number h host) ∙ stands)
+hosts_one : (w : World) (c : Edit) → AreHostsInLimits w → EditFits w c → AreHostsInLimits (edited_one w c)
+hosts_one w (edit.Instance p x) limits fits = limits
+hosts_one w (edit.Class unit class) limits fits = limits
+hosts_one w (edit.Host number h) limits fits = λ host k stands. cases host k (eqb number 0) (eqb (number_got (length w.hosts) number) host) refl (sym (nth-set_nth w.hosts number h host) ∙ stands)
   where
     cases : (host : ℕ) (k : HostRow) (a b : Bool) → eqb (number_got (length w.hosts) number) host ≡ b → cond a (nth w.hosts host) (cond b (Some h) (nth w.hosts host)) ≡ Some k
         → IsTrue (is_some (nth w.accounts k.account)) × IsHostInLimits w.settings.daily_result_quota k × (host ≤ w.settings.max_hosts)
@@ -159,11 +145,9 @@ hosts_one w (change.Host number h) puts limits fits = λ host k stands. cases ho
         (fits.3, fits.4, omega arith)
     cases host k false false at is = limits host k is
 
-pub hosts_in_limits : (w : World) (cs : List Change) → list_all puts_row cs ≡ true → AreHostsInLimits w → Fits w cs → AreHostsInLimits (applied w cs)
-hosts_in_limits w [] puts limits fits = limits
-hosts_in_limits w (c ∷ cs) puts limits fits =
-    let parts = and_parts (puts_row c) (list_all puts_row cs) puts in
-    hosts_in_limits (applied_one w c) cs parts.1 (hosts_one w c parts.0 limits fits.0) fits.1
+pub hosts_in_limits : (w : World) (cs : List Edit) → AreHostsInLimits w → EditsFit w cs → AreHostsInLimits (edited w cs)
+hosts_in_limits w [] limits fits = limits
+hosts_in_limits w (c ∷ cs) limits fits = hosts_in_limits (edited_one w c) cs (hosts_one w c limits fits.0) fits.1
 
 -- the row of a workunit, without its class
 abbrev plain : Option UnitBook → Option Workunit
@@ -180,23 +164,18 @@ plain_stays f keeps xs place unit = ap plain (nth-modify_nth f xs place unit) �
     cases false o = refl
 
 -- so the rows stay, except for their classes
-row_stays : (w : World) (c : Change) (unit : ℕ) → puts_row c ≡ true → plain (unit_at (applied_one w c) unit) ≡ plain (unit_at w unit)
-row_stays w (change.Account a) unit puts = absurd cc
-row_stays w (change.App a) unit puts = absurd cc
-row_stays w (change.Version v) unit puts = absurd cc
-row_stays w (change.Workunit u) unit puts = absurd cc
-row_stays w (change.Host number h) unit puts = refl
-row_stays w (change.Instance p x) unit puts = plain_stays (with_instance p.number x) (λ b. refl) w.units p.unit unit
-row_stays w (change.Class place class) unit puts =
+row_stays : (w : World) (c : Edit) (unit : ℕ) → plain (unit_at (edited_one w c) unit) ≡ plain (unit_at w unit)
+row_stays w (edit.Host number h) unit = refl
+row_stays w (edit.Instance p x) unit = plain_stays (with_instance p.number x) (λ b. refl) w.units p.unit unit
+row_stays w (edit.Class place class) unit =
     plain_stays (with_class class) (λ b. ap (λ rule. record b.unit { class_rule = rule }) (first_stays b.unit.class_rule class)) w.units place unit
 
-rows_stay : (w : World) (cs : List Change) (unit : ℕ) → list_all puts_row cs ≡ true → plain (unit_at (applied w cs) unit) ≡ plain (unit_at w unit)
-rows_stay w [] unit puts = refl
-rows_stay w (c ∷ cs) unit puts =
-    let parts = and_parts (puts_row c) (list_all puts_row cs) puts in rows_stay (applied_one w c) cs unit parts.1 ∙ row_stays w c unit parts.0
+rows_stay : (w : World) (cs : List Edit) (unit : ℕ) → plain (unit_at (edited w cs) unit) ≡ plain (unit_at w unit)
+rows_stay w [] unit = refl
+rows_stay w (c ∷ cs) unit = rows_stay (edited_one w c) cs unit ∙ row_stays w c unit
 
-pub units_in_limits : (w : World) (cs : List Change) → Sound w → list_all puts_row cs ≡ true → AreUnitsInLimits (applied w cs)
-units_in_limits w cs sound puts unit b stands = cases (unit_at w unit) refl (sym (rows_stay w cs unit puts) ∙ ap plain stands)
+pub units_in_limits : (w : World) (cs : List Edit) → Sound w → AreUnitsInLimits (edited w cs)
+units_in_limits w cs sound unit b stands = cases (unit_at w unit) refl (sym (rows_stay w cs unit) ∙ ap plain stands)
   where
     cases : (o : Option UnitBook) → unit_at w unit ≡ o → plain o ≡ Some (imported b.unit) → IsUnitInLimits (imported b.unit)
     cases None is none = absurd cc
@@ -206,22 +185,21 @@ units_in_limits w cs sound puts unit b stands = cases (unit_at w unit) refl (sym
 
 -- The three steps of settlement in a call that found the world e: from w to v by new instances, then the scores, and from
 -- v to u by quotas. `before` and `after` are the changes before and after them.
-pub record AreSteps (e w v u : World) (before after quotas : List Change) (units : List ℕ) (scores : List Score) : Type 0 where
-  pub here : w ≡ applied e before
-  pub puts : list_all puts_row before ≡ true
+pub record AreSteps (e w v u : World) (before after quotas : List Edit) (units : List ℕ) (scores : List Score) : Type 0 where
+  pub here : w ≡ edited e before
   pub grew : AreRising units → v ≡ with_grown_among units w
   pub scored : scores ≡ scores_of_units e v units
   pub quoted : AreQuotasBy scores v quotas
-  pub put : u ≡ applied v quotas
+  pub put : u ≡ edited v quotas
   pub changes : after ≡ (before ++ all_growth w units) ++ quotas
 
-module _ (e w v u : World) (before after quotas : List Change) (units : List ℕ) (scores : List Score)
+module _ (e w v u : World) (before after quotas : List Edit) (units : List ℕ) (scores : List Score)
     (steps : AreSteps e w v u before after quotas units scores) where
   -- the scores cover everything new at the end, because only quotas come after them
   pub scores_hold : scores ≡ scores_of_units e u units
   scores_hold = steps.scored ∙ ap (λ z. scores_of_units e z units) (sym (steps.put ∙ steps.quoted.alone))
 
-  module _ (sound : Sound e) (fits : Fits e before) (just : TouchJust units e w) where
+  module _ (sound : Sound e) (fits : EditsFit e before) (just : TouchJust units e w) where
     -- the first step leaves each open workunit satisfied
     all_grown : v ≡ with_grown w
     all_grown = steps.grew just.rising ∙ others_need_nothing units e w sound just
@@ -229,7 +207,7 @@ module _ (e w v u : World) (before after quotas : List Change) (units : List ℕ
     limits : AreHostsInLimits v
     limits =
         subst AreHostsInLimits (sym (all_grown ∙ ap with_grown steps.here))
-        (hosts_in_limits e before steps.puts (sound_hosts_in_limits e sound) fits)
+        (hosts_in_limits e before (sound_hosts_in_limits e sound) fits)
 
     charged : (host : ℕ) → charges_in scores host ≡ sum_by (unit_charges e v host) units
     charged host = ap (λ ms. charges_in ms host) steps.scored ∙ charges_in-scores e v units host
@@ -248,10 +226,10 @@ module _ (e w v u : World) (before after quotas : List Change) (units : List ℕ
         (subst (λ z. (host : ℕ) → merits_in scores host ≡ sum_by (unit_merits e z host) units) all_grown merited)
 
     -- the new instances fit after the earlier changes, and lead to v
-    grown_here : applied e (before ++ all_growth w units) ≡ v
+    grown_here : edited e (before ++ all_growth w units) ≡ v
     grown_here =
-        fold-append applied_one e before (all_growth w units)
-        ∙ ap (λ z. applied z (all_growth w units)) (sym steps.here)
+        fold-append edited_one e before (all_growth w units)
+        ∙ ap (λ z. edited z (all_growth w units)) (sym steps.here)
         ∙ all_grown_among w units just.rising
         ∙ sym (steps.grew just.rising)
 
@@ -260,14 +238,14 @@ module _ (e w v u : World) (before after quotas : List Change) (units : List ℕ
         subst (λ (s : Settings). 1 ≤ s.daily_result_quota) (sym (ap (λ (z : World). z.settings) all_grown ∙ just.settings)) sound.rows.settings.quota.0
 
     -- and each change fits
-    pub settling_fits : Fits e after
+    pub settling_fits : EditsFit e after
     settling_fits =
-        subst (Fits e) (sym steps.changes)
+        subst (EditsFit e) (sym steps.changes)
         (fits_then e (before ++ all_growth w units) quotas
         (fits_then e before (all_growth w units) fits
-        (subst (λ z. Fits z (all_growth w units)) steps.here
-        (all_fit w units just.rising (subst AreUnitsInLimits (sym steps.here) (units_in_limits e before sound steps.puts)))))
-        (subst (λ z. Fits z quotas) (sym grown_here) (steps.quoted.fit limits some_quota)))
+        (subst (λ z. EditsFit z (all_growth w units)) steps.here
+        (all_fit w units just.rising (subst AreUnitsInLimits (sym steps.here) (units_in_limits e before sound)))))
+        (subst (λ z. EditsFit z quotas) (sym grown_here) (steps.quoted.fit limits some_quota)))
 
 -- changes with others after them are the front of the list
 pub goes_on : {X : Type 0} (before new more after : List X) → after ≡ (before ++ new) ++ more → before ++ drop (length before) after ≡ after
@@ -276,22 +254,19 @@ goes_on before new more after is =
     ap (λ cs. before ++ drop (length before) cs) all ∙ ap (λ cs. before ++ cs) (drop-append_seam before (new ++ more)) ∙ sym all
 
 -- what a settlement returns is what follows the changes
-module _ (w : World) (cs more all : List Change) (units : List ℕ) (settlement : IsSettlement w cs all units)
-    (count : ℕ) (long : count ≡ length cs) (behind : more ≡ drop count all) (puts : list_all puts_row all ≡ true) where
+module _ (w : World) (cs more all : List Edit) (units : List ℕ) (settlement : IsSettlement w cs all units)
+    (count : ℕ) (long : count ≡ length cs) (behind : more ≡ drop count all) where
   joined : cs ++ more ≡ all
   joined = ap (λ ds. cs ++ ds) (behind ∙ ap (λ n. drop n all) long) ∙ settlement.goes_on
 
-  pub joined_put : list_all puts_row (cs ++ more) ≡ true
-  joined_put = ap (list_all puts_row) joined ∙ puts
+  just_touched : AreTouched cs units → TouchJust units w (edited w cs)
+  just_touched = touch_just w cs units
 
-  just_touched : AreTouched cs units → TouchJust units w (applied w cs)
-  just_touched = touch_just w cs units (and_parts _ _ (sym (list_all-append puts_row cs more) ∙ joined_put)).0
+  pub joined_settle : Sound w → EditsFit w cs → AreTouched cs units → edited w (cs ++ more) ≡ settled w (edited w cs)
+  joined_settle sound fits touched = ap (edited w) joined ∙ settlement.settles sound fits (just_touched touched)
 
-  pub joined_settle : Sound w → Fits w cs → AreTouched cs units → applied w (cs ++ more) ≡ settled w (applied w cs)
-  joined_settle sound fits touched = ap (applied w) joined ∙ settlement.settles sound fits (just_touched touched)
-
-  pub joined_fit : Sound w → Fits w cs → AreTouched cs units → Fits w (cs ++ more)
-  joined_fit sound fits touched = subst (Fits w) (sym joined) (settlement.fits sound fits (just_touched touched))
+  pub joined_fit : Sound w → EditsFit w cs → AreTouched cs units → EditsFit w (cs ++ more)
+  joined_fit sound fits touched = subst (EditsFit w) (sym joined) (settlement.fits sound fits (just_touched touched))
 
 -- A call touches only workunits that it has read.
 pub read_touch : (entry present : World) (kept : ℕ → Option Leaf) (units : List ℕ)

@@ -2,7 +2,7 @@
 use Rattle.std.specs.Prelude.{ℕ, List, [], length, Option, None, Some}
 use Rattle.rpc_records.specs.declared.request.Report.{Report}
 use Rattle.sched_book.specs.Count.{has_failed}
-use Rattle.sched_book.specs.declared.delta.Change.{Change}
+use Rattle.sched_book.specs.declared.delta.Edit.{Edit}
 use Rattle.sched_book.specs.declared.instance.Instance.{Instance}
 use Rattle.call_sheet.specs.Sheets.{instances_now, status_before}
 use Rattle.call_sheet.specs.declared.leaf.Leaf.{Leaf}
@@ -22,7 +22,7 @@ abbrev pub late_on : Option Leaf → ℕ → Option Instance
 late_on k number = late_in (instances_now k) number
 
 -- the changes that give the workunit at a place the instances that it lacks now
-abbrev pub growth_on : ℕ → Option Leaf → List Change
+abbrev pub growth_on : ℕ → Option Leaf → List Edit
 growth_on unit None = []
 growth_on unit (Some k) = fresh_changes unit (length k.present) (new_instances k.agreement k.unit k.present)
 

@@ -3,8 +3,8 @@ use Rattle.std.specs.Prelude.{◌≡◌, ℕ, ◌≤◌, List, length, Some}
 use Rattle.sched_book.specs.Places.{unit_at, instance_at}
 use Rattle.sched_book.specs.Limits.{most_instances, IsInstanceInLimits}
 use Rattle.sched_book.specs.Sound.{IsBare, HasOwnerAmong}
-use Rattle.sched_book.specs.Delta.{applied, Fits}
-use Rattle.sched_book.specs.declared.delta.Change.{Change}
+use Rattle.sched_book.specs.Delta.{edited, EditsFit}
+use Rattle.sched_book.specs.declared.delta.Edit.{Edit}
 use Rattle.sched_book.specs.declared.instance.Instance.{Instance}
 use Rattle.sched_book.specs.declared.instance.Place.{Place}
 use Rattle.sched_book.specs.declared.instance.UnitBook.{UnitBook}
@@ -17,6 +17,6 @@ pub record IsLimited (w : World) : Type 0 where
   pub each : (p : Place) (x : Instance) → instance_at w p ≡ Some x → HasOwnerAmong w.hosts x × IsBare x × IsInstanceInLimits x
 
 -- the changes fit, and leave such a world
-pub record FitWithin (w : World) (changes : List Change) : Type 0 where
-  pub fits : Fits w changes
-  pub limited : IsLimited (applied w changes)
+pub record FitWithin (w : World) (changes : List Edit) : Type 0 where
+  pub fits : EditsFit w changes
+  pub limited : IsLimited (edited w changes)

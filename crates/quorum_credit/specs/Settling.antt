@@ -2,13 +2,13 @@
 use Rattle.std.specs.Prelude.{◌≡◌, ℕ, ◌≤◌, ◌++◌, Bool, true, false, if◌then◌else◌, List, length, drop, map, Some, is_some, IsTrue}
 use Rattle.std.specs.List.{enumerate_from}
 use Rattle.sched_book.specs.Classes.{imported}
-use Rattle.sched_book.specs.Delta.{applied, Fits}
+use Rattle.sched_book.specs.Delta.{edited, EditsFit}
 use Rattle.sched_book.specs.Limits.{IsUnitInLimits, IsHostInLimits}
 use Rattle.sched_book.specs.Places.{nth, unit_at, host_at}
 use Rattle.sched_book.specs.Settle.{grown, next_quota, settled}
 use Rattle.sched_book.specs.Sound.{Sound}
-use Rattle.sched_book.specs.declared.delta.Change.{Change}
-use Rattle.sched_book.specs.declared.delta.Change.TheVariants as change
+use Rattle.sched_book.specs.declared.delta.Edit.{Edit}
+use Rattle.sched_book.specs.declared.delta.Edit.TheVariants as edit
 use Rattle.sched_book.specs.declared.instance.UnitBook.{UnitBook}
 use Rattle.sched_book.specs.declared.rows.App.{App}
 use Rattle.sched_book.specs.declared.rows.HostRow.{HostRow}
@@ -17,16 +17,6 @@ use Rattle.quorum_credit.specs.Scoring.{scores_of_units}
 use Rattle.quorum_credit.specs.Scores.{charges_in, merits_in}
 use Rattle.call_sheet.specs.Sheets.{AreRising, is_among}
 use Rattle.quorum_credit.specs.declared.scores.Score.{Score}
-
--- the change puts a host or an instance, or a workunit takes a class: the changes of a call and of a tick
-abbrev pub puts_row : Change → Bool
-puts_row (change.Account a) = false
-puts_row (change.App a) = false
-puts_row (change.Version v) = false
-puts_row (change.Workunit u) = false
-puts_row (change.Host number h) = true
-puts_row (change.Instance p x) = true
-puts_row (change.Class unit class) = true
 
 -- Between two worlds only these workunits are touched, and their places rise.
 pub record TouchJust (units : List ℕ) (old changed : World) : Type 0 where
@@ -67,17 +57,17 @@ abbrev pub with_quotas_by : List Score → World → World
 with_quotas_by scores w = record w { hosts = map (quota_by scores w.settings.daily_result_quota) (enumerate_from 1 w.hosts) }
 
 -- These changes give the hosts the quotas that result from the scores, and change nothing else.
-pub record AreQuotasBy (scores : List Score) (w : World) (quotas : List Change) : Type 0 where
-  pub quoted : AreHostsInLimits w → applied w quotas ≡ with_quotas_by scores w
-  pub fit : AreHostsInLimits w → 1 ≤ w.settings.daily_result_quota → Fits w quotas
-  pub alone : applied w quotas ≡ record w { hosts = (applied w quotas).hosts }
+pub record AreQuotasBy (scores : List Score) (w : World) (quotas : List Edit) : Type 0 where
+  pub quoted : AreHostsInLimits w → edited w quotas ≡ with_quotas_by scores w
+  pub fit : AreHostsInLimits w → 1 ≤ w.settings.daily_result_quota → EditsFit w quotas
+  pub alone : edited w quotas ≡ record w { hosts = (edited w quotas).hosts }
 
 -- the later changes are the earlier ones, followed by others
-abbrev pub Extends : List Change → List Change → Type 0
+abbrev pub Extends : List Edit → List Edit → Type 0
 Extends earlier later = earlier ++ drop (length earlier) later ≡ later
 
 -- These changes are the earlier ones followed by their settlement, if only these workunits are touched.
-pub record IsSettlement (w : World) (changes all : List Change) (units : List ℕ) : Type 0 where
+pub record IsSettlement (w : World) (changes all : List Edit) (units : List ℕ) : Type 0 where
   pub goes_on : Extends changes all
-  pub settles : Sound w → Fits w changes → TouchJust units w (applied w changes) → applied w all ≡ settled w (applied w changes)
-  pub fits : Sound w → Fits w changes → TouchJust units w (applied w changes) → Fits w all
+  pub settles : Sound w → EditsFit w changes → TouchJust units w (edited w changes) → edited w all ≡ settled w (edited w changes)
+  pub fits : Sound w → EditsFit w changes → TouchJust units w (edited w changes) → EditsFit w all

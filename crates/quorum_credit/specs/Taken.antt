@@ -5,8 +5,8 @@ use Rattle.rpc_records.specs.declared.request.Report.{Report}
 use Rattle.sched_book.specs.Count.{is_judged}
 use Rattle.sched_book.specs.Places.{option_any}
 use Rattle.sched_book.specs.Reports.{awaits_report, with_report}
-use Rattle.sched_book.specs.declared.delta.Change.{Change}
-use Rattle.sched_book.specs.declared.delta.Change.TheVariants as change
+use Rattle.sched_book.specs.declared.delta.Edit.{Edit}
+use Rattle.sched_book.specs.declared.delta.Edit.TheVariants as edit
 use Rattle.sched_book.specs.declared.instance.Instance.{Instance}
 use Rattle.call_sheet.specs.Sheets.{AreRising}
 
@@ -22,16 +22,12 @@ reported_in host r failed xs number =
     else None
 
 -- the change is of an instance of the workunit, or of its class
-abbrev pub touches : ℕ → Change → Bool
-touches unit (change.Account a) = false
-touches unit (change.App a) = false
-touches unit (change.Version v) = false
-touches unit (change.Workunit u) = false
-touches unit (change.Host number h) = false
-touches unit (change.Instance p x) = p.unit == unit
-touches unit (change.Class place class) = place == unit
+abbrev pub touches : ℕ → Edit → Bool
+touches unit (edit.Host number h) = false
+touches unit (edit.Instance p x) = p.unit == unit
+touches unit (edit.Class place class) = place == unit
 
 -- These are the places of the workunits that the changes touch, in order and each once.
-pub record AreTouched (changes : List Change) (units : List ℕ) : Type 0 where
+pub record AreTouched (changes : List Edit) (units : List ℕ) : Type 0 where
   pub rising : AreRising units
   pub just : (unit : ℕ) → list_any (λ n. n == unit) units ≡ list_any (touches unit) changes

@@ -6,8 +6,8 @@ use Rattle.std.specs.List.{list_any}
 use Rattle.std.specs.Ordering.{nat_cmp}
 use Rattle.sched_book.specs.Places.{host_at}
 use Rattle.sched_book.specs.Settle.{next_quota}
-use Rattle.sched_book.specs.declared.delta.Change.{Change}
-use Rattle.sched_book.specs.declared.delta.Change.TheVariants as change
+use Rattle.sched_book.specs.declared.delta.Edit.{Edit}
+use Rattle.sched_book.specs.declared.delta.Edit.TheVariants as edit
 use Rattle.sched_book.specs.declared.rows.HostRow.{HostRow}
 use Rattle.sched_book.specs.declared.world.World.{World}
 use Rattle.quorum_credit.specs.Scores.{charges_in, merits_in}
@@ -23,10 +23,10 @@ abbrev pub with_quota_by : ℕ → Tally → HostRow → HostRow
 with_quota_by limit s h = record h { quota = next_quota h.quota s.charges s.merits limit }
 
 -- the host of a tally with that quota, as a change, if the host exists
-abbrev pub new_quota : World → ℕ → Tally → Option Change
-new_quota w limit s = option_map (λ h. change.Host s.host (with_quota_by limit s h)) (host_at w s.host)
+abbrev pub new_quota : World → ℕ → Tally → Option Edit
+new_quota w limit s = option_map (λ h. edit.Host s.host (with_quota_by limit s h)) (host_at w s.host)
 
-abbrev pub new_quotas : World → ℕ → List Tally → List Change
+abbrev pub new_quotas : World → ℕ → List Tally → List Edit
 new_quotas w limit tallies = filter_map (new_quota w limit) tallies
 
 -- some score is of this host

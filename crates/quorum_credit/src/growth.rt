@@ -10,13 +10,13 @@ ghost use Rattle.quorum_credit.specs.Settling.{with_grown_among};
 use crate::settlement::new_instances;
 use call_sheet::{Draft, Leaf, put_all};
 use sched_book::limits::MOST_INSTANCES;
-use sched_book::{Change, Delta, Instance, Place, Unavailable};
+use sched_book::{Edit, Edits, Instance, Place, Unavailable};
 use std::alloc::Global;
 use texts::Listed;
 
 /// Adds the instances that the workunit of a leaf is to get after those of others. Refused if these would be too many.
 #[tactic(auto, using(crate::proofs::FreshOnes::growth_steps))]
-fn push_growth(more: &mut Delta, unit: u32, leaf: &Leaf) -> Result<(), Unavailable>
+fn push_growth(more: &mut Edits, unit: u32, leaf: &Leaf) -> Result<(), Unavailable>
     ensures { OnOk result (more.new ≡ more.old ++ growth_on unit (Some leaf.now)) }
 {
     let instances = leaf.present.as_slice();
@@ -29,13 +29,9 @@ fn push_growth(more: &mut Delta, unit: u32, leaf: &Leaf) -> Result<(), Unavailab
     let first = instances.len() as u32;
     let end = (instances.len() + count) as u32;
     for number in first..end {
-        more.push(Change::Instance {
+        more.push(Edit::Instance {
             place: Place { unit, number },
-            row: Instance {
-                owner: None,
-                lapse: None,
-                report: None,
-            },
+            row: Instance::unsent(),
         })?;
     }
     Ok(())
@@ -47,7 +43,7 @@ fn add_growth<S: Draft>(
     alloc: Global,
     sheet: &mut S,
     unit: u32,
-    more: &mut Delta,
+    more: &mut Edits,
 ) -> Result<(), Unavailable>
     ensures reads { S.reads sheet.old sheet.new }
     ensures answer { Trusted S.Units sheet.old sheet.new (OnOk result (more.new ≡ more.old ++ growth (S.world sheet.old) unit)) }
@@ -64,7 +60,7 @@ fn growth_in_turn<S: Draft>(
     alloc: Global,
     sheet: &mut S,
     touched: &[u32],
-) -> Result<Delta, Unavailable>
+) -> Result<Edits, Unavailable>
     ensures reads { S.reads sheet.old sheet.new }
     ensures answer { Trusted S.Units sheet.old sheet.new (IfOk result (λ more. more ≡ all_growth (S.world sheet.old) touched.now)) }
 {
@@ -84,8 +80,8 @@ pub(crate) fn grow_on<S: Draft>(
     ensures works { S.works sheet.old sheet.new }
     ensures grown { Trusted S.Units sheet.old sheet.new (OnOk result (AreRising touched.now →
         S.world sheet.new ≡ with_grown_among touched.now (S.world sheet.old))) }
-    ensures delta { Trusted S.Units sheet.old sheet.new (OnOk result (
-        S.delta sheet.new ≡ S.delta sheet.old ++ all_growth (S.world sheet.old) touched.now)) }
+    ensures edits { Trusted S.Units sheet.old sheet.new (OnOk result (
+        S.edits sheet.new ≡ S.edits sheet.old ++ all_growth (S.world sheet.old) touched.now)) }
 {
     let more = growth_in_turn(alloc, sheet, touched)?;
     put_all(alloc, sheet, more.as_slice())?;

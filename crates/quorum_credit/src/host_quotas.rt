@@ -8,7 +8,7 @@ ghost use Rattle.quorum_credit.specs.Tallies.{new_quotas, tally_with, tally_afte
 use crate::quota::next_quota;
 use crate::scores::Score;
 use call_sheet::Draft;
-use sched_book::{Change, Delta, HostRow, Unavailable};
+use sched_book::{Edit, Edits, HostRow, Unavailable};
 use std::alloc::Global;
 use std::collections::BTreeMap;
 use texts::Listed;
@@ -28,7 +28,7 @@ fn add_quota<S: Draft>(
     alloc: Global,
     sheet: &mut S,
     limit: u32,
-    quotas: &mut Delta,
+    quotas: &mut Edits,
     tally: &Tally,
 ) -> Result<(), Unavailable>
     ensures reads { S.reads sheet.old sheet.new }
@@ -38,7 +38,7 @@ fn add_quota<S: Draft>(
     let Some(host) = sheet.host(alloc, tally.host)? else {
         return Err(Unavailable);
     };
-    quotas.push(Change::Host {
+    quotas.push(Edit::Host {
         number: tally.host,
         row: HostRow {
             quota: next_quota(host.quota, tally.charges, tally.merits, limit),
@@ -54,7 +54,7 @@ fn quotas_in_turn<S: Draft>(
     sheet: &mut S,
     limit: u32,
     tallies: &[Tally],
-) -> Result<Delta, Unavailable>
+) -> Result<Edits, Unavailable>
     ensures reads { S.reads sheet.old sheet.new }
     ensures answer { Trusted S.Units sheet.old sheet.new (
         IfOk result (λ quotas. quotas ≡ new_quotas (S.world sheet.old) limit tallies.now)) }
@@ -128,7 +128,7 @@ pub(crate) fn new_quotas<S: Draft>(
     alloc: Global,
     sheet: &mut S,
     scores: &[Score],
-) -> Result<Delta, Unavailable>
+) -> Result<Edits, Unavailable>
     ensures reads { S.reads sheet.old sheet.new }
     ensures answer { Trusted S.Units sheet.old sheet.new (
         IfOk result (λ quotas. AreQuotasBy scores.now (S.world sheet.old) quotas)) }

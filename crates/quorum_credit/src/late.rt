@@ -38,7 +38,7 @@ fn put_late<S: Draft>(alloc: Global, sheet: &mut S, place: Place) -> Result<(), 
     ensures put { Trusted S.Units sheet.old sheet.new (
         OnOk result (S.world sheet.new ≡ with_changed (with_lapse lapse.Late) (S.world sheet.old) place)) }
     ensures fits { Trusted S.Units sheet.old sheet.new (OnOk result (
-        FitWithin (S.entry sheet.old) (S.delta sheet.old) → FitWithin (S.entry sheet.old) (S.delta sheet.new))) }
+        FitWithin (S.entry sheet.old) (S.edits sheet.old) → FitWithin (S.entry sheet.old) (S.edits sheet.new))) }
 {
     sheet.read(alloc, place.unit)?;
     match late_on(sheet.leaf(place.unit), place.number)? {
@@ -61,7 +61,7 @@ pub fn lapse_on<S: Draft>(alloc: Global, sheet: &mut S, places: &[Place]) -> Res
     ensures lapsed { Trusted S.Units sheet.old sheet.new (
         OnOk result (S.world sheet.new ≡ lapsed_at (S.world sheet.old) places.now)) }
     ensures fits { Trusted S.Units sheet.old sheet.new (OnOk result (
-        FitWithin (S.entry sheet.old) (S.delta sheet.old) → FitWithin (S.entry sheet.old) (S.delta sheet.new))) }
+        FitWithin (S.entry sheet.old) (S.edits sheet.old) → FitWithin (S.entry sheet.old) (S.edits sheet.new))) }
 {
     for place in places {
         put_late(alloc, sheet, *place)?;

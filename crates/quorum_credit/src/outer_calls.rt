@@ -2,12 +2,11 @@
 //! sheet: tests, or another scheduler. They use the steps that the program runs, [`record_on`], [`settle_on`] and
 //! [`lapse_places`].
 
-ghost use Rattle.std.specs.Prelude.{◌≡◌, ◌≤◌, ◌++◌, All, true, drop, length, map, IfOk, OnOk};
-ghost use Rattle.std.specs.List.{list_all};
+ghost use Rattle.std.specs.Prelude.{◌≡◌, ◌≤◌, ◌++◌, All, drop, length, map, IfOk, OnOk};
 ghost use Rattle.rpc_records.specs.Ranges.{IsReport};
 ghost use Rattle.rpc_records.specs.declared.request.Report.{Report};
 ghost use Rattle.sched_book.specs.Count.{agree, status};
-ghost use Rattle.sched_book.specs.Delta.{applied, Fits};
+ghost use Rattle.sched_book.specs.Delta.{edited, EditsFit};
 ghost use Rattle.sched_book.specs.Reports.{first_reports, recorded};
 ghost use Rattle.sched_book.specs.Settle.{settled};
 ghost use Rattle.sched_book.specs.Sound.{Sound};
@@ -15,7 +14,7 @@ ghost use Rattle.sched_book.specs.Step.{lapsed};
 ghost use Rattle.sched_book.specs.Trusted.{Trusted};
 ghost use Rattle.call_sheet.specs.Sheets.{IsPageOf};
 ghost use Rattle.quorum_credit.specs.Settled.{new_instances, verdicts};
-ghost use Rattle.quorum_credit.specs.Settling.{puts_row, IsSettlement};
+ghost use Rattle.quorum_credit.specs.Settling.{IsSettlement};
 ghost use Rattle.quorum_credit.specs.Taken.{AreTouched};
 
 use crate::reports::record_on;
@@ -26,7 +25,7 @@ use call_sheet::{Page, Sheet, put_all};
 use rpc_records::Request;
 use sched_book::limits::MOST_INSTANCES;
 use sched_book::{
-    Agreement, Change, Delta, Desk, Instance, Moment, Status, Unavailable, Verdict, Workunit, count,
+    Agreement, Desk, Edit, Edits, Instance, Moment, Status, Unavailable, Verdict, Workunit, count,
 };
 use std::alloc::Global;
 use std::collections::BTreeSet;
@@ -103,35 +102,31 @@ pub fn settle(agreement: &Agreement, unit: &Workunit, instances: &[Instance]) ->
 #[derive(Drop)]
 pub struct Taken {
     /// The instances that they change.
-    pub delta: Delta,
+    pub edits: Edits,
     /// The names that are acknowledged, each once, in the order of their first places.
     pub acked: Listed<Text>,
     /// The places of the workunits that they touch, in order and each once.
     pub touched: Listed<u32>,
 }
 
-/// The places of the workunits that the changes touch, in order and each once.
+/// The places of the workunits that edits touch, in order and each once.
 ///
 /// # Errors
 ///
 /// [`Memory`] if there is no memory.
-fn touched_by(alloc: Global, changes: &[Change]) -> Result<Listed<u32>, Memory>
-    ensures { IfOk result (λ units. AreTouched changes.now units) }
+fn touched_by(alloc: Global, edits: &[Edit]) -> Result<Listed<u32>, Memory>
+    ensures { IfOk result (λ units. AreTouched edits.now units) }
 {
     let mut units = BTreeSet::new(alloc);
-    for change in changes {
-        match change {
-            Change::Instance { place, row: _ } => {
+    for edit in edits {
+        match edit {
+            Edit::Instance { place, row: _ } => {
                 units.insert(place.unit)?;
             }
-            Change::Class { unit, class: _ } => {
+            Edit::Class { unit, class: _ } => {
                 units.insert(*unit)?;
             }
-            Change::Account(_)
-            | Change::App(_)
-            | Change::Version(_)
-            | Change::Workunit(_)
-            | Change::Host { .. } => {}
+            Edit::Host { .. } => {}
         }
     }
     Ok(Listed::of(units.iter().copied().collect(alloc)?))
@@ -149,12 +144,12 @@ pub fn take_reports<D: Desk>(
     request: &Request,
 ) -> Result<Taken, Unavailable>
     ensures reads { D.reads desk.old desk.new }
-    ensures delta { Trusted D.Units desk.old desk.new (
-        IfOk result (λ taken. applied (D.world desk.old) taken.delta ≡ recorded (D.world desk.old) host request.now.results)) }
+    ensures edits { Trusted D.Units desk.old desk.new (
+        IfOk result (λ taken. edited (D.world desk.old) taken.edits ≡ recorded (D.world desk.old) host request.now.results)) }
     ensures acked { IfOk result (λ taken. taken.acked ≡ map (λ (r : Report). r.name) (first_reports request.now.results)) }
     ensures fits { Trusted D.Units desk.old desk.new (
-        IfOk result (λ taken. All IsReport request.now.results → Sound (D.world desk.old) → Fits (D.world desk.old) taken.delta)) }
-    ensures touched { IfOk result (λ taken. AreTouched taken.delta taken.touched) }
+        IfOk result (λ taken. All IsReport request.now.results → Sound (D.world desk.old) → EditsFit (D.world desk.old) taken.edits)) }
+    ensures touched { IfOk result (λ taken. AreTouched taken.edits taken.touched) }
 {
     let mut page = Page::new(alloc, desk.settings(alloc)?);
     let mut sheet = Sheet {
@@ -163,45 +158,43 @@ pub fn take_reports<D: Desk>(
     };
     let acked = record_on(alloc, &mut sheet, host, request)?;
     drop(sheet);
-    let Page { delta, .. } = page;
-    let touched = touched_by(alloc, delta.as_slice())?;
+    let Page { edits, .. } = page;
+    let touched = touched_by(alloc, edits.as_slice())?;
     Ok(Taken {
-        delta,
+        edits,
         acked,
         touched,
     })
 }
 
-/// The same over a desk with a page, after changes that are put first.
+/// The same over a desk with a page, after edits that are made first.
 fn settle_onto<D: Desk>(
     alloc: Global,
     desk: &mut D,
     page: &mut Page,
-    delta: &Delta,
+    edits: &Edits,
     touched: &[u32],
 ) -> Result<(), Unavailable>
     ensures reads { D.reads desk.old desk.new }
     ensures page { Trusted D.Units desk.old desk.new (IsPageOf (D.world desk.old) page.old → IsPageOf (D.world desk.old) page.new) }
     ensures settled { Trusted D.Units desk.old desk.new (IsPageOf (D.world desk.old) page.old → OnOk result (
-        IsSettlement (D.world desk.old) (page.old.delta ++ delta.now) page.new.delta touched.now)) }
+        IsSettlement (D.world desk.old) (page.old.edits ++ edits.now) page.new.edits touched.now)) }
 {
     let mut sheet = Sheet { desk, page };
-    put_all(alloc, &mut sheet, delta.as_slice())?;
+    put_all(alloc, &mut sheet, edits.as_slice())?;
     settle_on(alloc, &mut sheet, touched)?;
     Ok(())
 }
 
-/// The changes of a list after the first `count`.
-fn changes_after(alloc: Global, delta: Delta, count: usize) -> Result<Delta, Memory>
-    ensures { IfOk result (λ more. more ≡ drop count delta) }
+/// The edits after the first `count`.
+fn edits_after(alloc: Global, edits: Edits, count: usize) -> Result<Edits, Memory>
+    ensures { IfOk result (λ more. more ≡ drop count edits) }
 {
-    Ok(Listed::of(delta.into_vec().into_iter().skip(count).collect(alloc)?))
+    Ok(Listed::of(edits.into_vec().into_iter().skip(count).collect(alloc)?))
 }
 
-/// Settles the workunits that changes touch, which are at these places. Returns the further changes: each open workunit
+/// Settles the workunits that edits touch, which are at these places. Returns the further edits: each open workunit
 /// gets the instances that it lacks, and each of their hosts the quota that follows from what is new.
-///
-/// The changes must be those of a call or a tick, which put hosts, instances and classes. Others are refused.
 ///
 /// # Errors
 ///
@@ -209,21 +202,20 @@ fn changes_after(alloc: Global, delta: Delta, count: usize) -> Result<Delta, Mem
 pub fn settle_all<D: Desk>(
     alloc: Global,
     desk: &mut D,
-    delta: &Delta,
+    edits: &Edits,
     touched: &[u32],
-) -> Result<Delta, Unavailable>
+) -> Result<Edits, Unavailable>
     ensures reads { D.reads desk.old desk.new }
     ensures settled { Trusted D.Units desk.old desk.new (IfOk result (λ more.
-        Sound (D.world desk.old) → Fits (D.world desk.old) delta.now → AreTouched delta.now touched.now →
-        applied (D.world desk.old) (delta.now ++ more) ≡ settled (D.world desk.old) (applied (D.world desk.old) delta.now))) }
+        Sound (D.world desk.old) → EditsFit (D.world desk.old) edits.now → AreTouched edits.now touched.now →
+        edited (D.world desk.old) (edits.now ++ more) ≡ settled (D.world desk.old) (edited (D.world desk.old) edits.now))) }
     ensures fits { Trusted D.Units desk.old desk.new (IfOk result (λ more.
-        Sound (D.world desk.old) → Fits (D.world desk.old) delta.now → AreTouched delta.now touched.now →
-        Fits (D.world desk.old) (delta.now ++ more))) }
-    ensures puts { Trusted D.Units desk.old desk.new (IfOk result (λ more. list_all puts_row (delta.now ++ more) ≡ true)) }
+        Sound (D.world desk.old) → EditsFit (D.world desk.old) edits.now → AreTouched edits.now touched.now →
+        EditsFit (D.world desk.old) (edits.now ++ more))) }
 {
     let mut page = Page::new(alloc, desk.settings(alloc)?);
-    settle_onto(alloc, desk, &mut page, delta, touched)?;
-    Ok(changes_after(alloc, page.delta, delta.len())?)
+    settle_onto(alloc, desk, &mut page, edits, touched)?;
+    Ok(edits_after(alloc, page.edits, edits.len())?)
 }
 
 /// Lets each held instance whose deadline is before this moment lapse late, and settles their workunits.
@@ -231,12 +223,12 @@ pub fn settle_all<D: Desk>(
 /// # Errors
 ///
 /// [`Unavailable`] if there is no memory or the desk is unavailable.
-pub fn lapse<D: Desk>(alloc: Global, desk: &mut D, now: Moment) -> Result<Delta, Unavailable>
+pub fn lapse<D: Desk>(alloc: Global, desk: &mut D, now: Moment) -> Result<Edits, Unavailable>
     ensures reads { D.reads desk.old desk.new }
-    ensures settled { Trusted D.Units desk.old desk.new (IfOk result (λ delta.
-        Sound (D.world desk.old) → applied (D.world desk.old) delta ≡ settled (D.world desk.old) (lapsed (D.world desk.old) now))) }
+    ensures settled { Trusted D.Units desk.old desk.new (IfOk result (λ edits.
+        Sound (D.world desk.old) → edited (D.world desk.old) edits ≡ settled (D.world desk.old) (lapsed (D.world desk.old) now))) }
     ensures fits { Trusted D.Units desk.old desk.new (
-        IfOk result (λ delta. Sound (D.world desk.old) → Fits (D.world desk.old) delta)) }
+        IfOk result (λ edits. Sound (D.world desk.old) → EditsFit (D.world desk.old) edits)) }
 {
     let places = desk.due_before(alloc, now)?;
     lapse_places(alloc, desk, places.as_slice())

@@ -96,7 +96,7 @@ fn put_report<S: Draft>(
     ensures put { Trusted S.Units sheet.old sheet.new (
         OnOk result (S.world sheet.new ≡ record_at (S.entry sheet.old) host report.now (S.world sheet.old) place)) }
     ensures fits { Trusted S.Units sheet.old sheet.new (OnOk result (IsReport report.now →
-        FitWithin (S.entry sheet.old) (S.delta sheet.old) → FitWithin (S.entry sheet.old) (S.delta sheet.new))) }
+        FitWithin (S.entry sheet.old) (S.edits sheet.old) → FitWithin (S.entry sheet.old) (S.edits sheet.new))) }
 {
     sheet.read(alloc, place.unit)?;
     match reported_on(host, report, sheet.leaf(place.unit), place.number)? {
@@ -119,7 +119,7 @@ fn take_report<S: Draft>(
     ensures taken { Trusted S.Units sheet.old sheet.new (
         OnOk result (S.world sheet.new ≡ record_one (S.entry sheet.old) host (S.world sheet.old) report.now)) }
     ensures fits { Trusted S.Units sheet.old sheet.new (OnOk result (IsReport report.now →
-        FitWithin (S.entry sheet.old) (S.delta sheet.old) → FitWithin (S.entry sheet.old) (S.delta sheet.new))) }
+        FitWithin (S.entry sheet.old) (S.edits sheet.old) → FitWithin (S.entry sheet.old) (S.edits sheet.new))) }
 {
     match place_before(alloc, sheet, report.name.as_str())? {
         None => Ok(()),
@@ -138,7 +138,7 @@ fn take_in_turn<S: Draft>(
     ensures taken { Trusted S.Units sheet.old sheet.new (OnOk result (
         S.world sheet.new ≡ fold (record_one (S.entry sheet.old) host) (S.world sheet.old) (map (λ r. r.now) reports.now))) }
     ensures fits { Trusted S.Units sheet.old sheet.new (OnOk result (All (λ r. IsReport r.now) reports.now →
-        FitWithin (S.entry sheet.old) (S.delta sheet.old) → FitWithin (S.entry sheet.old) (S.delta sheet.new))) }
+        FitWithin (S.entry sheet.old) (S.edits sheet.old) → FitWithin (S.entry sheet.old) (S.edits sheet.new))) }
 {
     for report in reports {
         take_report(alloc, sheet, host, report)?;
@@ -167,7 +167,7 @@ pub fn record_on<S: Draft>(
         S.world sheet.new ≡ fold (record_one (S.entry sheet.old) host) (S.world sheet.old) (first_reports request.now.results))) }
     ensures acked { IfOk result (λ acked. acked ≡ map (λ (r : Report). r.name) (first_reports request.now.results)) }
     ensures fits { Trusted S.Units sheet.old sheet.new (OnOk result (All IsReport request.now.results →
-        FitWithin (S.entry sheet.old) (S.delta sheet.old) → FitWithin (S.entry sheet.old) (S.delta sheet.new))) }
+        FitWithin (S.entry sheet.old) (S.edits sheet.old) → FitWithin (S.entry sheet.old) (S.edits sheet.new))) }
 {
     let firsts = first_of_each(alloc, request.results.as_slice())?;
     let acked = names_of(alloc, firsts.as_slice())?;

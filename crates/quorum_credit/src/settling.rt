@@ -1,7 +1,7 @@
-//! The settlement of the workunits that changes touch.
+//! The settlement of the workunits that edits touch.
 
 ghost use Rattle.std.specs.Prelude.{◌≡◌, [], IfOk, OnOk};
-ghost use Rattle.sched_book.specs.Delta.{applied, Fits};
+ghost use Rattle.sched_book.specs.Delta.{edited, EditsFit};
 ghost use Rattle.sched_book.specs.Settle.{settled};
 ghost use Rattle.sched_book.specs.Sound.{Sound};
 ghost use Rattle.sched_book.specs.Trusted.{Trusted};
@@ -14,7 +14,7 @@ use crate::host_quotas::new_quotas;
 use crate::late::lapse_on;
 use crate::scores::{Score, scores_of_units};
 use call_sheet::{Draft, Page, Sheet, put_all};
-use sched_book::{Delta, Desk, Place, Unavailable};
+use sched_book::{Desk, Edits, Place, Unavailable};
 use std::alloc::Global;
 use texts::Listed;
 
@@ -32,14 +32,14 @@ pub fn settle_on<S: Draft>(
 ) -> Result<Listed<Score>, Unavailable>
     ensures works { S.works sheet.old sheet.new }
     ensures settled { Trusted S.Units sheet.old sheet.new (OnOk result (
-        Sound (S.entry sheet.old) → Fits (S.entry sheet.old) (S.delta sheet.old) → TouchJust touched.now (S.entry sheet.old) (S.world sheet.old) →
+        Sound (S.entry sheet.old) → EditsFit (S.entry sheet.old) (S.edits sheet.old) → TouchJust touched.now (S.entry sheet.old) (S.world sheet.old) →
         S.world sheet.new ≡ settled (S.entry sheet.old) (S.world sheet.old))) }
     ensures fits { Trusted S.Units sheet.old sheet.new (OnOk result (
-        Sound (S.entry sheet.old) → Fits (S.entry sheet.old) (S.delta sheet.old) → TouchJust touched.now (S.entry sheet.old) (S.world sheet.old) →
-        Fits (S.entry sheet.old) (S.delta sheet.new))) }
+        Sound (S.entry sheet.old) → EditsFit (S.entry sheet.old) (S.edits sheet.old) → TouchJust touched.now (S.entry sheet.old) (S.world sheet.old) →
+        EditsFit (S.entry sheet.old) (S.edits sheet.new))) }
     ensures scores { Trusted S.Units sheet.old sheet.new (
         IfOk result (λ scores. scores ≡ scores_of_units (S.entry sheet.old) (S.world sheet.new) touched.now)) }
-    ensures delta { Trusted S.Units sheet.old sheet.new (OnOk result (Extends (S.delta sheet.old) (S.delta sheet.new))) }
+    ensures edits { Trusted S.Units sheet.old sheet.new (OnOk result (Extends (S.edits sheet.old) (S.edits sheet.new))) }
 {
     grow_on(alloc, sheet, touched)?;
     let scores = scores_of_units(alloc, sheet, touched)?;
@@ -57,32 +57,32 @@ pub fn settle_on<S: Draft>(
 pub fn settle_read<S: Draft>(alloc: Global, sheet: &mut S) -> Result<Listed<Score>, Unavailable>
     ensures works { S.works sheet.old sheet.new }
     ensures settled { Trusted S.Units sheet.old sheet.new (OnOk result (
-        Sound (S.entry sheet.old) → Fits (S.entry sheet.old) (S.delta sheet.old) →
+        Sound (S.entry sheet.old) → EditsFit (S.entry sheet.old) (S.edits sheet.old) →
         S.world sheet.new ≡ settled (S.entry sheet.old) (S.world sheet.old))) }
     ensures fits { Trusted S.Units sheet.old sheet.new (OnOk result (
-        Sound (S.entry sheet.old) → Fits (S.entry sheet.old) (S.delta sheet.old) → Fits (S.entry sheet.old) (S.delta sheet.new))) }
+        Sound (S.entry sheet.old) → EditsFit (S.entry sheet.old) (S.edits sheet.old) → EditsFit (S.entry sheet.old) (S.edits sheet.new))) }
     ensures scores { Trusted S.Units sheet.old sheet.new (IfOk result (λ scores.
-        Sound (S.entry sheet.old) → Fits (S.entry sheet.old) (S.delta sheet.old) → AreScores (S.entry sheet.old) (S.world sheet.new) scores)) }
+        Sound (S.entry sheet.old) → EditsFit (S.entry sheet.old) (S.edits sheet.old) → AreScores (S.entry sheet.old) (S.world sheet.new) scores)) }
 {
     let touched = sheet.units(alloc)?;
     let scores = settle_on(alloc, sheet, touched.as_slice())?;
     Ok(scores)
 }
 
-/// Lets the instances at these places lapse late, in their order, and settles their workunits, before any other change.
+/// Lets the instances at these places lapse late, in their order, and settles their workunits, before any other edit.
 fn lapse_read<S: Draft>(alloc: Global, sheet: &mut S, places: &[Place]) -> Result<(), Unavailable>
     ensures works { S.works sheet.old sheet.new }
-    ensures left { Trusted S.Units sheet.old sheet.new (OnOk result (S.delta sheet.old ≡ [] → Sound (S.entry sheet.old) →
+    ensures left { Trusted S.Units sheet.old sheet.new (OnOk result (S.edits sheet.old ≡ [] → Sound (S.entry sheet.old) →
         S.world sheet.new ≡ settled (S.entry sheet.old) (lapsed_at (S.entry sheet.old) places.now))) }
-    ensures fits { Trusted S.Units sheet.old sheet.new (OnOk result (S.delta sheet.old ≡ [] → Sound (S.entry sheet.old) →
-        Fits (S.entry sheet.old) (S.delta sheet.new))) }
+    ensures fits { Trusted S.Units sheet.old sheet.new (OnOk result (S.edits sheet.old ≡ [] → Sound (S.entry sheet.old) →
+        EditsFit (S.entry sheet.old) (S.edits sheet.new))) }
 {
     lapse_on(alloc, sheet, places)?;
     settle_read(alloc, sheet)?;
     Ok(())
 }
 
-/// Lets the instances at these places lapse late, settles their workunits, and returns the changes. Refused if no host
+/// Lets the instances at these places lapse late, settles their workunits, and returns the edits. Refused if no host
 /// holds one of the instances.
 ///
 /// # Errors
@@ -92,12 +92,12 @@ pub fn lapse_places<D: Desk>(
     alloc: Global,
     desk: &mut D,
     places: &[Place],
-) -> Result<Delta, Unavailable>
+) -> Result<Edits, Unavailable>
     ensures reads { D.reads desk.old desk.new }
-    ensures settled { Trusted D.Units desk.old desk.new (IfOk result (λ delta. Sound (D.world desk.old) →
-        applied (D.world desk.old) delta ≡ settled (D.world desk.old) (lapsed_at (D.world desk.old) places.now))) }
+    ensures settled { Trusted D.Units desk.old desk.new (IfOk result (λ edits. Sound (D.world desk.old) →
+        edited (D.world desk.old) edits ≡ settled (D.world desk.old) (lapsed_at (D.world desk.old) places.now))) }
     ensures fits { Trusted D.Units desk.old desk.new (
-        IfOk result (λ delta. Sound (D.world desk.old) → Fits (D.world desk.old) delta)) }
+        IfOk result (λ edits. Sound (D.world desk.old) → EditsFit (D.world desk.old) edits)) }
 {
     let mut page = Page::new(alloc, desk.settings(alloc)?);
     let mut sheet = Sheet {
@@ -106,5 +106,5 @@ pub fn lapse_places<D: Desk>(
     };
     lapse_read(alloc, &mut sheet, places)?;
     drop(sheet);
-    Ok(page.delta)
+    Ok(page.edits)
 }

@@ -1,19 +1,25 @@
 -- Changes that fit keep every table within its bounds.
 use Rattle.std.proofs.Common.{◌≡◌, ℕ, zero, suc, ◌+◌, ◌-◌, ◌<◌, ◌≤◌, Bool, true, false, cond, eqb, ltb, List, [], ◌∷◌, ◌++◌, length, set, sym, refl, subst, arith, length-append, ◌∙◌}
-use Rattle.std.specs.Prelude.{All, replicate}
+use Rattle.std.specs.Prelude.{All, IsTrue, map, replicate}
 use Rattle.std.proofs.lemmas.List.{length-set, length-replicate}
 use Rattle.std.proofs.lemmas.List.Elements.{All-append, All-cons, All-tail}
 use borrow.Author.Tests.{ltb-false}
 use Rattle.sched_book.specs.Classes.{with_class}
 use Rattle.sched_book.specs.Settle.{fresh}
-use Rattle.sched_book.specs.Imports.{new_unit}
-use Rattle.sched_book.specs.Limits.{most_accounts, most_apps, most_versions, most_workunits, most_hosts, most_instances, IsBounded}
+use Rattle.sched_book.specs.Imports.{new_unit, has_app, with_rows}
+use Rattle.sched_book.specs.Limits.{most_accounts, most_apps, most_versions, most_workunits, most_hosts, most_instances, IsBounded, IsUnitInLimits}
 use Rattle.sched_book.specs.Reports.{modify_at, modify_nth}
-use Rattle.sched_book.specs.Delta.{set_at, set_nth, with_instance, applied_one, FitsOne, applied}
+use Rattle.sched_book.specs.Delta.{set_at, set_nth, with_instance, edited_one, EditFits, edited, EditsFit, RowsFit, applied}
 use Rattle.sched_book.specs.Laws.{FittingKeepsBounds}
-use Rattle.sched_book.specs.declared.delta.Change.{Change}
-use Rattle.sched_book.specs.declared.delta.Change.TheVariants as change
+use Rattle.sched_book.specs.declared.delta.Delta.{Delta}
+use Rattle.sched_book.specs.declared.delta.Delta.TheVariants as delta
+use Rattle.sched_book.specs.declared.delta.Edit.{Edit}
+use Rattle.sched_book.specs.declared.delta.Edit.TheVariants as edit
 use Rattle.sched_book.specs.declared.instance.UnitBook.{UnitBook}
+use Rattle.sched_book.specs.declared.rows.App.{App}
+use Rattle.sched_book.specs.declared.rows.Rows.{Rows}
+use Rattle.sched_book.specs.declared.rows.Rows.TheVariants as rows
+use Rattle.sched_book.specs.declared.rows.Workunit.{Workunit}
 use Rattle.sched_book.specs.declared.world.World.{World}
 use Rattle.sched_book.proofs.PlacesOf.{length-modify_nth}
 
@@ -54,41 +60,8 @@ hosts_within xs (suc i) x short low = cases (eqb (suc i) 0)
     cases true = short
     cases false = put_within xs (suc i - 1) x most_hosts short (omega arith)
 
-fitting_keeps_one : (w : World) (c : Change) → w.settings.max_hosts ≤ most_hosts → IsBounded w → FitsOne w c → IsBounded (applied_one w c)
-fitting_keeps_one w (change.Account a) limit bounded fits = record {
-  accounts = pushed w.accounts a most_accounts fits.0;
-  apps = bounded.apps;
-  versions = bounded.versions;
-  hosts = bounded.hosts;
-  units = bounded.units;
-  instances = bounded.instances;
-}
-fitting_keeps_one w (change.App a) limit bounded fits = record {
-  apps = pushed w.apps a most_apps fits.0;
-  accounts = bounded.accounts;
-  versions = bounded.versions;
-  hosts = bounded.hosts;
-  units = bounded.units;
-  instances = bounded.instances;
-}
-fitting_keeps_one w (change.Version v) limit bounded fits = record {
-  versions = pushed w.versions v most_versions fits.0;
-  accounts = bounded.accounts;
-  apps = bounded.apps;
-  hosts = bounded.hosts;
-  units = bounded.units;
-  instances = bounded.instances;
-}
-fitting_keeps_one w (change.Workunit u) limit bounded fits = record {
-  units = pushed w.units (new_unit u) most_workunits fits.0;
-  instances = All-append HasFew w.units (new_unit u ∷ []) bounded.instances
-      (All-cons HasFew (new_unit u) [] (let long : length (replicate u.target_nresults fresh) ≡ u.target_nresults = length-replicate u.target_nresults fresh in omega (arith, fits.2.target.1)) (λ k d none. absurd (omega arith)));
-  accounts = bounded.accounts;
-  apps = bounded.apps;
-  versions = bounded.versions;
-  hosts = bounded.hosts;
-}
-fitting_keeps_one w (change.Host number h) limit bounded fits = record {
+fitting_keeps_one : (w : World) (c : Edit) → w.settings.max_hosts ≤ most_hosts → IsBounded w → EditFits w c → IsBounded (edited_one w c)
+fitting_keeps_one w (edit.Host number h) limit bounded fits = record {
   hosts = hosts_within w.hosts number h bounded.hosts (omega (arith, fits.2));
   accounts = bounded.accounts;
   apps = bounded.apps;
@@ -96,7 +69,7 @@ fitting_keeps_one w (change.Host number h) limit bounded fits = record {
   units = bounded.units;
   instances = bounded.instances;
 }
-fitting_keeps_one w (change.Instance p x) limit bounded fits = record {
+fitting_keeps_one w (edit.Instance p x) limit bounded fits = record {
   units = let same : length (modify_nth (with_instance p.number x) w.units p.unit) ≡ length w.units = length-modify_nth (with_instance p.number x) w.units p.unit in omega (arith, bounded.units);
   instances = all_changed_nth HasFew (with_instance p.number x) (λ b few. put_within b.instances p.number x most_instances few fits.1) w.units p.unit bounded.instances;
   accounts = bounded.accounts;
@@ -104,7 +77,7 @@ fitting_keeps_one w (change.Instance p x) limit bounded fits = record {
   versions = bounded.versions;
   hosts = bounded.hosts;
 }
-fitting_keeps_one w (change.Class unit class) limit bounded fits = record {
+fitting_keeps_one w (edit.Class unit class) limit bounded fits = record {
   units = let same : length (modify_nth (with_class class) w.units unit) ≡ length w.units = length-modify_nth (with_class class) w.units unit in omega (arith, bounded.units);
   instances = all_changed_nth HasFew (with_class class) (λ b few. few) w.units unit bounded.instances;
   accounts = bounded.accounts;
@@ -114,21 +87,70 @@ fitting_keeps_one w (change.Class unit class) limit bounded fits = record {
 }
 
 -- the settings stay
-pub settings_stay : (w : World) (c : Change) → (applied_one w c).settings ≡ w.settings
-settings_stay w (change.Account a) = refl
-settings_stay w (change.App a) = refl
-settings_stay w (change.Version v) = refl
-settings_stay w (change.Workunit u) = refl
-settings_stay w (change.Host number h) = refl
-settings_stay w (change.Instance p x) = refl
-settings_stay w (change.Class unit class) = refl
+pub settings_stay : (w : World) (c : Edit) → (edited_one w c).settings ≡ w.settings
+settings_stay w (edit.Host number h) = refl
+settings_stay w (edit.Instance p x) = refl
+settings_stay w (edit.Class unit class) = refl
 
-pub all_settings_stay : (w : World) (cs : List Change) → (applied w cs).settings ≡ w.settings
+pub all_settings_stay : (w : World) (cs : List Edit) → (edited w cs).settings ≡ w.settings
 all_settings_stay w [] = refl
-all_settings_stay w (c ∷ cs) = all_settings_stay (applied_one w c) cs ∙ settings_stay w c
+all_settings_stay w (c ∷ cs) = all_settings_stay (edited_one w c) cs ∙ settings_stay w c
+
+edits_keep_bounds : (w : World) (edits : List Edit) → w.settings.max_hosts ≤ most_hosts → IsBounded w → EditsFit w edits → IsBounded (edited w edits)
+edits_keep_bounds w [] limit bounded fits = bounded
+edits_keep_bounds w (c ∷ cs) limit bounded fits =
+    edits_keep_bounds (edited_one w c) cs (subst (λ s. s.max_hosts ≤ most_hosts) (sym (settings_stay w c)) limit)
+    (fitting_keeps_one w c limit bounded fits.0) fits.1
+
+-- new workunits have few instances
+new_ones_few : (apps : List App) (us : List Workunit) → All (λ (u : Workunit). IsTrue (has_app apps u.app) × IsUnitInLimits u) us → All HasFew (map new_unit us)
+new_ones_few apps [] limits = λ k d within. absurd (omega arith)
+new_ones_few apps (u ∷ us) limits =
+    All-cons HasFew (new_unit u) (map new_unit us)
+    (let long : length (replicate u.target_nresults fresh) ≡ u.target_nresults = length-replicate u.target_nresults fresh in omega (arith, (limits 0 u (omega arith)).1.target.1))
+    (new_ones_few apps us (All-tail (λ (v : Workunit). IsTrue (has_app apps v.app) × IsUnitInLimits v) u us limits))
+
+rows_keep_bounds : (w : World) (new : Rows) → IsBounded w → RowsFit w new → IsBounded (with_rows w new)
+rows_keep_bounds w (rows.Accounts xs) bounded fits = record {
+  accounts = fits.0;
+  apps = bounded.apps;
+  versions = bounded.versions;
+  hosts = bounded.hosts;
+  units = bounded.units;
+  instances = bounded.instances;
+}
+rows_keep_bounds w (rows.Apps xs) bounded fits = record {
+  apps = fits.0;
+  accounts = bounded.accounts;
+  versions = bounded.versions;
+  hosts = bounded.hosts;
+  units = bounded.units;
+  instances = bounded.instances;
+}
+rows_keep_bounds w (rows.Versions xs) bounded fits = record {
+  versions = fits.0;
+  accounts = bounded.accounts;
+  apps = bounded.apps;
+  hosts = bounded.hosts;
+  units = bounded.units;
+  instances = bounded.instances;
+}
+rows_keep_bounds w (rows.Workunits xs) bounded fits = record {
+  units = fits.0;
+  instances = All-append HasFew w.units (map new_unit xs) bounded.instances (new_ones_few w.apps xs fits.1);
+  accounts = bounded.accounts;
+  apps = bounded.apps;
+  versions = bounded.versions;
+  hosts = bounded.hosts;
+}
 
 pub fitting_keeps_bounds : FittingKeepsBounds
-fitting_keeps_bounds w [] limit bounded fits = bounded
-fitting_keeps_bounds w (c ∷ cs) limit bounded fits =
-    fitting_keeps_bounds (applied_one w c) cs (subst (λ s. s.max_hosts ≤ most_hosts) (sym (settings_stay w c)) limit)
-    (fitting_keeps_one w c limit bounded fits.0) fits.1
+fitting_keeps_bounds w (delta.Rows new) limit bounded fits = rows_keep_bounds w new bounded fits
+fitting_keeps_bounds w (delta.Edits edits) limit bounded fits = edits_keep_bounds w edits limit bounded fits
+
+pub settings_stay_in : (w : World) (changes : Delta) → (applied w changes).settings ≡ w.settings
+settings_stay_in w (delta.Rows (rows.Accounts xs)) = refl
+settings_stay_in w (delta.Rows (rows.Apps xs)) = refl
+settings_stay_in w (delta.Rows (rows.Versions xs)) = refl
+settings_stay_in w (delta.Rows (rows.Workunits xs)) = refl
+settings_stay_in w (delta.Edits edits) = all_settings_stay w edits

@@ -112,6 +112,3 @@ length_good xs =
 
 -- for the loop that puts the good reports in order
 pub ruleset put_steps = (put_from-none, put_from-success, put_from-other, put_from-all)
-
--- for the loop that looks for a leader
-pub ruleset leader_steps = (leader_from-is, leader_from-here, leader_from-later, leader_from-last)

@@ -10,7 +10,7 @@ use Rattle.sched_book.specs.Imports.{first_known, same_account, same_app, same_v
 use Rattle.sched_book.specs.Names.{instance_name, name_parts}
 use Rattle.sched_book.specs.Limits.{most_hosts, IsBounded}
 use Rattle.sched_book.specs.Delta.{applied, Fits}
-use Rattle.sched_book.specs.declared.delta.Change.{Change}
+use Rattle.sched_book.specs.declared.delta.Delta.{Delta}
 use Rattle.sched_book.specs.Count.{has_failed}
 use Rattle.sched_book.specs.Places.{instance_at, place_named, status_at}
 use Rattle.sched_book.specs.Reports.{first_reports, awaits_report, with_report, recorded}
@@ -116,7 +116,7 @@ SplitNamesAreMade = (name unit : List ℕ) (number : ℕ) → name_parts name �
 
 -- changes that fit keep every table within its bounds
 abbrev pub FittingKeepsBounds : Type 0
-FittingKeepsBounds = (w : World) (changes : List Change) → w.settings.max_hosts ≤ most_hosts → IsBounded w → Fits w changes → IsBounded (applied w changes)
+FittingKeepsBounds = (w : World) (changes : Delta) → w.settings.max_hosts ≤ most_hosts → IsBounded w → Fits w changes → IsBounded (applied w changes)
 
 -- no row of a list has the name of a known row or of a row before it
 abbrev pub HaveNewNames : {X : Type 0} → (X → X → Bool) → List X → List X → Type 0

@@ -1,14 +1,16 @@
 //! Making changes to a world.
 
 ghost use Rattle.std.specs.Prelude.{◌≡◌, IfOk, OnOk};
-ghost use Rattle.sched_book.specs.Delta.{set_at, set_nth, with_instance, applied_one, applied};
+ghost use Rattle.sched_book.specs.Delta.{set_at, set_nth, with_instance, edited_one, edited, applied};
+ghost use Rattle.sched_book.specs.Imports.{with_rows};
 ghost use Rattle.sched_book.specs.Classes.{with_class};
 ghost use Rattle.sched_book.specs.Reports.{modify_nth};
 
-use crate::delta::{Change, Delta, changed_book, classed_book, new_book};
+use crate::delta::{Delta, Edit, changed_book, classed_book, new_books};
 use crate::desk::Unavailable;
 use crate::instance::{Instance, Place, UnitBook};
 use crate::look_ups::copy_of;
+use crate::rows::Rows;
 use crate::world::World;
 use std::alloc::Global;
 use texts::{Listed, Memory, Text};
@@ -68,18 +70,36 @@ fn put_class(books: &mut Listed<UnitBook>, unit: u32, class: &Text) -> Result<()
     Ok(())
 }
 
-/// Makes one change.
-fn make(alloc: Global, world: &mut World, change: &Change) -> Result<(), Unavailable>
-    ensures { OnOk result (world.new ≡ applied_one world.old change.now) }
+/// Makes one edit.
+fn make(world: &mut World, edit: &Edit) -> Result<(), Memory>
+    ensures { OnOk result (world.new ≡ edited_one world.old edit.now) }
 {
-    match change {
-        Change::Account(account) => world.accounts.push(account.clone()?)?,
-        Change::App(app) => world.apps.push(app.clone()?)?,
-        Change::Version(version) => world.versions.push(version.clone()?)?,
-        Change::Workunit(unit) => world.units.push(new_book(alloc, unit)?)?,
-        Change::Host { number, row } => set_nth(&mut world.hosts, *number, copy_of(row)?)?,
-        Change::Instance { place, row } => put_instance(&mut world.units, *place, copy_of(row)?)?,
-        Change::Class { unit, class } => put_class(&mut world.units, *unit, class)?,
+    match edit {
+        Edit::Host { number, row } => set_nth(&mut world.hosts, *number, copy_of(row)?),
+        Edit::Instance { place, row } => put_instance(&mut world.units, *place, copy_of(row)?),
+        Edit::Class { unit, class } => put_class(&mut world.units, *unit, class),
+    }
+}
+
+/// Makes edits in turn.
+fn make_all(world: &mut World, edits: &[Edit]) -> Result<(), Memory>
+    ensures { OnOk result (world.new ≡ edited world.old edits.now) }
+{
+    for edit in edits {
+        make(world, edit)?;
+    }
+    Ok(())
+}
+
+/// Appends copies of rows. A workunit comes with its first instances.
+fn add_rows(alloc: Global, world: &mut World, rows: &Rows) -> Result<(), Unavailable>
+    ensures { OnOk result (world.new ≡ with_rows world.old rows.now) }
+{
+    match rows {
+        Rows::Accounts(accounts) => world.accounts.append(accounts.clone()?)?,
+        Rows::Apps(apps) => world.apps.append(apps.clone()?)?,
+        Rows::Versions(versions) => world.versions.append(versions.clone()?)?,
+        Rows::Workunits(units) => world.units.append(new_books(alloc, units.as_slice())?)?,
     }
     Ok(())
 }
@@ -89,8 +109,9 @@ pub(crate) fn changed(alloc: Global, world: &World, delta: &Delta) -> Result<Wor
     ensures { IfOk result (λ changed. changed ≡ applied world.now delta.now) }
 {
     let mut changed = copy_of(world)?;
-    for change in delta.as_slice() {
-        make(alloc, &mut changed, change)?;
+    match delta {
+        Delta::Rows(rows) => add_rows(alloc, &mut changed, rows)?,
+        Delta::Edits(edits) => make_all(&mut changed, edits.as_slice())?,
     }
     Ok(changed)
 }

@@ -1,6 +1,6 @@
-//! Changes of a world.
+//! Changes of a world: the rows of an import, or the edits of a call or of a tick.
 
-ghost use Rattle.std.specs.Prelude.{◌≡◌, ◌≤◌, All, IsTrue, IfOk, length, replicate};
+ghost use Rattle.std.specs.Prelude.{◌≡◌, ◌≤◌, All, IsTrue, IfOk, length, map, replicate};
 ghost use Rattle.sched_book.specs.Settle.{fresh};
 ghost use Rattle.sched_book.specs.Limits.{IsBounded};
 ghost use Rattle.sched_book.specs.Imports.{new_unit};
@@ -15,22 +15,14 @@ use crate::limits::{
     MOST_ACCOUNTS, MOST_APPS, MOST_HOSTS, MOST_INSTANCES, MOST_VERSIONS, MOST_WORKUNITS,
 };
 use crate::look_ups::copy_of;
-use crate::rows::{Account, App, HostRow, Version, Workunit};
+use crate::rows::{HostRow, Rows, Workunit};
 use crate::world::World;
 use std::alloc::Global;
 use texts::{Listed, Memory, Text};
 
-/// One change of a world.
+/// One edit of a world, which a call or a tick makes.
 #[derive(Drop)]
-pub enum Change {
-    /// A further account, after the others.
-    Account(Account),
-    /// A further application.
-    App(App),
-    /// A further version.
-    Version(Version),
-    /// A further workunit, with its first instances.
-    Workunit(Workunit),
+pub enum Edit {
     /// A host put at a number: it replaces the host there, or is the next one.
     Host { number: u32, row: HostRow },
     /// An instance put at a place: it replaces the instance there, or is the next one of its workunit.
@@ -40,26 +32,31 @@ pub enum Change {
     Class { unit: u32, class: Text },
 }
 
-/// Changes in their order; later ones override earlier ones.
-pub type Delta = Listed<Change>;
+/// Edits in their order; later ones override earlier ones.
+pub type Edits = Listed<Edit>;
 
-/// So many instances that were given to nobody.
+/// What one message changes in a world.
+#[derive(Drop)]
+pub enum Delta {
+    /// The rows of an import. They follow those of their table. A new workunit comes with its first instances.
+    Rows(Rows),
+    /// The edits of a call or of a tick.
+    Edits(Edits),
+}
+
+/// `count` instances that were given to nobody.
 pub fn fresh_instances(alloc: Global, count: usize) -> Result<Listed<Instance>, Memory>
     ensures { IfOk result (λ instances. instances ≡ replicate count fresh) }
 {
     let mut instances = Listed::new(alloc);
     for _ in 0..count {
-        instances.push(Instance {
-            owner: None,
-            lapse: None,
-            report: None,
-        })?;
+        instances.push(Instance::unsent())?;
     }
     Ok(instances)
 }
 
 /// A new workunit with its instances. Refused if these are too many.
-pub(crate) fn new_book(alloc: Global, unit: &Workunit) -> Result<UnitBook, Unavailable>
+fn new_book(alloc: Global, unit: &Workunit) -> Result<UnitBook, Unavailable>
     ensures { IfOk result (λ book. book ≡ new_unit unit.now) }
 {
     let count = unit.target_nresults as usize;
@@ -70,6 +67,17 @@ pub(crate) fn new_book(alloc: Global, unit: &Workunit) -> Result<UnitBook, Unava
         unit: unit.clone()?,
         instances: fresh_instances(alloc, count)?,
     })
+}
+
+/// New workunits with their instances. Refused if one of them has too many.
+pub(crate) fn new_books(alloc: Global, units: &[Workunit]) -> Result<Listed<UnitBook>, Unavailable>
+    ensures { IfOk result (λ books. books ≡ map new_unit units.now) }
+{
+    let mut books = Listed::new(alloc);
+    for unit in units {
+        books.push(new_book(alloc, unit)?)?;
+    }
+    Ok(books)
 }
 
 /// A copy of the workunit with an instance put at a number.

@@ -2,8 +2,9 @@
 
 ghost use Rattle.std.specs.Prelude.{◌≡◌, Some};
 ghost use Rattle.sched_book.specs.Count.{tells_success, tells_error, is_judged, is_held, is_live, is_open, has_failed};
-ghost use Rattle.sched_book.specs.Places.{is_owned_by, is_held_by, was_sent, is_overdue};
+ghost use Rattle.sched_book.specs.Places.{is_before, is_owned_by, is_held_by, was_sent, is_overdue};
 ghost use Rattle.sched_book.specs.Reports.{awaits_report};
+ghost use Rattle.sched_book.specs.Settle.{fresh};
 
 use crate::moment::Moment;
 use crate::rows::Workunit;
@@ -83,6 +84,15 @@ pub enum Verdict {
     Invalid,
 }
 
+impl Place {
+    /// Whether it comes before another place: jobs are offered and sent in this order.
+    pub fn is_before(self, other: Place) -> bool
+        ensures { result ≡ is_before self other }
+    {
+        self.unit < other.unit || (self.unit == other.unit && self.number < other.number)
+    }
+}
+
 impl Outcome {
     /// Whether it is a success that was judged.
     pub fn is_judged_success(&self) -> bool
@@ -100,6 +110,17 @@ impl Outcome {
 }
 
 impl Instance {
+    /// An instance that was given to nobody.
+    pub fn unsent() -> Instance
+        ensures { result ≡ fresh }
+    {
+        Instance {
+            owner: None,
+            lapse: None,
+            report: None,
+        }
+    }
+
     /// Whether it was given to the host of this number.
     pub fn is_owned_by(&self, host: u32) -> bool
         ensures { result ≡ is_owned_by host self.now }

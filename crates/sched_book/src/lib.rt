@@ -30,7 +30,7 @@ mod versions;
 mod whole_numbers;
 pub mod world;
 
-pub use delta::{Change, Delta, fresh_instances};
+pub use delta::{Delta, Edit, Edits, fresh_instances};
 pub use desk::{Candidate, Counts, Desk, Flow, Placed, Taker, Unavailable, Units};
 pub use first_names::{Named, first_of_each};
 pub use instance::{Instance, Lapse, Outcome, Owner, Place, Status, UnitBook, Verdict};

@@ -12,18 +12,11 @@ use crate::instance::{Instance, Place, UnitBook};
 use crate::world::World;
 use texts::Memory;
 
-/// Whether one place is before another.
-pub(crate) fn is_place_before(place: Place, other: Place) -> bool
-    ensures { result ≡ is_before place other }
-{
-    place.unit < other.unit || (place.unit == other.unit && place.number < other.number)
-}
-
 /// Whether an instance is to be offered, if the offers begin at `from`.
 fn is_offered(from: Place, place: Place, instance: &Instance) -> bool
     ensures { result ≡ (is_none instance.now.owner && not (is_before place from)) }
 {
-    instance.owner.is_none() && !is_place_before(place, from)
+    instance.owner.is_none() && !place.is_before(from)
 }
 
 /// Offers the candidates of one workunit, and returns whether the taker wants more.

@@ -119,7 +119,7 @@ pub struct HostRow {
 }
 
 /// The rows of one import.
-#[derive(Drop)]
+#[derive(Clone, Drop)]
 pub enum Rows {
     Accounts(Listed<Account>),
     Apps(Listed<App>),
@@ -161,4 +161,10 @@ impl Same for HostRow {
     ghost use Rattle.std.proofs.Common.{rules};
 
     ghost exact = { λ host copy is_copy. Prim.search rules };
+}
+
+impl Same for Rows {
+    ghost use Rattle.std.proofs.Common.{rules};
+
+    ghost exact = { λ rows copy is_copy. Prim.search rules };
 }

@@ -2,11 +2,11 @@
 use Rattle.std.specs.Prelude.{◌≡◌, ◌≤◌, List, length, None}
 use Rattle.rpc_records.specs.Ranges.{IsInRange}
 use Rattle.rpc_records.specs.declared.request.Request.{Request}
-use Rattle.sched_book.specs.Delta.{Fits}
+use Rattle.sched_book.specs.Delta.{EditsFit}
 use Rattle.sched_book.specs.Imports.{AreChecked}
 use Rattle.sched_book.specs.Sound.{Sound}
 use Rattle.sched_book.specs.Step.{IsCaller, HasRoom, host_number, at_entry, host_at_entry}
-use Rattle.sched_book.specs.declared.delta.Change.{Change}
+use Rattle.sched_book.specs.declared.delta.Edit.{Edit}
 use Rattle.sched_book.specs.declared.machine.Call.{Call}
 use Rattle.sched_book.specs.declared.machine.Call.TheVariants as call
 use Rattle.sched_book.specs.declared.machine.Caller.{Caller}
@@ -37,10 +37,10 @@ pub record IsCalling (w : World) (r : Request) (k : Calling) : Type 0 where
   pub host : k.host ≡ host_at_entry w k.caller r
 
 -- The row of its host was put: the world is the one at entry, and what was put fits.
-pub record IsEntered (w : World) (r : Request) (k : Calling) (v : World) (changes : List Change) : Type 0 where
+pub record IsEntered (w : World) (r : Request) (k : Calling) (v : World) (changes : List Edit) : Type 0 where
   pub calling : IsCalling w r k
   pub left : v ≡ at_entry w k.caller r
-  pub fits : Fits w changes
+  pub fits : EditsFit w changes
 
 -- a call has no room for its host
 abbrev pub IsFull : World → Call → Type 0

@@ -3,11 +3,11 @@ use Rattle.std.specs.Prelude.{◌≡◌, ℕ, ◌+◌, Bool, true, false, IsTrue
 use Rattle.rpc_records.specs.declared.reply.Job.{Job}
 use Rattle.sched_book.specs.Names.{instance_name}
 use Rattle.sched_book.specs.Fits.{version_at_unit}
-use Rattle.sched_book.specs.Delta.{applied, FitsOne}
+use Rattle.sched_book.specs.Delta.{edited, EditFits}
 use Rattle.sched_book.specs.Places.{host_at, deadline_of}
 use Rattle.sched_book.specs.Step.{class_granted, with_owner, job_of}
-use Rattle.sched_book.specs.declared.delta.Change.{Change}
-use Rattle.sched_book.specs.declared.delta.Change.TheVariants as change
+use Rattle.sched_book.specs.declared.delta.Edit.{Edit}
+use Rattle.sched_book.specs.declared.delta.Edit.TheVariants as edit
 use Rattle.sched_book.specs.declared.instance.Instance.{Instance}
 use Rattle.sched_book.specs.declared.instance.Owner.{Owner}
 use Rattle.sched_book.specs.declared.rows.HostRow.{HostRow}
@@ -31,10 +31,10 @@ given_on None number host now = None
 given_on (Some k) number host now = option_map (with_owner (owner_for host now k.unit.delay_bound)) (slice_get k.present number)
 
 -- The changes fit a world whose workunits are within limits, and leave a world that has the host.
-pub record FitWithHost (w : World) (host : ℕ) (changes : List Change) : Type 0 where
+pub record FitWithHost (w : World) (host : ℕ) (changes : List Edit) : Type 0 where
   pub units : AreUnitsInLimits w
   pub within : FitWithin w changes
-  pub stands : IsTrue (is_some (host_at (applied w changes) host))
+  pub stands : IsTrue (is_some (host_at (edited w changes) host))
 
 -- a job was lost and is sent again
 abbrev pub is_again : Sending → Bool
@@ -59,4 +59,4 @@ with_classes w jobs = fold (λ (v : World) (j : Granted). class_granted v j.plac
 
 -- each job's workunit exists, and the class of its version is a word
 abbrev pub CanTake : World → List Granted → Type 0
-CanTake w jobs = All (λ (j : Granted). FitsOne w (change.Class j.place.unit j.version.class)) jobs
+CanTake w jobs = All (λ (j : Granted). EditFits w (edit.Class j.place.unit j.version.class)) jobs

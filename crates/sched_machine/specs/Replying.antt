@@ -3,11 +3,11 @@ use Rattle.std.specs.Prelude.{◌≡◌, ℕ, ◌+◌, ◌++◌, true, false, Li
 use Rattle.rpc_records.specs.declared.reply.EndWord.{EndWord}
 use Rattle.rpc_records.specs.declared.reply.Reply.{Reply}
 use Rattle.rpc_records.specs.declared.request.Request.{Request}
-use Rattle.sched_book.specs.Delta.{Fits}
+use Rattle.sched_book.specs.Delta.{EditsFit}
 use Rattle.sched_book.specs.Grant.{IsGrant, end_word}
 use Rattle.sched_book.specs.Places.{host_credit, user_credit}
 use Rattle.sched_book.specs.Step.{after_settlement, asking_of, after_grant, job_at, user_name}
-use Rattle.sched_book.specs.declared.delta.Change.{Change}
+use Rattle.sched_book.specs.declared.delta.Edit.{Edit}
 use Rattle.sched_book.specs.declared.instance.Place.{Place}
 use Rattle.sched_book.specs.declared.world.World.{World}
 use Rattle.quorum_credit.specs.Scores.{credits_in}
@@ -26,12 +26,12 @@ pub record AreReplyParts (w v : World) (ready : Ready) (jobs : List Place) (told
   pub user_name : told.user_name ≡ user_name w ready.call.caller.account
 
 -- New jobs were chosen and given to the host of a call. The reply says so, and why there are no more.
-pub record IsGranted (w : World) (r : Request) (now : ℕ) (ready : Ready) (v : World) (changes : List Change) (told : Told) (word : EndWord) : Type 0 where
+pub record IsGranted (w : World) (r : Request) (now : ℕ) (ready : Ready) (v : World) (changes : List Edit) (told : Told) (word : EndWord) : Type 0 where
   pub jobs : List Place
   pub grant : IsGrant (after_settlement w ready.call.caller r now) (asking_of w ready.call.caller r now) jobs
   pub ends : word ≡ end_word (after_settlement w ready.call.caller r now) (asking_of w ready.call.caller r now) jobs
   pub left : v ≡ after_grant w ready.call.caller r now jobs
-  pub fits : Fits w changes
+  pub fits : EditsFit w changes
   pub tells : AreReplyParts w v ready jobs told
 
 -- the reply, made of its parts

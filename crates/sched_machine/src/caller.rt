@@ -47,9 +47,9 @@ fn renew_host<S: Draft>(
     request: &Request,
 ) -> Result<Calling, Unavailable>
     ensures works { S.works sheet.old sheet.new }
-    ensures entered { Trusted S.Units sheet.old sheet.new (IfOk result (λ call. S.delta sheet.old ≡ [] → Sound (S.entry sheet.old) →
+    ensures entered { Trusted S.Units sheet.old sheet.new (IfOk result (λ call. S.edits sheet.old ≡ [] → Sound (S.entry sheet.old) →
         IsAdmitted (S.entry sheet.old) caller.now request.now → caller.now.host ≡ Some number →
-        IsEntered (S.entry sheet.old) request.now call (S.world sheet.new) (S.delta sheet.new))) }
+        IsEntered (S.entry sheet.old) request.now call (S.world sheet.new) (S.edits sheet.new))) }
     ensures caller { IfOk result (λ call. call.caller ≡ caller.now) }
 {
     let Some(before) = sheet.host(alloc, number)? else {
@@ -71,9 +71,9 @@ fn make_host<S: Draft>(
     request: &Request,
 ) -> Result<Calling, StepError>
     ensures works { S.works sheet.old sheet.new }
-    ensures entered { Trusted S.Units sheet.old sheet.new (IfOk result (λ call. S.delta sheet.old ≡ [] → Sound (S.entry sheet.old) →
+    ensures entered { Trusted S.Units sheet.old sheet.new (IfOk result (λ call. S.edits sheet.old ≡ [] → Sound (S.entry sheet.old) →
         IsAdmitted (S.entry sheet.old) caller.now request.now → caller.now.host ≡ None →
-        IsEntered (S.entry sheet.old) request.now call (S.world sheet.new) (S.delta sheet.new))) }
+        IsEntered (S.entry sheet.old) request.now call (S.world sheet.new) (S.edits sheet.new))) }
     ensures caller { IfOk result (λ call. call.caller ≡ caller.now) }
     ensures room { Trusted S.Units sheet.old sheet.new (IfOk result (λ call. HasRoom (S.entry sheet.old) caller.now)) }
     ensures full { Trusted S.Units sheet.old sheet.new (IsErrOf result error.HostsFull →
@@ -92,7 +92,7 @@ fn make_host<S: Draft>(
     }
 }
 
-/// Puts the row of a caller's host, as the call gives it, onto the sheet of the call, before any other change. Refused
+/// Puts the row of a caller's host, as the call gives it, onto the sheet of the call, before any other edit. Refused
 /// if the host is new and there may be no more hosts.
 pub(crate) fn enter<S: Draft>(
     alloc: Global,
@@ -101,9 +101,9 @@ pub(crate) fn enter<S: Draft>(
     request: &Request,
 ) -> Result<Calling, StepError>
     ensures works { S.works sheet.old sheet.new }
-    ensures entered { Trusted S.Units sheet.old sheet.new (IfOk result (λ call. S.delta sheet.old ≡ [] → Sound (S.entry sheet.old) →
+    ensures entered { Trusted S.Units sheet.old sheet.new (IfOk result (λ call. S.edits sheet.old ≡ [] → Sound (S.entry sheet.old) →
         IsAdmitted (S.entry sheet.old) caller.now request.now →
-        IsEntered (S.entry sheet.old) request.now call (S.world sheet.new) (S.delta sheet.new))) }
+        IsEntered (S.entry sheet.old) request.now call (S.world sheet.new) (S.edits sheet.new))) }
     ensures caller { IfOk result (λ call. call.caller ≡ caller.now) }
     ensures room { Trusted S.Units sheet.old sheet.new (IfOk result (λ call. HasRoom (S.entry sheet.old) caller.now)) }
     ensures full { Trusted S.Units sheet.old sheet.new (IsErrOf result error.HostsFull → LacksRoom (S.entry sheet.old) caller.now) }

@@ -1,7 +1,7 @@
 //! What happens to the jobs that a call's client lost, and which of them are sent again.
 
 ghost use Rattle.std.specs.Prelude.{◌≡◌, IfOk, OnOk};
-ghost use Rattle.sched_book.specs.Delta.{Fits};
+ghost use Rattle.sched_book.specs.Delta.{EditsFit};
 ghost use Rattle.sched_book.specs.Places.{held_by};
 ghost use Rattle.sched_book.specs.Step.{after_reports, after_lost, resent_of};
 ghost use Rattle.sched_book.specs.Trusted.{Trusted};
@@ -47,7 +47,7 @@ pub(crate) fn lose<S: Draft>(
     ensures fits { Trusted S.Units sheet.old sheet.new (OnOk result (IsCalling (S.entry sheet.old) request.now call.now →
         held.now ≡ held_by (S.entry sheet.old) call.now.number →
         S.world sheet.old ≡ after_reports (S.entry sheet.old) call.now.caller request.now →
-        Fits (S.entry sheet.old) (S.delta sheet.old) → Fits (S.entry sheet.old) (S.delta sheet.new))) }
+        EditsFit (S.entry sheet.old) (S.edits sheet.old) → EditsFit (S.entry sheet.old) (S.edits sheet.new))) }
     ensures resent { Trusted S.Units sheet.old sheet.new (IfOk result (λ places. IsCalling (S.entry sheet.old) request.now call.now →
         held.now ≡ held_by (S.entry sheet.old) call.now.number →
         S.world sheet.old ≡ after_reports (S.entry sheet.old) call.now.caller request.now →

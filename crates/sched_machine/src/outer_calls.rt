@@ -17,7 +17,7 @@ use crate::admission::{AdmissionError, caller_of};
 use crate::step_error::StepError;
 use crate::steps::{step_call, step_import, step_tick};
 use rpc_records::Request;
-use sched_book::{Answered, Call, Caller, Delta, Desk, Moment, Unavailable};
+use sched_book::{Answered, Call, Caller, Delta, Desk, Moment, Unavailable, copy_of};
 use std::alloc::Global;
 use std::error::Error;
 use std::fmt;
@@ -119,7 +119,10 @@ pub fn step<D: Desk>(
             Ok((delta, Answered::Rpc(reply)))
         }
         Call::Import(rows) => {
-            let (delta, count) = step_import(alloc, rows)?;
+            let Ok(rows) = copy_of(rows) else {
+                return Err(Refused::Unavailable);
+            };
+            let (delta, count) = step_import(rows)?;
             Ok((delta, Answered::Imported(count)))
         }
         Call::Tick => {

@@ -49,7 +49,7 @@ fn give_one<S: Draft>(
     ensures left { Trusted S.Units sheet.old sheet.new (
         OnOk result (S.world sheet.new ≡ grant_one host now (S.world sheet.old) place)) }
     ensures fits { Trusted S.Units sheet.old sheet.new (OnOk result (
-        FitWithHost (S.entry sheet.old) host (S.delta sheet.old) → FitWithHost (S.entry sheet.old) host (S.delta sheet.new))) }
+        FitWithHost (S.entry sheet.old) host (S.edits sheet.old) → FitWithHost (S.entry sheet.old) host (S.edits sheet.new))) }
 {
     sheet.read(alloc, place.unit)?;
     match given_on(sheet.leaf(place.unit), place.number, host, now)? {
@@ -73,7 +73,7 @@ fn own_all<S: Draft>(
     ensures left { Trusted S.Units sheet.old sheet.new (
         OnOk result (S.world sheet.new ≡ granted (S.world sheet.old) host now (places_of jobs.now))) }
     ensures fits { Trusted S.Units sheet.old sheet.new (OnOk result (
-        FitWithHost (S.entry sheet.old) host (S.delta sheet.old) → FitWithHost (S.entry sheet.old) host (S.delta sheet.new))) }
+        FitWithHost (S.entry sheet.old) host (S.edits sheet.old) → FitWithHost (S.entry sheet.old) host (S.edits sheet.new))) }
 {
     for job in jobs {
         give_one(alloc, sheet, host, now, job.place)?;
@@ -88,7 +88,7 @@ fn take_classes<S: Draft>(sheet: &mut S, jobs: &[Granted]) -> Result<(), Unavail
     ensures left { Trusted S.Units sheet.old sheet.new (
         OnOk result (S.world sheet.new ≡ with_classes (S.world sheet.old) jobs.now)) }
     ensures fits { Trusted S.Units sheet.old sheet.new (OnOk result ((host : ℕ) → CanTake (S.entry sheet.old) jobs.now →
-        FitWithHost (S.entry sheet.old) host (S.delta sheet.old) → FitWithHost (S.entry sheet.old) host (S.delta sheet.new))) }
+        FitWithHost (S.entry sheet.old) host (S.edits sheet.old) → FitWithHost (S.entry sheet.old) host (S.edits sheet.new))) }
 {
     for job in jobs {
         sheet.put_class(job.place.unit, &job.version.class)?;
@@ -109,7 +109,7 @@ pub(crate) fn give<S: Draft>(
     ensures left { Trusted S.Units sheet.old sheet.new (OnOk result (
         S.world sheet.new ≡ with_classes (granted (S.world sheet.old) host now (places_of jobs.now)) jobs.now)) }
     ensures fits { Trusted S.Units sheet.old sheet.new (OnOk result (CanTake (S.entry sheet.old) jobs.now →
-        FitWithHost (S.entry sheet.old) host (S.delta sheet.old) → FitWithHost (S.entry sheet.old) host (S.delta sheet.new))) }
+        FitWithHost (S.entry sheet.old) host (S.edits sheet.old) → FitWithHost (S.entry sheet.old) host (S.edits sheet.new))) }
 {
     own_all(alloc, sheet, host, now, jobs)?;
     take_classes(sheet, jobs)

@@ -144,9 +144,9 @@ pub(crate) fn prepare<S: Draft>(
     now: Moment,
 ) -> Result<Ready, StepError>
     ensures works { S.works sheet.old sheet.new }
-    ensures ready { Trusted S.Units sheet.old sheet.new (IfOk result (λ ready. S.delta sheet.old ≡ [] → Sound (S.entry sheet.old) →
+    ensures ready { Trusted S.Units sheet.old sheet.new (IfOk result (λ ready. S.edits sheet.old ≡ [] → Sound (S.entry sheet.old) →
         IsAdmitted (S.entry sheet.old) caller.now request.now →
-        IsReady (S.entry sheet.old) request.now now ready (S.world sheet.new) (S.delta sheet.new))) }
+        IsReady (S.entry sheet.old) request.now now ready (S.world sheet.new) (S.edits sheet.new))) }
     ensures caller { IfOk result (λ ready. ready.call.caller ≡ caller.now) }
     ensures room { Trusted S.Units sheet.old sheet.new (IfOk result (λ ready. HasRoom (S.entry sheet.old) caller.now)) }
     ensures full { Trusted S.Units sheet.old sheet.new (IsErrOf result error.HostsFull → LacksRoom (S.entry sheet.old) caller.now) }

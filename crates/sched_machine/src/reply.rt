@@ -58,8 +58,8 @@ pub(crate) fn conclude<S: Draft>(
     ensures left { Trusted S.Units sheet.old sheet.new (OnOk result (
         S.world sheet.new ≡ with_classes (granted (S.world sheet.old) ready.now.call.number now (places_of jobs.now)) jobs.now)) }
     ensures fits { Trusted S.Units sheet.old sheet.new (OnOk result (CanTake (S.entry sheet.old) jobs.now →
-        FitWithHost (S.entry sheet.old) ready.now.call.number (S.delta sheet.old) →
-        FitWithHost (S.entry sheet.old) ready.now.call.number (S.delta sheet.new))) }
+        FitWithHost (S.entry sheet.old) ready.now.call.number (S.edits sheet.old) →
+        FitWithHost (S.entry sheet.old) ready.now.call.number (S.edits sheet.new))) }
     ensures told { Trusted S.Units sheet.old sheet.new (IfOk result (λ told.
         IsCaller (S.entry sheet.old) ready.now.call.caller request.now → AreRunBy (S.entry sheet.old) ready.now.call.host jobs.now →
         AreReplyParts (S.entry sheet.old) (S.world sheet.new) ready.now (places_of jobs.now) told)) }

@@ -38,9 +38,9 @@ pub(crate) fn settle_call<S: Draft>(
 ) -> Result<SettledCall, Unavailable>
     ensures works { S.works sheet.old sheet.new }
     ensures settled { Trusted S.Units sheet.old sheet.new (IfOk result (λ done.
-        IsEntered (S.entry sheet.old) request.now call.now (S.world sheet.old) (S.delta sheet.old) →
+        IsEntered (S.entry sheet.old) request.now call.now (S.world sheet.old) (S.edits sheet.old) →
         held.now ≡ held_by (S.entry sheet.old) call.now.number →
-        IsSettledCall (S.entry sheet.old) request.now call.now now done (S.world sheet.new) (S.delta sheet.new))) }
+        IsSettledCall (S.entry sheet.old) request.now call.now now done (S.world sheet.new) (S.edits sheet.new))) }
 {
     let acked = record_on(alloc, sheet, call.number, request)?;
     let resent = lose(alloc, sheet, call, held, request, now)?;

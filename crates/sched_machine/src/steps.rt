@@ -1,7 +1,7 @@
 //! One step of the job machine: a call, an import or a tick.
 
 ghost use Rattle.std.specs.Prelude.{◌≡◌, [], IfOk, IsErrOf};
-ghost use Rattle.sched_book.specs.Delta.{applied, Fits};
+ghost use Rattle.sched_book.specs.Delta.{edited, EditsFit, applied, Fits};
 ghost use Rattle.sched_book.specs.Imports.{AreChecked};
 ghost use Rattle.sched_book.specs.Sound.{Sound};
 ghost use Rattle.sched_book.specs.declared.world.World.{World};
@@ -13,7 +13,7 @@ ghost use Rattle.sched_machine.specs.Prepared.{IsReady};
 ghost use Rattle.sched_machine.specs.Replying.{IsGranted};
 ghost use Rattle.sched_machine.specs.declared.step_error.StepError.TheVariants as error;
 
-use crate::imports::{changes_of, row_count};
+use crate::imports::row_count;
 use crate::preparing::{Ready, prepare};
 use crate::reply::{Told, conclude, reply_of};
 use crate::step_error::StepError;
@@ -36,8 +36,8 @@ fn grant_jobs<D: Desk>(
 ) -> Result<(Told, EndWord), Unavailable>
     ensures reads { D.reads desk.old desk.new }
     ensures step { Trusted D.Units desk.old desk.new (IsPageOf (D.world desk.old) page.old → IfOk result (λ told.
-        IsReady (D.world desk.old) request.now now ready.now (applied (D.world desk.old) page.old.delta) page.old.delta →
-        IsGranted (D.world desk.old) request.now now ready.now (applied (D.world desk.old) page.new.delta) page.new.delta told.0 told.1)) }
+        IsReady (D.world desk.old) request.now now ready.now (edited (D.world desk.old) page.old.edits) page.old.edits →
+        IsGranted (D.world desk.old) request.now now ready.now (edited (D.world desk.old) page.new.edits) page.new.edits told.0 told.1)) }
 {
     let wish = &ready.wish;
     let grant = choose(
@@ -62,7 +62,7 @@ fn grant_jobs<D: Desk>(
     Ok((told, grant.end_word))
 }
 
-/// Acts on a call with an empty page. Afterwards the page has the changes of the call; returns the reply.
+/// Acts on a call with an empty page. Afterwards the page has the edits of the call; returns the reply.
 fn act<D: Desk>(
     alloc: Global,
     desk: &mut D,
@@ -72,11 +72,11 @@ fn act<D: Desk>(
     now: Moment,
 ) -> Result<Reply, StepError>
     ensures reads { D.reads desk.old desk.new }
-    ensures step { Trusted D.Units desk.old desk.new (IsPageOf (D.world desk.old) page.old → IfOk result (λ reply. page.old.delta ≡ [] →
+    ensures step { Trusted D.Units desk.old desk.new (IsPageOf (D.world desk.old) page.old → IfOk result (λ reply. page.old.edits ≡ [] →
         Sound (D.world desk.old) → IsAdmitted (D.world desk.old) caller.now request.now →
-        RpcStep (D.world desk.old) caller.now request.now now (applied (D.world desk.old) page.new.delta) reply)) }
-    ensures fits { Trusted D.Units desk.old desk.new (IsPageOf (D.world desk.old) page.old → IfOk result (λ reply. page.old.delta ≡ [] →
-        Sound (D.world desk.old) → IsAdmitted (D.world desk.old) caller.now request.now → Fits (D.world desk.old) page.new.delta)) }
+        RpcStep (D.world desk.old) caller.now request.now now (edited (D.world desk.old) page.new.edits) reply)) }
+    ensures fits { Trusted D.Units desk.old desk.new (IsPageOf (D.world desk.old) page.old → IfOk result (λ reply. page.old.edits ≡ [] →
+        Sound (D.world desk.old) → IsAdmitted (D.world desk.old) caller.now request.now → EditsFit (D.world desk.old) page.new.edits)) }
     ensures room { Trusted D.Units desk.old desk.new (IsPageOf (D.world desk.old) page.old → IfOk result (λ reply. HasRoom (D.world desk.old) caller.now)) }
     ensures full { Trusted D.Units desk.old desk.new (IsPageOf (D.world desk.old) page.old → IsErrOf result error.HostsFull →
         LacksRoom (D.world desk.old) caller.now) }
@@ -116,23 +116,23 @@ pub fn step_call<D: Desk>(
 {
     let mut page = Page::new(alloc, desk.settings(alloc)?);
     let reply = act(alloc, desk, &mut page, caller, request, now)?;
-    Ok((page.delta, reply))
+    Ok((Delta::Edits(page.edits), reply))
 }
 
-/// The step of an import of checked rows: the changes that add them, and how many there are. They are the same for every
+/// The step of an import of checked rows: the change that adds them, and how many there are. It is the same for every
 /// world.
 ///
 /// # Errors
 ///
-/// [`Unavailable`] if there is no memory.
+/// [`Unavailable`] if there are more rows than 32 bits count, which no checked import has.
 #[tactic(auto, using(crate::proofs::Rows::Added::import_steps))]
-pub fn step_import(alloc: Global, rows: &Rows) -> Result<(Delta, u32), Unavailable>
-    ensures step { IfOk result (λ done. (w : World) → Sound w → AreChecked w rows.now → ImportStep w rows.now (applied w done.0) done.1) }
-    ensures sound { IfOk result (λ done. (w : World) → Sound w → AreChecked w rows.now → Sound (applied w done.0)) }
-    ensures fits { IfOk result (λ done. (w : World) → Sound w → AreChecked w rows.now → Fits w done.0) }
+pub fn step_import(rows: Rows) -> Result<(Delta, u32), Unavailable>
+    ensures step { IfOk result (λ done. (w : World) → Sound w → AreChecked w rows → ImportStep w rows (applied w done.0) done.1) }
+    ensures sound { IfOk result (λ done. (w : World) → Sound w → AreChecked w rows → Sound (applied w done.0)) }
+    ensures fits { IfOk result (λ done. (w : World) → Sound w → AreChecked w rows → Fits w done.0) }
 {
-    let delta = changes_of(alloc, rows)?;
-    Ok((delta, row_count(rows)?))
+    let count = row_count(&rows)?;
+    Ok((Delta::Rows(rows), count))
 }
 
 /// The step of a tick: what lapses by this moment, and how many instances do. The desk is only read.
@@ -157,6 +157,6 @@ pub fn step_tick<D: Desk>(
         // `sched_book::laws::instances_are_few`.
         return Err(Unavailable);
     };
-    let delta = lapse_places(alloc, desk, places.as_slice())?;
-    Ok((delta, count))
+    let edits = lapse_places(alloc, desk, places.as_slice())?;
+    Ok((Delta::Edits(edits), count))
 }

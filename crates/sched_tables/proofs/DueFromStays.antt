@@ -1,23 +1,27 @@
 -- Moments before which nothing is due: in the world that was looked through, and in a world with changes made.
 use Rattle.std.proofs.Common.{◌≡◌, ℕ, zero, suc, ◌+◌, ◌-◌, ◌≤◌, max, Bool, true, false, ◌&&◌, cond, eqb, List, [], ◌∷◌, ◌++◌, length, Option, Some, None, refl, sym, ◌⊎◌, inl, inr, arith}
-use Rattle.std.specs.Prelude.{◌==◌, nat_lt, slice_set, replicate}
+use Rattle.std.specs.Prelude.{◌==◌, fold, map, nat_lt, slice_set, replicate}
 use Rattle.std.specs.List.{AllByRecursion}
 use Rattle.std.proofs.lemmas.Bool.Decides.{nat_tests}
 use Rattle.std.proofs.lemmas.List.Elements.{All-replicate, recursion_from_All}
 use Rattle.sqlite_keyed.proofs.ListLemmas.{all-append, all_weaker}
 use Rattle.sched_book.specs.Classes.{with_class}
 use Rattle.sched_book.specs.Count.{is_held}
-use Rattle.sched_book.specs.Delta.{set_at, with_instance, applied_one, applied}
-use Rattle.sched_book.specs.Imports.{new_unit}
+use Rattle.sched_book.specs.Delta.{set_at, with_instance, edited_one, edited, applied}
+use Rattle.sched_book.specs.Imports.{new_unit, with_rows}
 use Rattle.sched_book.specs.Places.{option_any, is_overdue, overdue, places_in, places_among}
 use Rattle.sched_book.specs.Reports.{modify_at, modify_nth}
 use Rattle.sched_book.specs.Settle.{fresh}
-use Rattle.sched_book.specs.declared.delta.Change.{Change}
-use Rattle.sched_book.specs.declared.delta.Change.TheVariants as change
+use Rattle.sched_book.specs.declared.delta.Delta.{Delta}
+use Rattle.sched_book.specs.declared.delta.Delta.TheVariants as delta
+use Rattle.sched_book.specs.declared.delta.Edit.{Edit}
+use Rattle.sched_book.specs.declared.delta.Edit.TheVariants as edit
 use Rattle.sched_book.specs.declared.instance.Instance.{Instance}
 use Rattle.sched_book.specs.declared.instance.Owner.{Owner}
 use Rattle.sched_book.specs.declared.instance.Place.{Place}
 use Rattle.sched_book.specs.declared.instance.UnitBook.{UnitBook}
+use Rattle.sched_book.specs.declared.rows.Rows.TheVariants as kinds
+use Rattle.sched_book.specs.declared.rows.Workunit.{Workunit}
 use Rattle.sched_book.specs.declared.world.World.{World}
 use Rattle.table_desk.proofs.PlacesNone.{append_none, cons-nil}
 use Rattle.table_reading.specs.Deadlines.{lowered_to}
@@ -140,40 +144,49 @@ raised_is w due_from now (p ∷ ps) some is = let more : (length (p ∷ ps) == 0
 
 -- ---- changes
 
-below_due_from : (due_from : ℕ) (c : Change) → lowered_by due_from c ≤ due_from
-below_due_from due_from (change.Account a) = omega arith
-below_due_from due_from (change.App a) = omega arith
-below_due_from due_from (change.Version v) = omega arith
-below_due_from due_from (change.Workunit u) = omega arith
-below_due_from due_from (change.Host number h) = omega arith
-below_due_from due_from (change.Instance p x) = low_enough due_from x
-below_due_from due_from (change.Class unit class) = omega arith
+below_due_from : (due_from : ℕ) (e : Edit) → lowered_by due_from e ≤ due_from
+below_due_from due_from (edit.Host number h) = omega arith
+below_due_from due_from (edit.Instance p x) = low_enough due_from x
+below_due_from due_from (edit.Class unit class) = omega arith
 
-lowered_one : (w : World) (due_from : ℕ) (c : Change) → NothingIsDueBefore w due_from → NothingIsDueBefore (applied_one w c) (lowered_by due_from c)
-lowered_one w due_from (change.Account a) is = is
-lowered_one w due_from (change.App a) is = is
-lowered_one w due_from (change.Version v) is = is
-lowered_one w due_from (change.Workunit u) is =
-    is_due_from (applied_one w (change.Workunit u)) due_from
-    (all-append (HasNone (is_overdue due_from)) w.units (new_unit u ∷ []) (none_due w due_from is) (recursion_from_All (Fails (is_overdue due_from)) (replicate u.target_nresults fresh) (All-replicate (Fails (is_overdue due_from)) u.target_nresults fresh refl), tt))
-lowered_one w due_from (change.Host number h) is = is
-lowered_one w due_from (change.Instance p x) is =
+lowered_one : (w : World) (due_from : ℕ) (e : Edit) → NothingIsDueBefore w due_from → NothingIsDueBefore (edited_one w e) (lowered_by due_from e)
+lowered_one w due_from (edit.Host number h) is = is
+lowered_one w due_from (edit.Instance p x) is =
     let lower = lowered_to due_from x in
-    is_due_from (applied_one w (change.Instance p x)) lower
+    is_due_from (edited_one w (edit.Instance p x)) lower
     (all_modified (HasNone (is_overdue lower)) (with_instance p.number x) (λ b none. all_put (Fails (is_overdue lower)) b.instances p.number x (not_due due_from lower x (omega arith)) none) w.units p.unit
     (lower_due w.units due_from lower (low_enough due_from x) (none_due w due_from is)))
-lowered_one w due_from (change.Class unit class) is =
-    is_due_from (applied_one w (change.Class unit class)) due_from (all_modified (HasNone (is_overdue due_from)) (with_class class) (λ b none. none) w.units unit (none_due w due_from is))
+lowered_one w due_from (edit.Class unit class) is =
+    is_due_from (edited_one w (edit.Class unit class)) due_from (all_modified (HasNone (is_overdue due_from)) (with_class class) (λ b none. none) w.units unit (none_due w due_from is))
+
+lowered_by_all : (w : World) (due_from : ℕ) (es : List Edit) → NothingIsDueBefore w due_from → NothingIsDueBefore (edited w es) (fold lowered_by due_from es)
+lowered_by_all w due_from [] is = is
+lowered_by_all w due_from (e ∷ es) is = lowered_by_all (edited_one w e) (lowered_by due_from e) es (lowered_one w due_from e is)
+
+-- no instance of a new workunit is due
+fresh_due : (due_from : ℕ) (us : List Workunit) → NoneDue (map new_unit us) due_from
+fresh_due due_from [] = tt
+fresh_due due_from (u ∷ us) =
+    (recursion_from_All (Fails (is_overdue due_from)) (replicate u.target_nresults fresh) (All-replicate (Fails (is_overdue due_from)) u.target_nresults fresh refl), fresh_due due_from us)
 
 -- Lowered by changes, the moment is one for the world after them.
-pub lowered_then : (w : World) (due_from : ℕ) (cs : List Change) → NothingIsDueBefore w due_from → NothingIsDueBefore (applied w cs) (lowered due_from cs)
-lowered_then w due_from [] is = is
-lowered_then w due_from (c ∷ cs) is = lowered_then (applied_one w c) (lowered_by due_from c) cs (lowered_one w due_from c is)
+pub lowered_then : (w : World) (due_from : ℕ) (changes : Delta) → NothingIsDueBefore w due_from → NothingIsDueBefore (applied w changes) (lowered due_from changes)
+lowered_then w due_from (delta.Rows (kinds.Accounts xs)) is = is
+lowered_then w due_from (delta.Rows (kinds.Apps xs)) is = is
+lowered_then w due_from (delta.Rows (kinds.Versions xs)) is = is
+lowered_then w due_from (delta.Rows (kinds.Workunits xs)) is =
+    is_due_from (with_rows w (kinds.Workunits xs)) due_from
+    (all-append (HasNone (is_overdue due_from)) w.units (map new_unit xs) (none_due w due_from is) (fresh_due due_from xs))
+lowered_then w due_from (delta.Edits edits) is = lowered_by_all w due_from edits is
 
-lowered_below : (due_from : ℕ) (cs : List Change) → lowered due_from cs ≤ due_from
-lowered_below due_from [] = omega arith
-lowered_below due_from (c ∷ cs) = let first = below_due_from due_from c in let later = lowered_below (lowered_by due_from c) cs in omega arith
+lowered_below_all : (due_from : ℕ) (es : List Edit) → fold lowered_by due_from es ≤ due_from
+lowered_below_all due_from [] = omega arith
+lowered_below_all due_from (e ∷ es) = let first = below_due_from due_from e in let later = lowered_below_all (lowered_by due_from e) es in omega arith
+
+lowered_below : (due_from : ℕ) (changes : Delta) → lowered due_from changes ≤ due_from
+lowered_below due_from (delta.Rows new) = omega arith
+lowered_below due_from (delta.Edits edits) = lowered_below_all due_from edits
 
 -- and for the world before them
-pub lowered_before : (w : World) (due_from : ℕ) (cs : List Change) → NothingIsDueBefore w due_from → NothingIsDueBefore w (lowered due_from cs)
-lowered_before w due_from cs is = lower_due_from w due_from (lowered due_from cs) (lowered_below due_from cs) is
+pub lowered_before : (w : World) (due_from : ℕ) (changes : Delta) → NothingIsDueBefore w due_from → NothingIsDueBefore w (lowered due_from changes)
+lowered_before w due_from changes is = lower_due_from w due_from (lowered due_from changes) (lowered_below due_from changes) is

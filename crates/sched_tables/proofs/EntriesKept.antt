@@ -23,13 +23,16 @@ use Rattle.stores.specs.Standing.{MayBeKept, last_seqno, most_import_bytes}
 use Rattle.table_reading.specs.Reading.{MayBeKeptWith, is_call_of, is_import}
 use Rattle.reply_register.specs.Calls.{is_above_all}
 use Rattle.reply_register.specs.declared.kept.Kept.{Kept}
-use Rattle.sched_book.specs.Delta.{applied_one, applied}
-use Rattle.sched_book.specs.declared.delta.Change.TheVariants as change
+use Rattle.sched_book.specs.Delta.{edited_one, edited, applied}
+use Rattle.sched_book.specs.declared.delta.Delta.TheVariants as delta
+use Rattle.sched_book.specs.declared.delta.Edit.{Edit}
+use Rattle.sched_book.specs.declared.delta.Edit.TheVariants as edit
+use Rattle.sched_book.specs.declared.rows.Rows.TheVariants as kinds
 use Rattle.sched_book.specs.declared.rows.App.{App}
 use Rattle.sched_book.specs.declared.settings.Settings.{Settings}
-use Rattle.sched_book.specs.declared.delta.Change.{Change}
+use Rattle.sched_book.specs.declared.delta.Delta.{Delta}
 use Rattle.sched_book.specs.declared.world.World.{World}
-use Rattle.sched_book.proofs.Fitting.{all_settings_stay}
+use Rattle.sched_book.proofs.Fitting.{settings_stay_in}
 use Rattle.table_meaning.specs.declared.rows.StoredRow.{StoredRow}
 use Rattle.table_meaning.specs.declared.rows.StoredRow.TheVariants as stored
 use Rattle.table_meaning.specs.Rows.{RowKey, kept_key, batch_key, columns_of, same_key}
@@ -221,20 +224,23 @@ module _ (db : Database) (w : World) (calls : SlotCalls) (batches : Imports) (ho
 -- ---- what is in memory
 
 -- changes leave the settings as they are, and bring applications
-apps_brought : (w : World) (cs : List Change) → (applied w cs).apps ≡ apps_with w.apps cs
-apps_brought w [] = refl
-apps_brought w (change.Account a ∷ cs) = apps_brought (applied_one w (change.Account a)) cs
-apps_brought w (change.App a ∷ cs) = apps_brought (applied_one w (change.App a)) cs
-apps_brought w (change.Version v ∷ cs) = apps_brought (applied_one w (change.Version v)) cs
-apps_brought w (change.Workunit u ∷ cs) = apps_brought (applied_one w (change.Workunit u)) cs
-apps_brought w (change.Host n h ∷ cs) = apps_brought (applied_one w (change.Host n h)) cs
-apps_brought w (change.Instance p x ∷ cs) = apps_brought (applied_one w (change.Instance p x)) cs
-apps_brought w (change.Class unit class ∷ cs) = apps_brought (applied_one w (change.Class unit class)) cs
+edits_bring_none : (w : World) (edits : List Edit) → (edited w edits).apps ≡ w.apps
+edits_bring_none w [] = refl
+edits_bring_none w (edit.Host n h ∷ es) = edits_bring_none (edited_one w (edit.Host n h)) es
+edits_bring_none w (edit.Instance p x ∷ es) = edits_bring_none (edited_one w (edit.Instance p x)) es
+edits_bring_none w (edit.Class unit class ∷ es) = edits_bring_none (edited_one w (edit.Class unit class)) es
+
+apps_brought : (w : World) (cs : Delta) → (applied w cs).apps ≡ apps_with w.apps cs
+apps_brought w (delta.Rows (kinds.Accounts xs)) = refl
+apps_brought w (delta.Rows (kinds.Apps xs)) = refl
+apps_brought w (delta.Rows (kinds.Versions xs)) = refl
+apps_brought w (delta.Rows (kinds.Workunits xs)) = refl
+apps_brought w (delta.Edits edits) = edits_bring_none w edits
 
 -- ---- a commit
 
 -- tables that held a world with what they keep, and tables that the changes and the row of an entry lead to
-module _ (old new : Database) (w : World) (cs : List Change) (e : Entry) (holds : HoldWorld old w (calls_in old.trees) (batches_in old.trees)) (made : MakesWith w cs e old new) where
+module _ (old new : Database) (w : World) (cs : Delta) (e : Entry) (holds : HoldWorld old w (calls_in old.trees) (batches_in old.trees)) (made : MakesWith w cs e old new) where
   abbrev after : AreKeptThen (applied w cs) e made.0 (calls_in old.trees) (batches_in old.trees)
   after = are_kept_then (applied w cs) e made.0 (calls_in old.trees) (batches_in old.trees) made.1
 
@@ -249,7 +255,7 @@ module _ (old new : Database) (w : World) (cs : List Change) (e : Entry) (holds 
   pub batches_then : (kind : Kind) (name : List ℕ) → batches_of new.trees kind name ≡ batches_with e (batches_of old.trees) kind name
   batches_then kind name = ap (option_map kept_batch) (batches_back new (applied w cs) after.calls' after.batches' now_held (kind_name kind) name) ∙ after.batches_then kind name
 
-module _ (old new : State) (w : World) (cs : List Change) (e : Entry) (kept : AreWellKept old w) (made : MakesWith w cs e old.now new.now) where
+module _ (old new : State) (w : World) (cs : Delta) (e : Entry) (kept : AreWellKept old w) (made : MakesWith w cs e old.now new.now) where
   -- the rows represent the world with the changes made
   pub world_then : world_in new.now.trees ≡ applied w cs
   world_then = held_is_read_back new.now (applied w cs) _ _ (now_held old.now new.now w cs e kept.holds made) made.2.readable
@@ -274,7 +280,7 @@ module _ (old new : State) (w : World) (cs : List Change) (e : Entry) (kept : Ar
   pub beside_then : (calls : SlotCalls) (settings : Settings) (apps apps' : List App) (read read' : Cache) (due_from due_from' : ℕ) → AreInMemory w calls settings apps read due_from → apps' ≡ apps_with apps cs → IsCacheOf (world_in new.now.trees) (calls_in new.now.trees) read' → NothingIsDueBefore (world_in new.now.trees) due_from'
       → AreInMemory (world_in new.now.trees) (calls_in new.now.trees) settings apps' read' due_from'
   beside_then calls settings apps apps' read read' due_from due_from' beside brought rows marked = record {
-    settings_are = beside.settings_are ∙ sym (all_settings_stay w cs) ∙ sym (ap (λ u. u.settings) world_then);
+    settings_are = beside.settings_are ∙ sym (settings_stay_in w cs) ∙ sym (ap (λ u. u.settings) world_then);
     apps_are = brought ∙ ap (λ l. apps_with l cs) beside.apps_are ∙ sym (apps_brought w cs) ∙ sym (ap (λ u. u.apps) world_then);
     rows_are = rows;
     due_from_is = marked;

@@ -5,7 +5,7 @@ use Rattle.sqlite.specs.Effect.{Database}
 use Rattle.sqlite.specs.State.{State, Survives}
 use Rattle.sqlite.proofs.StateLemmas.{survives_then}
 use Rattle.sched_book.specs.Delta.{applied}
-use Rattle.sched_book.specs.declared.delta.Change.{Change}
+use Rattle.sched_book.specs.declared.delta.Delta.{Delta}
 use Rattle.sched_book.specs.declared.world.World.{World}
 use Rattle.table_meaning.specs.declared.rows.StoredRow.{StoredRow}
 use Rattle.table_meaning.specs.Steps.{PutsRows}
@@ -22,13 +22,13 @@ use Rattle.sched_tables.specs.Held.{IsHonest}
 use Rattle.sched_tables.proofs.TextsKept.{utf8_then}
 use Rattle.table_rows.specs.Utf8.{HaveUtf8}
 
-leads : (w : World) (cs : List Change) (rows all : List StoredRow) (more : Option StoredRow) (old new : Database) → AreChanges w (applied w cs) rows → all ≡ rows ++ cons_option more [] → PutsRows old new all → LeadsTo w cs more old new
+leads : (w : World) (cs : Delta) (rows all : List StoredRow) (more : Option StoredRow) (old new : Database) → AreChanges w (applied w cs) rows → all ≡ rows ++ cons_option more [] → PutsRows old new all → LeadsTo w cs more old new
 leads w cs rows all more old new changes pushed puts = λ calls calls' batches batches' keeps holds.
     hold_same new _ _ (world_settled w cs rows changes calls calls' batches batches' (cons_option more []) keeps.each keeps.other_calls keeps.other_batches)
     (subst (PutsRows old new) pushed puts (contents_of w calls batches) holds)
 
 -- so putting rows makes the changes
-makes : (w : World) (cs : List Change) (more : Option StoredRow) (rows : List StoredRow) (old new : Database) → ArePut w cs more rows → PutsRows old new rows → HaveUtf8 rows → Makes w cs more old new
+makes : (w : World) (cs : Delta) (more : Option StoredRow) (rows : List StoredRow) (old new : Database) → ArePut w cs more rows → PutsRows old new rows → HaveUtf8 rows → Makes w cs more old new
 makes w cs more rows old new put puts utf8 = record {
   leads = leads w cs put.changed rows more old new put.are put.all puts;
   readable = put.readable;
@@ -36,17 +36,17 @@ makes w cs more rows old new put puts utf8 = record {
 }
 
 -- and so with what an entry puts
-makes_with : (w : World) (cs : List Change) (e : Entry) (rows : List StoredRow) (old new : Database) → ArePutWith w cs (calls_in old.trees) e rows → PutsRows old new rows → HaveUtf8 rows → MakesWith w cs e old new
+makes_with : (w : World) (cs : Delta) (e : Entry) (rows : List StoredRow) (old new : Database) → ArePutWith w cs (calls_in old.trees) e rows → PutsRows old new rows → HaveUtf8 rows → MakesWith w cs e old new
 makes_with w cs e rows old new put puts utf8 = (put.0, put.1, makes w cs put.0 rows old new put.2 puts utf8)
 
 -- rows put after a read that left everything as it was
-pub puts_all : (old mid new : State) (w : World) (cs : List Change) (e : Entry) (rows : List StoredRow) → mid.now ≡ old.now → new.now ≡ new.committed → ArePutWith w cs (calls_in old.now.trees) e rows
+pub puts_all : (old mid new : State) (w : World) (cs : Delta) (e : Entry) (rows : List StoredRow) → mid.now ≡ old.now → new.now ≡ new.committed → ArePutWith w cs (calls_in old.now.trees) e rows
     → PutsRows mid.now new.committed rows → HaveUtf8 rows → MakesWith w cs e old.now new.now
 puts_all old mid new w cs e rows same rest put puts utf8 =
     makes_with w cs e rows old.now new.now put (subst (λ (d : Database). PutsRows d new.now rows) same (subst (λ (d : Database). PutsRows mid.now d rows) (sym rest) puts)) utf8
 
 -- and what a stop leaves of rows put after a read is what it could leave before, or the changes made
-pub leaves_made : (old mid new : State) (w : World) (cs : List Change) (e : Entry) (rows : List StoredRow) (Kept : Type 0) → Reads old mid
+pub leaves_made : (old mid new : State) (w : World) (cs : Delta) (e : Entry) (rows : List StoredRow) (Kept : Type 0) → Reads old mid
     → Survives mid new (λ trees. IsTrue mid.is_open × HaveUtf8 rows × (db : Database) × PutsRows mid.now db rows × (trees ≡ db.trees)) → (IsHonest mid → Kept → ArePutWith w cs (calls_in old.now.trees) e rows) → (Kept → old.now ≡ old.committed)
     → Survives old new (λ trees. IsTrue old.is_open × (Kept → (db : Database) × MakesWith w cs e old.now db × (trees ≡ db.trees)))
 leaves_made old mid new w cs e rows Kept reads put puts rests =

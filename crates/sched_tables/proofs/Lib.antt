@@ -13,5 +13,4 @@ pub mod Told
 pub mod Upgraded
 pub mod UpgradedTexts
 pub mod TextsKept
-mod AppsBrought
 mod Memory

@@ -11,7 +11,7 @@ use Rattle.reply_register.specs.Keeping.{most_kept}
 use Rattle.sched_book.specs.Delta.{applied}
 use Rattle.sched_book.specs.Places.{host_at}
 use Rattle.sched_book.specs.Sound.{Sound}
-use Rattle.sched_book.specs.declared.delta.Change.{Change}
+use Rattle.sched_book.specs.declared.delta.Delta.{Delta}
 use Rattle.sched_book.specs.declared.rows.HostRow.{HostRow}
 use Rattle.sched_book.specs.declared.world.World.{World}
 use Rattle.stores.specs.declared.entry.Entry.{Entry}
@@ -94,7 +94,7 @@ rest_reopens s is_open rests settled can = record {
 
 -- ---- what is kept with a world with changes made
 
-host_stays : (w : World) (cs : List Change) (host : ℕ) → is_some (host_at w host) ≡ true → is_some (host_at (applied w cs) host) ≡ true
+host_stays : (w : World) (cs : Delta) (host : ℕ) → is_some (host_at w host) ≡ true → is_some (host_at (applied w cs) host) ≡ true
 host_stays w cs host stands = go (host_at (applied w cs) host) refl
   where
     none_there : {X : Type 0} (f : HostRow → X) (o : Option HostRow) → option_map f o ≡ None → is_some o ≡ true → ⊥
@@ -105,7 +105,7 @@ host_stays w cs host stands = go (host_at (applied w cs) host) refl
     go None gone = absurd (none_there _ (host_at w host) (none_goes w cs (Host host) (ap (option_map _) gone)) stands)
     go (Some h) there = refl
 
-beside_changes : (w : World) (cs : List Change) (calls : SlotCalls) (batches : Imports) → MayBeKeptWith w calls batches → MayBeKeptWith (applied w cs) calls batches
+beside_changes : (w : World) (cs : Delta) (calls : SlotCalls) (batches : Imports) → MayBeKeptWith w calls batches → MayBeKeptWith (applied w cs) calls batches
 beside_changes w cs calls batches beside = record { calls_fit = λ host slot. go host slot (calls host slot) (beside.calls_fit host slot); imports_fit = beside.imports_fit }
   where
     go : (host slot : ℕ) (o : Option Kept) → IfSome o (λ k. IsTrue (is_call_of w (stored.Kept (call_row host slot k)))) → IfSome o (λ k. IsTrue (is_call_of (applied w cs) (stored.Kept (call_row host slot k))))
@@ -117,10 +117,10 @@ beside_changes w cs calls batches beside = record { calls_fit = λ host slot. go
 -- ---- a commit
 
 -- what is required of a commit that leaves tables that can be opened again
-abbrev pub MayReopen : State → List Change → Entry → Type 0 → Type 0
+abbrev pub MayReopen : State → Delta → Entry → Type 0 → Type 0
 MayReopen old cs e Kept = IsHonest old → Kept × Sound (applied (world_in old.now.trees) cs) × MayBeKept (applied (world_in old.now.trees) cs) e
 
-module _ (old new : State) (cs : List Change) (e : Entry) (Kept : Type 0) (well : Kept → AreWellKept old (world_in old.now.trees)) (may : MayReopen old cs e Kept) (reopens : Reopens old) where
+module _ (old new : State) (cs : Delta) (e : Entry) (Kept : Type 0) (well : Kept → AreWellKept old (world_in old.now.trees)) (may : MayReopen old cs e Kept) (reopens : Reopens old) where
   abbrev w : World
   w = world_in old.now.trees
 

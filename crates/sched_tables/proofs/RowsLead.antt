@@ -3,7 +3,7 @@ use Rattle.std.proofs.Common.{◌≡◌, ℕ, Bool, true, false, ◌||◌, List,
 use Rattle.std.specs.Prelude.{◌⊎◌}
 use Rattle.std.specs.List.{list_any, cons_option, AllByRecursion}
 use Rattle.sched_book.specs.Delta.{applied}
-use Rattle.sched_book.specs.declared.delta.Change.{Change}
+use Rattle.sched_book.specs.declared.delta.Delta.{Delta}
 use Rattle.sched_book.specs.declared.world.World.{World}
 use Rattle.table_meaning.specs.declared.rows.StoredRow.{StoredRow}
 use Rattle.table_meaning.specs.Rows.{RowKey, kept_key, batch_key, key_of, same_key}
@@ -37,7 +37,7 @@ unput_of_first [] more k unput = tt
 unput_of_first (r ∷ rows) more k unput = (unput.0, unput_of_first rows more k unput.1)
 
 -- there the world after changes has the row that was there before
-row_stays : (w : World) (cs : List Change) (more : Option StoredRow) (rows : List StoredRow) → ArePut w cs more rows → (k : WorldKey) → IsUnput rows (row_key k) → row_in w k ≡ row_in (applied w cs) k
+row_stays : (w : World) (cs : Delta) (more : Option StoredRow) (rows : List StoredRow) → ArePut w cs more rows → (k : WorldKey) → IsUnput rows (row_key k) → row_in w k ≡ row_in (applied w cs) k
 row_stays w cs more rows put k unput =
     let first = unput_of_first put.changed (cons_option more []) (row_key k) (subst (λ rs. IsUnput rs (row_key k)) put.all unput) in
     elim (put.are.others k (no_row_has put.changed (row_key k) first)) [
@@ -94,7 +94,7 @@ has_put w [] each r put = absurd put
 has_put w (x ∷ rows) each r (inl one) = subst (λ s. (k : WorldKey) × (row_in w k ≡ Some s)) (sym one) each.0
 has_put w (x ∷ rows) each r (inr later) = has_put w rows each.1 r later
 
-row_put : (w : World) (cs : List Change) (calls : SlotCalls) (e : Entry) (rows : List StoredRow) (put : ArePutWith w cs calls e rows) → (r : StoredRow) (k : WorldKey) → IsPut rows r → key_of r ≡ row_key k → row_in (applied w cs) k ≡ Some r
+row_put : (w : World) (cs : Delta) (calls : SlotCalls) (e : Entry) (rows : List StoredRow) (put : ArePutWith w cs calls e rows) → (r : StoredRow) (k : WorldKey) → IsPut rows r → key_of r ≡ row_key k → row_in (applied w cs) k ≡ Some r
 row_put w cs calls e rows put r k is at = elim (put_where put.2.changed (cons_option put.0 []) r (subst (λ rs. IsPut rs r) put.2.all is)) [
   | inl there ↦
       let has = has_put (applied w cs) put.2.changed put.2.are.each r there in
@@ -104,7 +104,7 @@ row_put w cs calls e rows put r k is at = elim (put_where put.2.changed (cons_op
 ]
 
 -- the rows of a commit lead from a world to the one with the changes made
-pub rows_lead : (w : World) (cs : List Change) (calls : SlotCalls) (e : Entry) (rows : List StoredRow) → IsReadable w → ArePutWith w cs calls e rows → Lead rows w (applied w cs)
+pub rows_lead : (w : World) (cs : Delta) (calls : SlotCalls) (e : Entry) (rows : List StoredRow) → IsReadable w → ArePutWith w cs calls e rows → Lead rows w (applied w cs)
 rows_lead w cs calls e rows readable are = record {
   was_readable = readable;
   is_readable = are.2.readable;

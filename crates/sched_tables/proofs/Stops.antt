@@ -6,7 +6,7 @@ use Rattle.sqlite_trees.specs.Tree.{Trees}
 use Rattle.stores.specs.Held.{Held, IsKeptSoundly}
 use Rattle.stores.specs.declared.entry.Entry.{Entry}
 use Rattle.sched_book.specs.Delta.{applied}
-use Rattle.sched_book.specs.declared.delta.Change.{Change}
+use Rattle.sched_book.specs.declared.delta.Delta.{Delta}
 use Rattle.sched_book.specs.declared.world.World.{World}
 use Rattle.sched_tables.specs.Entries.{MakesWith, calls_of, batches_of}
 use Rattle.sched_tables.specs.Held.{IsHonest, AreWellKept}
@@ -15,7 +15,7 @@ use Rattle.sched_tables.specs.StopLaws.{found_before, read_as_held}
 use Rattle.sched_tables.proofs.EntriesKept.{now_held, calls_then, batches_then}
 
 -- During a commit, a stop leaves what it could leave before or, if the connection was open, the whole of the commit.
-pub found_is_ahead : (old new : State) (w : World) (held : Held) (cs : List Change) (e : Entry) (Kept : Type 0) → (Kept → AreWellKept old w)
+pub found_is_ahead : (old new : State) (w : World) (held : Held) (cs : Delta) (e : Entry) (Kept : Type 0) → (Kept → AreWellKept old w)
     → Survives old new (λ trees. IsTrue old.is_open × (Kept → (db : Database) × MakesWith w cs e old.now db × (trees ≡ db.trees))) → MayBeFound new held
     → MayBeFound old held ⊎ (IsHonest old × (Kept → IsKeptSoundly cs e (record { world = w; calls = calls_of old.now.trees; batches = batches_of old.now.trees }) held))
 found_is_ahead old new w held cs e Kept well survives found =

@@ -1,11 +1,12 @@
 -- Rule. What a commit makes of tables.
-use Rattle.std.specs.Prelude.{◌≡◌, ℕ, Bool, true, false, List, [], ◌∷◌, ◌++◌, fold, Option, Some}
+use Rattle.std.specs.Prelude.{◌≡◌, ℕ, Bool, false, List, [], ◌++◌, Option, Some}
 use Rattle.std.specs.List.{AllByRecursion, list_any, cons_option}
 use Rattle.sqlite.specs.Effect.{Database}
 use Rattle.sched_book.specs.Delta.{applied}
-use Rattle.sched_book.specs.declared.delta.Change.{Change}
-use Rattle.sched_book.specs.declared.delta.Change.TheVariants as change
+use Rattle.sched_book.specs.declared.delta.Delta.{Delta}
+use Rattle.sched_book.specs.declared.delta.Delta.TheVariants as delta
 use Rattle.sched_book.specs.declared.rows.App.{App}
+use Rattle.sched_book.specs.declared.rows.Rows.TheVariants as kinds
 use Rattle.sched_book.specs.declared.world.World.{World}
 use Rattle.table_meaning.specs.declared.rows.StoredRow.{StoredRow}
 use Rattle.table_meaning.specs.Rows.{RowKey, kept_key, batch_key, key_of, same_key}
@@ -29,14 +30,14 @@ pub record Keeps (w : World) (rows : List StoredRow) (calls : SlotCalls) (batche
 
 -- These rows lead from a world to the one with the changes made, and one more row follows if there is one. The rows of the new world
 -- determine it.
-pub record ArePut (w : World) (cs : List Change) (more : Option StoredRow) (rows : List StoredRow) : Type 0 where
+pub record ArePut (w : World) (cs : Delta) (more : Option StoredRow) (rows : List StoredRow) : Type 0 where
   pub changed : List StoredRow
   pub are : AreChanges w (applied w cs) changed
   pub all : rows ≡ changed ++ cons_option more []
   pub readable : IsReadable (applied w cs)
 
 -- If the old tables held a world, the new ones hold it with the changes made and one more row, for any calls and batches.
-abbrev pub LeadsTo : World → List Change → Option StoredRow → Database → Database → Type 0
+abbrev pub LeadsTo : World → Delta → Option StoredRow → Database → Database → Type 0
 LeadsTo w cs more old new = (calls calls' : SlotCalls) (batches batches' : Imports)
     → Keeps (applied w cs) (cons_option more []) calls batches calls' batches' → HoldWorld old w calls batches → HoldWorld new (applied w cs) calls' batches'
 
@@ -45,24 +46,15 @@ abbrev pub KeepsUtf8 : World → Database → Database → Type 0
 KeepsUtf8 w old new = (calls : SlotCalls) (batches : Imports) → HoldWorld old w calls batches → AreUtf8 old.trees → AreUtf8 new.trees
 
 -- The new tables hold the new world, its rows determine it, and texts in UTF-8 stay so.
-pub record Makes (w : World) (cs : List Change) (more : Option StoredRow) (old new : Database) : Type 0 where
+pub record Makes (w : World) (cs : Delta) (more : Option StoredRow) (old new : Database) : Type 0 where
   pub leads : LeadsTo w cs more old new
   pub readable : IsReadable (applied w cs)
   pub texts : KeepsUtf8 w old new
 
-abbrev pub brings_app : Change → Bool
-brings_app (change.Account a) = false
-brings_app (change.App a) = true
-brings_app (change.Version v) = false
-brings_app (change.Workunit u) = false
-brings_app (change.Host number h) = false
-brings_app (change.Instance p x) = false
-brings_app (change.Class unit class) = false
-
--- the applications, with the one that a change brings, and with those that several changes bring
-abbrev pub app_with : List App → Change → List App
-app_with apps (change.App a) = apps ++ a ∷ []
-app_with apps other = apps
-
-abbrev pub apps_with : List App → List Change → List App
-apps_with apps cs = fold app_with apps cs
+-- the applications, with those that changes bring
+abbrev pub apps_with : List App → Delta → List App
+apps_with apps (delta.Rows (kinds.Accounts xs)) = apps
+apps_with apps (delta.Rows (kinds.Apps xs)) = apps ++ xs
+apps_with apps (delta.Rows (kinds.Versions xs)) = apps
+apps_with apps (delta.Rows (kinds.Workunits xs)) = apps
+apps_with apps (delta.Edits edits) = apps

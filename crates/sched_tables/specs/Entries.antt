@@ -2,7 +2,7 @@
 use Rattle.std.specs.Prelude.{◌≡◌, ℕ, List, Option, Some, None, option_map}
 use Rattle.sqlite.specs.Effect.{Database}
 use Rattle.sqlite_trees.specs.Tree.{Trees}
-use Rattle.sched_book.specs.declared.delta.Change.{Change}
+use Rattle.sched_book.specs.declared.delta.Delta.{Delta}
 use Rattle.sched_book.specs.declared.world.World.{World}
 use Rattle.stores.specs.Held.{Calls, Batches}
 use Rattle.stores.specs.declared.entry.Entry.{Entry}
@@ -24,11 +24,11 @@ IsRowOf calls (entry.Batch kind name b) row = row ≡ Some (stored.Batch (record
 IsRowOf calls entry.Nothing row = row ≡ None
 
 -- These rows lead from a world to the one with the changes made, and the row that the entry puts is the last.
-abbrev pub ArePutWith : World → List Change → SlotCalls → Entry → List StoredRow → Type 0
+abbrev pub ArePutWith : World → Delta → SlotCalls → Entry → List StoredRow → Type 0
 ArePutWith w cs calls e rows = (row : Option StoredRow) × IsRowOf calls e row × ArePut w cs row rows
 
 -- If the old tables held a world, the new ones hold it with the changes made, and with what the entry puts.
-abbrev pub MakesWith : World → List Change → Entry → Database → Database → Type 0
+abbrev pub MakesWith : World → Delta → Entry → Database → Database → Type 0
 MakesWith w cs e old new = (row : Option StoredRow) × IsRowOf (calls_in old.trees) e row × Makes w cs row old new
 
 -- ---- what is kept, as a store says it

@@ -1,9 +1,8 @@
 //! Changes of the world, and what is kept of a message, put into the tables in one transaction.
 
 ghost use Rattle.std.specs.Prelude.{◌≡◌, false, unwrap_or, IsTrue, IfOk, OnOk, OnErr};
-ghost use Rattle.std.specs.List.{list_any};
 ghost use Rattle.sqlite.specs.State.{HasCleanDisk, Survives};
-ghost use Rattle.sched_tables.specs.Commits.{brings_app, apps_with as apps_then};
+ghost use Rattle.sched_tables.specs.Commits.{apps_with as apps_then};
 ghost use Rattle.sched_tables.specs.Entries.{ArePutWith, IsRowOf, MakesWith};
 ghost use Rattle.sched_book.specs.Delta.{applied};
 ghost use Rattle.sched_book.specs.Sound.{Sound};
@@ -14,7 +13,7 @@ ghost use Rattle.sched_tables.specs.Views.{state_of, settings_of, apps_of, world
 
 use crate::due::lowered;
 use crate::tables::Tables;
-use sched_book::{App, Change, Delta, Unavailable, copy_of};
+use sched_book::{App, Delta, Rows, Unavailable};
 use sqlite::Alter;
 use std::alloc::Global;
 use stores::Entry;
@@ -23,33 +22,19 @@ use table_meaning::rows::{RowChange, StoredBatch, StoredCall, StoredRow};
 use table_rows::put_rows;
 use texts::{Listed, Memory, Text};
 
-fn brings_app(change: &Change) -> bool
-    ensures { result ≡ brings_app change.now }
-{
-    matches!(change, Change::App(_))
-}
-
-/// Whether one of the changes brings an application.
-fn bring_apps(changes: &[Change]) -> bool
-    ensures { result ≡ list_any brings_app changes.now }
-{
-    changes.iter().any(brings_app)
-}
-
 /// The applications with those that the changes bring, or `None` if they bring none.
 fn apps_with(apps: &Listed<App>, delta: &Delta) -> Result<Option<Listed<App>>, Memory>
     ensures { IfOk result (λ all. unwrap_or all apps.now ≡ apps_then apps.now delta.now) }
 {
-    if !bring_apps(delta.as_slice()) {
-        return Ok(None);
-    }
-    let mut all = apps.clone()?;
-    for change in delta.as_slice() {
-        if let Change::App(app) = change {
-            all.push(copy_of(app)?)?;
+    match delta {
+        Delta::Rows(Rows::Apps(more)) => {
+            let mut all = apps.clone()?;
+            all.append(more.clone()?)?;
+            Ok(Some(all))
         }
+        Delta::Rows(Rows::Accounts(_) | Rows::Versions(_) | Rows::Workunits(_)) | Delta::Edits(_) =>
+            Ok(None),
     }
-    Ok(Some(all))
 }
 
 /// Replaces applications by these, if there are any.

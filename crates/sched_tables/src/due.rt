@@ -1,13 +1,13 @@
 //! What is due. It is looked for from the moment `due_from` on, since nothing is due before it.
 
-ghost use Rattle.std.specs.Prelude.{◌≡◌, IfOk};
+ghost use Rattle.std.specs.Prelude.{◌≡◌, fold, IfOk};
 ghost use Rattle.sched_book.specs.Places.{overdue};
 ghost use Rattle.sched_tables.specs.Held.{IsHonest};
-ghost use Rattle.sched_tables.specs.DueFrom.{raised, lowered};
+ghost use Rattle.sched_tables.specs.DueFrom.{raised, lowered_by, lowered};
 ghost use Rattle.sched_tables.specs.Views.{state_of, world_of, AreKept, AreReadOn};
 
 use crate::tables::Tables;
-use sched_book::{Change, Delta, Place, Unavailable};
+use sched_book::{Delta, Edit, Place, Unavailable};
 use sqlite::Alter;
 use std::alloc::Global;
 use table_reading::lowered_to;
@@ -24,17 +24,27 @@ fn raised(due_from: u64, now: u64, due: &[Place]) -> u64
     }
 }
 
-/// `due_from`, lowered to the least deadline that changes give to a held instance.
-pub(crate) fn lowered(due_from: u64, delta: &Delta) -> u64
-    ensures { result ≡ lowered due_from delta.now }
+/// `due_from`, lowered to the least deadline that edits give to a held instance.
+fn lowered_by_edits(due_from: u64, edits: &[Edit]) -> u64
+    ensures { result ≡ fold lowered_by due_from edits.now }
 {
     let mut lower = due_from;
-    for change in delta.as_slice() {
-        if let Change::Instance { row, .. } = change {
+    for edit in edits {
+        if let Edit::Instance { row, .. } = edit {
             lower = lowered_to(lower, row);
         }
     }
     lower
+}
+
+/// `due_from`, lowered to the least deadline that changes give to a held instance. New rows give none.
+pub(crate) fn lowered(due_from: u64, delta: &Delta) -> u64
+    ensures { result ≡ lowered due_from delta.now }
+{
+    match delta {
+        Delta::Rows(_) => due_from,
+        Delta::Edits(edits) => lowered_by_edits(due_from, edits.as_slice()),
+    }
 }
 
 impl<S: Alter> Tables<S> {

@@ -6,7 +6,7 @@ use Rattle.reply_register.specs.declared.kept.Kept.{Kept}
 use Rattle.sched_book.specs.Delta.{applied, Fits}
 use Rattle.sched_book.specs.Sound.{Sound}
 use Rattle.sched_book.specs.Step.{empty_world}
-use Rattle.sched_book.specs.declared.delta.Change.{Change}
+use Rattle.sched_book.specs.declared.delta.Delta.{Delta}
 use Rattle.sched_book.specs.declared.settings.Settings.{Settings}
 use Rattle.sched_book.specs.declared.world.World.{World}
 use Rattle.stores.specs.Eras.{kept_before_last, this_era}
@@ -57,18 +57,18 @@ IsNewest (entry.Batch kind batch kept) calls = Unit {0}
 IsNewest entry.Nothing calls = Unit {0}
 
 -- The changes fit, and a call is the newest of its host.
-pub record MayBeCommitted (delta : List Change) (e : Entry) (old : Held) : Type 0 where
+pub record MayBeCommitted (delta : Delta) (e : Entry) (old : Held) : Type 0 where
   pub fits : Fits old.world delta
   pub newest : IsNewest e old.calls
 
 -- The changes are made and the entry is kept. Everything else is as it was.
-pub record IsCommitted (delta : List Change) (e : Entry) (old new : Held) : Type 0 where
+pub record IsCommitted (delta : Delta) (e : Entry) (old new : Held) : Type 0 where
   pub world_is : new.world ≡ applied old.world delta
   pub calls_are : (host : ℕ) → new.calls host ≡ calls_with e old.calls host
   pub batches_are : (kind : Kind) (batch : List ℕ) → new.batches kind batch ≡ batches_with e old.batches kind batch
 
 -- If the changes and the entry may be committed and leave a sound world, they are committed.
-abbrev pub IsKeptSoundly : List Change → Entry → Held → Held → Type 0
+abbrev pub IsKeptSoundly : Delta → Entry → Held → Held → Type 0
 IsKeptSoundly delta e old new = MayBeCommitted delta e old → Sound (applied old.world delta) → IsCommitted delta e old new
 
 -- Nothing was changed.

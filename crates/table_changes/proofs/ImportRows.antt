@@ -1,19 +1,16 @@
 -- The rows of a world that an import made one row longer, compared with those of the world before.
-use Rattle.std.proofs.Common.{◌≡◌, ◌⊎◌, ℕ, zero, suc, ◌+◌, ◌*◌, ◌<◌, ◌≤◌, Bool, true, false, cond, eqb, ◌&&◌, ◌||◌, List, [], ◌∷◌, ◌++◌, length, take, get_or, Option, Some, None, option_map, option_and_then, refl, sym, ap, subst, ◌∙◌, inl, inr, arith, true≢false, append_assoc, append-nil, length-append}
+use Rattle.std.proofs.Common.{◌≡◌, ◌⊎◌, ℕ, zero, suc, ◌+◌, ◌*◌, ◌<◌, ◌≤◌, Bool, true, false, cond, eqb, ◌&&◌, ◌||◌, List, [], ◌∷◌, ◌++◌, length, map, take, get_or, Option, Some, None, option_map, option_and_then, refl, sym, ap, subst, ◌∙◌, inl, inr, arith, true≢false, append_assoc, append-nil, length-append}
 use Rattle.std.specs.Prelude.{All, replicate, count_by, sum_by, slice_get, is_none}
 use Rattle.std.proofs.lemmas.Bool.{eq-eqb, eqb-true}
 use Rattle.std.proofs.lemmas.List.Elements.{All-head, All-tail}
-use Rattle.std.proofs.lemmas.List.Sums.{sum_by-cons, sum_by-append, fold-append}
-use Rattle.std.proofs.lemmas.List.{take_more}
+use Rattle.std.proofs.lemmas.List.Sums.{sum_by-cons, sum_by-append}
+use Rattle.std.proofs.lemmas.List.{map_push, take_more}
 use Rattle.std.proofs.lemmas.Option.{none-some}
 use Rattle.sched_book.specs.Count.{status, verdict, is_valid}
-use Rattle.sched_book.specs.Delta.{applied_one, applied}
 use Rattle.sched_book.specs.Desk.{counts}
-use Rattle.sched_book.specs.Imports.{has_app, new_unit}
+use Rattle.sched_book.specs.Imports.{has_app, new_unit, with_rows}
 use Rattle.sched_book.specs.Places.{nth, unit_at, host_at, agreement_by, status_of, held_by, host_credit, is_held_by, is_owned_by, book_verdict, credit_in}
 use Rattle.sched_book.specs.Settle.{fresh}
-use Rattle.sched_book.specs.declared.delta.Change.{Change}
-use Rattle.sched_book.specs.declared.delta.Change.TheVariants as change
 use Rattle.sched_book.specs.declared.desk.Counts.{Counts}
 use Rattle.sched_book.specs.declared.instance.Instance.{Instance as Job}
 use Rattle.sched_book.specs.declared.instance.Place.{Place}
@@ -23,6 +20,8 @@ use Rattle.sched_book.specs.declared.rows.Account.{Account as AccountRow}
 use Rattle.sched_book.specs.declared.rows.Agreement.{Agreement}
 use Rattle.sched_book.specs.declared.rows.App.{App as AppRow}
 use Rattle.sched_book.specs.declared.rows.ClassRule.{ClassRule}
+use Rattle.sched_book.specs.declared.rows.Rows.{Rows}
+use Rattle.sched_book.specs.declared.rows.Rows.TheVariants as kinds
 use Rattle.sched_book.specs.declared.rows.Version.{Version as VersionRow}
 use Rattle.sched_book.specs.declared.rows.Workunit.{Workunit}
 use Rattle.sched_book.specs.declared.world.World.{World}
@@ -32,7 +31,7 @@ use Rattle.table_meaning.specs.declared.rows.StoredRow.{StoredRow}
 use Rattle.table_meaning.specs.declared.rows.StoredRow.TheVariants as stored
 use Rattle.table_meaning.specs.Codes.{status_code}
 use Rattle.table_worlds.proofs.ByPlace.{all_nth}
-use Rattle.table_worlds.proofs.StaysReadable.{stays_readable}
+use Rattle.table_worlds.proofs.StaysReadable.{rows_stay_readable}
 use Rattle.sched_book.proofs.PlaceLists.{places_counted}
 use Rattle.table_worlds.specs.Changes.{IsChange, AreChanges}
 use Rattle.table_worlds.specs.Keys.{row_in}
@@ -40,7 +39,7 @@ use Rattle.table_worlds.specs.Readable.{IsReadable}
 use Rattle.table_worlds.specs.declared.keys.WorldKey.{WorldKey}
 use Rattle.table_worlds.specs.declared.keys.WorldKey.TheVariants.{Account, App, Version, Class, Unit as UnitKey, Mark, Host, Instance}
 use Rattle.table_changes.specs.Added.{is_put, is_instance_among, AreAdded}
-use Rattle.table_changes.specs.Imported.{AreImported}
+use Rattle.table_changes.specs.Imported.{AreImported, HaveImported}
 use Rattle.table_changes.proofs.Adding.{IsSettled, KeepsRows, puts_own, put_of_neither, changes_then, no_changes}
 use Rattle.table_changes.proofs.PageRows.{after_is_change}
 use Rattle.table_changes.proofs.AppsFound.{place_stays, agreement_stays, still_stands}
@@ -86,18 +85,18 @@ others_stay u k f xs x id row more own not_put =
 
 module _ (w v : World) (count : Counts) (rows new : List StoredRow) (n : ℕ) (row : StoredRow) (so_far : AreImported w v count rows) (behind : new ≡ rows ++ row ∷ []) where
   pub account_added : (a : AccountRow) → n ≡ count.accounts + 1 → row ≡ stored.Account (account_row n a)
-      → AreImported w (applied_one v (change.Account a)) (record count { accounts = n }) new
+      → AreImported w (with_rows v (kinds.Accounts (a ∷ []))) (record count { accounts = n }) new
   account_added a next is = record {
     counted =
         ap (λ (c : Counts). record c { accounts = n }) so_far.counted
         ∙ ap (λ k. record (counts v) { accounts = k }) (long v.accounts a count.accounts n next (ap (λ (c : Counts). c.accounts) so_far.counted));
     apps = so_far.apps;
-    readable = stays_readable v (change.Account a ∷ []) so_far.readable refl;
+    readable = rows_stay_readable v (kinds.Accounts (a ∷ [])) so_far.readable refl;
     changes = changes_then w v u rows (row ∷ []) new keeps behind step so_far.changes;
   }
     where
       u : World
-      u = applied_one v (change.Account a)
+      u = with_rows v (kinds.Accounts (a ∷ []))
 
       at_end : n ≡ length v.accounts + 1
       at_end = place v.accounts count.accounts n next (ap (λ (c : Counts). c.accounts) so_far.counted)
@@ -122,19 +121,19 @@ module _ (w v : World) (count : Counts) (rows mid new : List StoredRow) (n app :
     (behind : mid ≡ rows ++ row ∷ []) (further : new ≡ mid ++ class ∷ []) where
   pub version_added : (b : VersionRow) → n ≡ count.versions + 1 → app ≡ app_place w b.app → has_app w.apps b.app ≡ true
       → ((x : World) → app ≡ app_place x b.app → row ≡ stored.Version (version_row x n b)) → class ≡ stored.VersionClass (class_row n b)
-      → AreImported w (applied_one v (change.Version b)) (record count { versions = n }) new
+      → AreImported w (with_rows v (kinds.Versions (b ∷ []))) (record count { versions = n }) new
   version_added b next at_place stands told classed = record {
     counted =
         ap (λ (c : Counts). record c { versions = n }) so_far.counted
         ∙ ap (λ k. record (counts v) { versions = k }) (long v.versions b count.versions n next (ap (λ (c : Counts). c.versions) so_far.counted));
     apps = so_far.apps;
-    readable = stays_readable v (change.Version b ∷ []) so_far.readable (ap (λ t. t && true) (still_stands w v so_far.apps.0 b.app so_far.apps.1 stands));
+    readable = rows_stay_readable v (kinds.Versions (b ∷ [])) so_far.readable (ap (λ t. t && true) (still_stands w v so_far.apps.0 b.app so_far.apps.1 stands));
     changes = changes_then w v u rows (row ∷ class ∷ []) new keeps
         (further ∙ ap (λ l. l ++ class ∷ []) behind ∙ append_assoc rows (row ∷ []) (class ∷ [])) step so_far.changes;
   }
     where
       u : World
-      u = applied_one v (change.Version b)
+      u = with_rows v (kinds.Versions (b ∷ []))
 
       at_end : n ≡ length v.versions + 1
       at_end = place v.versions count.versions n next (ap (λ (c : Counts). c.versions) so_far.counted)
@@ -182,7 +181,7 @@ sum_alike P f g same (x ∷ xs) all =
 
 module _ (v : World) (a : AppRow) (readable : IsReadable v) where
   abbrev with_app : World
-  with_app = applied_one v (change.App a)
+  with_app = with_rows v (kinds.Apps (a ∷ []))
 
   abbrev NamesApp : VersionRow → Type 0
   NamesApp x = has_app v.apps x.app ≡ true
@@ -232,18 +231,18 @@ module _ (v : World) (a : AppRow) (readable : IsReadable v) where
       cases (Some b) at = of_job b (slice_get b.instances p.number) (all_nth IsOfApp v.units p.unit b at readable.units)
 
 pub app_added : (w v : World) (count : Counts) (rows new : List StoredRow) (n : ℕ) (row : StoredRow) → AreImported w v count rows → new ≡ rows ++ row ∷ []
-    → (a : AppRow) → n ≡ count.apps + 1 → row ≡ stored.App (app_row n a) → AreImported w (applied_one v (change.App a)) (record count { apps = n }) new
+    → (a : AppRow) → n ≡ count.apps + 1 → row ≡ stored.App (app_row n a) → AreImported w (with_rows v (kinds.Apps (a ∷ []))) (record count { apps = n }) new
 app_added w v count rows new n row so_far behind a next is = record {
   counted =
       ap (λ (c : Counts). record c { apps = n }) so_far.counted
       ∙ ap (λ k. record (counts v) { apps = k }) (long v.apps a count.apps n next (ap (λ (c : Counts). c.apps) so_far.counted));
   apps = (so_far.apps.0 ++ a ∷ [], ap (λ l. l ++ a ∷ []) so_far.apps.1 ∙ append_assoc w.apps so_far.apps.0 (a ∷ []));
-  readable = stays_readable v (change.App a ∷ []) so_far.readable refl;
+  readable = rows_stay_readable v (kinds.Apps (a ∷ [])) so_far.readable refl;
   changes = changes_then w v u rows (row ∷ []) new keeps behind step so_far.changes;
 }
   where
     u : World
-    u = applied_one v (change.App a)
+    u = with_rows v (kinds.Apps (a ∷ []))
 
     at_end : n ≡ length v.apps + 1
     at_end = place v.apps count.apps n next (ap (λ (c : Counts). c.apps) so_far.counted)
@@ -289,7 +288,7 @@ sum_stays f bs b none =
 module _ (w v : World) (count : Counts) (rows one mid new : List StoredRow) (n app : ℕ) (s : Status) (row mark : StoredRow) (u : Workunit) (so_far : AreImported w v count rows)
     (next : n ≡ count.workunits + 1) (at_app : app ≡ app_place w u.app) (stands : has_app w.apps u.app ≡ true) where
   abbrev with_unit : World
-  with_unit = applied_one v (change.Workunit u)
+  with_unit = with_rows v (kinds.Workunits (u ∷ []))
 
   at_end : n ≡ length v.units + 1
   at_end = place v.units count.workunits n next (ap (λ (c : Counts). c.workunits) so_far.counted)
@@ -365,7 +364,7 @@ module _ (w v : World) (count : Counts) (rows one mid new : List StoredRow) (n a
         ap (λ (c : Counts). record c { workunits = n }) so_far.counted
         ∙ ap (λ k. record (counts v) { workunits = k }) (long v.units (new_unit u) count.workunits n next (ap (λ (c : Counts). c.workunits) so_far.counted));
     apps = so_far.apps;
-    readable = stays_readable v (change.Workunit u ∷ []) so_far.readable (ap (λ t. t && true) (still_stands w v so_far.apps.0 u.app so_far.apps.1 stands));
+    readable = rows_stay_readable v (kinds.Workunits (u ∷ [])) so_far.readable (ap (λ t. t && true) (still_stands w v so_far.apps.0 u.app so_far.apps.1 stands));
     changes = changes_then w v with_unit rows (row ∷ mark ∷ fresh_rows.more) new unit_keeps
         (fresh_rows.behind ∙ ap (λ l. l ++ fresh_rows.more) (further ∙ ap (λ l. l ++ mark ∷ []) behind ∙ append_assoc rows (row ∷ []) (mark ∷ []))
         ∙ append_assoc rows (row ∷ mark ∷ []) fresh_rows.more)
@@ -380,7 +379,7 @@ first_status w v more a s u apps stands agrees is =
 
 -- ---- an import as a whole
 
-pub none_imported : (w v : World) (count : Counts) (rows : List StoredRow) → v ≡ w → IsReadable w → count ≡ counts v → rows ≡ [] → AreImported w w count rows
+none_imported : (w v : World) (count : Counts) (rows : List StoredRow) → v ≡ w → IsReadable w → count ≡ counts v → rows ≡ [] → AreImported w w count rows
 none_imported w v count rows same readable counted none = record {
   counted = counted ∙ ap counts same;
   apps = ([], sym (append-nil w.apps));
@@ -423,12 +422,65 @@ fresh_gone v b unit count n stands begins all i past =
     ∙ ap (λ xs. option_map (λ y. stored.Instance (instance_row v b unit i y)) (slice_get xs i)) begins
     ∙ ap (option_map (λ y. stored.Instance (instance_row v b unit i y))) (past_fresh count i (omega (arith, all, past)))
 
--- ---- change by change
+-- ---- row by row
 
-pub import_next : (w u : World) (cs : List Change) (i : ℕ) (c : Change) (count counted : Counts) (rows new : List StoredRow) → u ≡ w → i < length cs → get_or cs i c ≡ c
-    → ((v : World) → AreImported u v count rows → AreImported u (applied_one v c) counted new)
-    → AreImported w (applied w (take i cs)) count rows → AreImported w (applied w (take (i + 1) cs)) counted new
-import_next w u cs i c count counted rows new same within at next so_far =
-    subst (λ v. AreImported w v counted new)
-    (sym (ap (applied w) (take_more cs i c within ∙ ap (λ d. take i cs ++ d ∷ []) at) ∙ fold-append applied_one w (take i cs) (c ∷ [])))
-    (subst (λ (x : World). (v : World) → AreImported x v count rows → AreImported x (applied_one v c) counted new) same next (applied w (take i cs)) so_far)
+-- a list with one more of these elements after its own
+one_more : {X : Type 0} (front xs : List X) (i : ℕ) (x : X) → i < length xs → get_or xs i x ≡ x → front ++ take (i + 1) xs ≡ (front ++ take i xs) ++ x ∷ []
+one_more front xs i x within at =
+    ap (λ ys. front ++ ys) (take_more xs i x within ∙ ap (λ y. take i xs ++ y ∷ []) at) ∙ sym (append_assoc front (take i xs) (x ∷ []))
+
+-- the same for new workunits
+one_book_more : (front : List UnitBook) (us : List Workunit) (i : ℕ) (u : Workunit) → i < length us → get_or us i u ≡ u
+    → front ++ map new_unit (take (i + 1) us) ≡ (front ++ map new_unit (take i us)) ++ new_unit u ∷ []
+one_book_more front us i u within at =
+    ap (λ ys. front ++ map new_unit ys) (take_more us i u within ∙ ap (λ y. take i us ++ y ∷ []) at)
+    ∙ ap (λ bs. front ++ bs) (map_push new_unit (take i us) u)
+    ∙ sym (append_assoc front (map new_unit (take i us)) (new_unit u ∷ []))
+
+module _ (w v : World) (i : ℕ) (count counted : Counts) (rows new : List StoredRow) where
+  abbrev Grows : Rows → Rows → Type 0
+  Grows before one = AreImported w (with_rows v before) count rows → AreImported w (with_rows (with_rows v before) one) counted new
+
+  pub account_next : (xs : List AccountRow) (x : AccountRow) → i < length xs → get_or xs i x ≡ x → Grows (kinds.Accounts (take i xs)) (kinds.Accounts (x ∷ []))
+      → AreImported w (with_rows v (kinds.Accounts (take i xs))) count rows → AreImported w (with_rows v (kinds.Accounts (take (i + 1) xs))) counted new
+  account_next xs x within at next so_far =
+      subst (λ (all : List AccountRow). AreImported w (record v { accounts = all }) counted new) (sym (one_more v.accounts xs i x within at)) (next so_far)
+
+  pub app_next : (xs : List AppRow) (x : AppRow) → i < length xs → get_or xs i x ≡ x → Grows (kinds.Apps (take i xs)) (kinds.Apps (x ∷ []))
+      → AreImported w (with_rows v (kinds.Apps (take i xs))) count rows → AreImported w (with_rows v (kinds.Apps (take (i + 1) xs))) counted new
+  app_next xs x within at next so_far =
+      subst (λ (all : List AppRow). AreImported w (record v { apps = all }) counted new) (sym (one_more v.apps xs i x within at)) (next so_far)
+
+  pub version_next : (xs : List VersionRow) (x : VersionRow) → i < length xs → get_or xs i x ≡ x → Grows (kinds.Versions (take i xs)) (kinds.Versions (x ∷ []))
+      → AreImported w (with_rows v (kinds.Versions (take i xs))) count rows → AreImported w (with_rows v (kinds.Versions (take (i + 1) xs))) counted new
+  version_next xs x within at next so_far =
+      subst (λ (all : List VersionRow). AreImported w (record v { versions = all }) counted new) (sym (one_more v.versions xs i x within at)) (next so_far)
+
+  pub unit_next : (us : List Workunit) (u : Workunit) → i < length us → get_or us i u ≡ u → Grows (kinds.Workunits (take i us)) (kinds.Workunits (u ∷ []))
+      → AreImported w (with_rows v (kinds.Workunits (take i us))) count rows → AreImported w (with_rows v (kinds.Workunits (take (i + 1) us))) counted new
+  unit_next us u within at next so_far =
+      subst (λ (all : List UnitBook). AreImported w (record v { units = all }) counted new) (sym (one_book_more v.units us i u within at)) (next so_far)
+
+-- no row yet
+pub no_account : (w v : World) (count : Counts) (rows : List StoredRow) → AreImported w v count rows → AreImported w (with_rows v (kinds.Accounts [])) count rows
+no_account w v count rows so_far = subst (λ (all : List AccountRow). AreImported w (record v { accounts = all }) count rows) (sym (append-nil v.accounts)) so_far
+
+pub no_app : (w v : World) (count : Counts) (rows : List StoredRow) → AreImported w v count rows → AreImported w (with_rows v (kinds.Apps [])) count rows
+no_app w v count rows so_far = subst (λ (all : List AppRow). AreImported w (record v { apps = all }) count rows) (sym (append-nil v.apps)) so_far
+
+pub no_version : (w v : World) (count : Counts) (rows : List StoredRow) → AreImported w v count rows → AreImported w (with_rows v (kinds.Versions [])) count rows
+no_version w v count rows so_far = subst (λ (all : List VersionRow). AreImported w (record v { versions = all }) count rows) (sym (append-nil v.versions)) so_far
+
+pub no_unit : (w v : World) (count : Counts) (rows : List StoredRow) → AreImported w v count rows → AreImported w (with_rows v (kinds.Workunits [])) count rows
+no_unit w v count rows so_far = subst (λ (all : List UnitBook). AreImported w (record v { units = all }) count rows) (sym (append-nil v.units)) so_far
+
+-- the count is that of the present world
+pub counted_now : (w v : World) (count : Counts) (rows : List StoredRow) → AreImported w v count rows → HaveImported w v rows
+counted_now w v count rows done = subst (λ c. AreImported w v c rows) done.counted done
+
+-- the rows of the whole import
+pub imported_all : (w u : World) (count : Counts) (none rows : List StoredRow) (new : Rows) → u ≡ w → IsReadable w → count ≡ counts w → none ≡ []
+    → ((v : World) → AreImported u v count none → HaveImported u (with_rows v new) rows) → HaveImported w (with_rows w new) rows
+imported_all w u count none rows new same readable counted empty next =
+    subst (λ (x : World). (v : World) → AreImported x v count none → HaveImported x (with_rows v new) rows) same next w
+    (none_imported w w count none refl readable counted empty)

@@ -6,7 +6,7 @@ use Rattle.std.proofs.lemmas.Option.{slice_get_past}
 use Rattle.std.specs.BTreeMap.{get}
 use Rattle.std.specs.Ordering.{nat_cmp}
 use Rattle.sched_book.specs.Count.{status, verdict, is_valid}
-use Rattle.sched_book.specs.Delta.{applied}
+use Rattle.sched_book.specs.Delta.{edited}
 use Rattle.sched_book.specs.Places.{unit_at, host_at, agreement_by, status_of, held_by, host_credit, is_held_by, is_owned_by, credit_in}
 use Rattle.sched_book.specs.declared.instance.Instance.{Instance as Job}
 use Rattle.sched_book.specs.declared.instance.Status.{Status}
@@ -268,60 +268,60 @@ module _ (w v : World) (kept : ℕ → Option Leaf) (units : List ℕ) (host : �
 
 -- ---- a page
 
-pub apps_stay : (w : World) (p : Page) → IsPageOf w p → (applied w p.delta).apps ≡ w.apps
+pub apps_stay : (w : World) (p : Page) → IsPageOf w p → (edited w p.edits).apps ≡ w.apps
 apps_stay w p page = ap (λ u. u.apps) page.rest
 
 pub goes_from : (w : World) (p : Page) (t : Touched) (host : ℕ) (share other : Total) → IsPageOf w p → AreTouched p t
-    → share ≡ tally t.tallies.before host → other ≡ tally t.tallies.present host → ReplacesShare w (applied w p.delta) host share other
+    → share ≡ tally t.tallies.before host → other ≡ tally t.tallies.present host → ReplacesShare w (edited w p.edits) host share other
 goes_from w p t host share other page touched before after =
-    let goes = goes_on w (applied w p.delta) (get nat_cmp p.leaves) t.units host (apps_stay w p page) touched.units page.leaves in
+    let goes = goes_on w (edited w p.edits) (get nat_cmp p.leaves) t.units host (apps_stay w p page) touched.units page.leaves in
     let first = before ∙ touched.tallies.before host in
     let second = after ∙ touched.tallies.present host in
-    subst (λ (s : Total). ReplacesShare w (applied w p.delta) host s other) (sym first)
-    (subst (λ (o : Total). ReplacesShare w (applied w p.delta) host (total_on book_before (get nat_cmp p.leaves) t.units host) o) (sym second) goes)
+    subst (λ (s : Total). ReplacesShare w (edited w p.edits) host s other) (sym first)
+    (subst (λ (o : Total). ReplacesShare w (edited w p.edits) host (total_on book_before (get nat_cmp p.leaves) t.units host) o) (sym second) goes)
 
 -- the keys that the page touches
 abbrev pub is_touched : Touched → WorldKey → Bool
 is_touched t key = ((is_unit_among t.units key || is_mark_among t.units key) || is_host_among t.hosts key) || is_instance_among t.units key
 
-pub settled_elsewhere : (w : World) (p : Page) (t : Touched) → IsPageOf w p → AreTouched p t → (k : WorldKey) → is_touched t k ≡ false → IsSettled w (applied w p.delta) k
+pub settled_elsewhere : (w : World) (p : Page) (t : Touched) → IsPageOf w p → AreTouched p t → (k : WorldKey) → is_touched t k ≡ false → IsSettled w (edited w p.edits) k
 settled_elsewhere w p t page touched (UnitKey id) none =
     let among : is_among t.units id ≡ false = (or_parts _ _ (or_parts _ _ (or_parts _ _ none).0).0).0 in
-    inr (unit_same w (applied w p.delta) id (apps_stay w p page)
-    (sym (untouched w (applied w p.delta) (get nat_cmp p.leaves) t.units 0 (apps_stay w p page) touched.units page.leaves id among)))
+    inr (unit_same w (edited w p.edits) id (apps_stay w p page)
+    (sym (untouched w (edited w p.edits) (get nat_cmp p.leaves) t.units 0 (apps_stay w p page) touched.units page.leaves id among)))
 settled_elsewhere w p t page touched (Mark id) none =
     let among : is_among t.units id ≡ false = (or_parts _ _ (or_parts _ _ none).0).0 in
-    inr (mark_same w (applied w p.delta) id (sym (untouched w (applied w p.delta) (get nat_cmp p.leaves) t.units 0 (apps_stay w p page) touched.units page.leaves id among)))
+    inr (mark_same w (edited w p.edits) id (sym (untouched w (edited w p.edits) (get nat_cmp p.leaves) t.units 0 (apps_stay w p page) touched.units page.leaves id among)))
 settled_elsewhere w p t page touched (Host id) none =
     let among : is_among t.hosts id ≡ false = (or_parts _ _ none).0 in
     let unread = touched.hosts id among in
     let goes = goes_from w p t id no_total no_total page touched (sym (ap (λ o. unwrap_or o no_total) unread.1)) (sym (ap (λ o. unwrap_or o no_total) unread.2)) in
-    inr (host_same w (applied w p.delta) id no_total no_total (subst (IsHostAt w (applied w p.delta) id) unread.0 (page.hosts id)) goes refl refl)
+    inr (host_same w (edited w p.edits) id no_total no_total (subst (IsHostAt w (edited w p.edits) id) unread.0 (page.hosts id)) goes refl refl)
 settled_elsewhere w p t page touched (Instance q) none =
-    inr (instance_same w (applied w p.delta) q.unit q.number (apps_stay w p page)
-    (sym (untouched w (applied w p.delta) (get nat_cmp p.leaves) t.units 0 (apps_stay w p page) touched.units page.leaves q.unit none)))
+    inr (instance_same w (edited w p.edits) q.unit q.number (apps_stay w p page)
+    (sym (untouched w (edited w p.edits) (get nat_cmp p.leaves) t.units 0 (apps_stay w p page) touched.units page.leaves q.unit none)))
 settled_elsewhere w p t page touched key none = inr (sym (ap (λ u. row_in u key) page.rest))
 
 -- ---- what a desk returned that still represents the world
 
 pub unit_told : (w u : World) (p : Page) (unit : ℕ) (o : Option Leaf) (row : Option StoredRow) → u ≡ w → o ≡ get nat_cmp p.leaves unit → IsPageOf w p
     → ((after : World) → after.apps ≡ u.apps → IsLeafAt u after unit o → IsChange (row_in u (UnitKey unit)) (row_in after (UnitKey unit)) row)
-    → IsChange (row_in w (UnitKey unit)) (row_in (applied w p.delta) (UnitKey unit)) row
+    → IsChange (row_in w (UnitKey unit)) (row_in (edited w p.edits) (UnitKey unit)) row
 unit_told w u p unit o row same found page told =
     subst (λ (x : World). (after : World) → after.apps ≡ x.apps → IsLeafAt x after unit o → IsChange (row_in x (UnitKey unit)) (row_in after (UnitKey unit)) row) same told
-    (applied w p.delta) (apps_stay w p page) (subst (IsLeafAt w (applied w p.delta) unit) (sym found) (page.leaves unit))
+    (edited w p.edits) (apps_stay w p page) (subst (IsLeafAt w (edited w p.edits) unit) (sym found) (page.leaves unit))
 
 pub host_told : (w u : World) (p : Page) (t : Touched) (host : ℕ) (share other : Total) (row : Option StoredRow) → u ≡ w → IsPageOf w p → AreTouched p t
     → share ≡ tally t.tallies.before host → other ≡ tally t.tallies.present host
-    → (IsPageOf u p → ReplacesShare u (applied u p.delta) host share other → IsChange (row_in u (Host host)) (row_in (applied u p.delta) (Host host)) row)
-    → IsChange (row_in w (Host host)) (row_in (applied w p.delta) (Host host)) row
+    → (IsPageOf u p → ReplacesShare u (edited u p.edits) host share other → IsChange (row_in u (Host host)) (row_in (edited u p.edits) (Host host)) row)
+    → IsChange (row_in w (Host host)) (row_in (edited w p.edits) (Host host)) row
 host_told w u p t host share other row same page touched before after told =
-    subst (λ (x : World). IsPageOf x p → ReplacesShare x (applied x p.delta) host share other → IsChange (row_in x (Host host)) (row_in (applied x p.delta) (Host host)) row) same told
+    subst (λ (x : World). IsPageOf x p → ReplacesShare x (edited x p.edits) host share other → IsChange (row_in x (Host host)) (row_in (edited x p.edits) (Host host)) row) same told
     page (goes_from w p t host share other page touched before after)
 
 -- the leaf at a place of a page
-pub leaf_at : (w : World) (p : Page) (unit : ℕ) (o : Option Leaf) → IsPageOf w p → o ≡ get nat_cmp p.leaves unit → IsLeafAt w (applied w p.delta) unit o
-leaf_at w p unit o page found = subst (IsLeafAt w (applied w p.delta) unit) (sym found) (page.leaves unit)
+pub leaf_at : (w : World) (p : Page) (unit : ℕ) (o : Option Leaf) → IsPageOf w p → o ≡ get nat_cmp p.leaves unit → IsLeafAt w (edited w p.edits) unit o
+leaf_at w p unit o page found = subst (IsLeafAt w (edited w p.edits) unit) (sym found) (page.leaves unit)
 
 -- the instances of a workunit that was not read are as before
 pub unread_settled : (w v : World) (unit : ℕ) → v.apps ≡ w.apps → IsLeafAt w v unit None → (k : WorldKey) → is_instance_among (unit ∷ []) k ≡ true → IsSettled w v k
@@ -340,21 +340,21 @@ either first second key = first key || second key
 
 -- the rows that a page touches come in four parts, one after the other: workunits, marks, hosts and instances
 pub all_parts : (w u : World) (p : Page) (t : Touched) (old one two three new : List StoredRow) → u ≡ w → IsPageOf w p → AreTouched p t → old ≡ []
-    → AreAdded (is_unit_among t.units) w (applied w p.delta) old one
-    → AreAdded (is_mark_among t.units) w (applied w p.delta) one two
-    → (IsPageOf u p → AreTouched p t → AreAdded (is_host_among t.hosts) u (applied u p.delta) two three)
-    → AreAdded (is_instance_among t.units) w (applied w p.delta) three new
-    → AreChanges w (applied w p.delta) new
+    → AreAdded (is_unit_among t.units) w (edited w p.edits) old one
+    → AreAdded (is_mark_among t.units) w (edited w p.edits) one two
+    → (IsPageOf u p → AreTouched p t → AreAdded (is_host_among t.hosts) u (edited u p.edits) two three)
+    → AreAdded (is_instance_among t.units) w (edited w p.edits) three new
+    → AreChanges w (edited w p.edits) new
 all_parts w u p t old one two three new same page touched none units marks hosts instances =
     all_added (is_touched t) w after old new (settled_elsewhere w p t page touched) none
     (added_then (either (either of_units of_marks) of_hosts) of_instances (is_touched t) w after old three new (λ k. or_cases (either (either of_units of_marks) of_hosts k) (of_instances k))
     (added_then (either of_units of_marks) of_hosts (either (either of_units of_marks) of_hosts) w after old two three (λ k. or_cases (either of_units of_marks k) (of_hosts k))
     (added_then of_units of_marks (either of_units of_marks) w after old one two (λ k. or_cases (of_units k) (of_marks k)) units marks)
-    (subst (λ (x : World). IsPageOf x p → AreTouched p t → AreAdded of_hosts x (applied x p.delta) two three) same hosts page touched))
+    (subst (λ (x : World). IsPageOf x p → AreTouched p t → AreAdded of_hosts x (edited x p.edits) two three) same hosts page touched))
     instances)
   where
     after : World
-    after = applied w p.delta
+    after = edited w p.edits
 
     of_units : WorldKey → Bool
     of_units = is_unit_among t.units

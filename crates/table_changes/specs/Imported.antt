@@ -15,3 +15,7 @@ pub record AreImported (before present : World) (count : Counts) (rows : List St
   pub apps : (more : List App) × (present.apps ≡ before.apps ++ more)
   pub readable : IsReadable present
   pub changes : AreChanges before present rows
+
+-- The rows change the world before the import into the present one, which its rows determine.
+abbrev pub HaveImported : World → World → List StoredRow → Type 0
+HaveImported before present rows = AreImported before present (counts present) rows

@@ -2,4 +2,3 @@ pub mod Added
 pub mod Imported
 pub mod Tallies
 pub mod Touching
-pub mod Words

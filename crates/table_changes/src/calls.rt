@@ -2,13 +2,12 @@
 
 ghost use Rattle.std.specs.Prelude.{◌≡◌, ◌++◌, [], IfOk, OnOk};
 ghost use Rattle.std.specs.List.{list_all};
-ghost use Rattle.sched_book.specs.Delta.{applied};
+ghost use Rattle.sched_book.specs.Delta.{edited};
 ghost use Rattle.sched_book.specs.Trusted.{Trusted};
 ghost use Rattle.call_sheet.specs.Sheets.{IsPageOf};
 ghost use Rattle.table_worlds.specs.Changes.{AreChanges};
-ghost use Rattle.table_worlds.specs.Readable.{IsReadable, are_words};
+ghost use Rattle.table_worlds.specs.Readable.{IsReadable, are_words, gives_words};
 ghost use Rattle.table_changes.specs.Touching.{AreTouched};
-ghost use Rattle.table_changes.specs.Words.{puts_words};
 ghost use Rattle.texts.specs.Words.{is_word as spec_word};
 
 use crate::hosts::push_hosts;
@@ -17,7 +16,7 @@ use crate::marks::push_marks;
 use crate::touched::{Touched, touched_by};
 use crate::units::push_units;
 use call_sheet::{Page, Sheet, put_all};
-use sched_book::{Change, Delta, Desk, Unavailable};
+use sched_book::{Desk, Edit, Edits, Unavailable};
 use std::alloc::Global;
 use table_meaning::rows::RowChange;
 use texts::{Listed, Text, is_word};
@@ -42,52 +41,51 @@ fn are_words(words: &[Text]) -> bool
     1 <= words.len() && are_all_words(words)
 }
 
-/// Whether the change puts an instance, grants a class, or puts a host whose platforms are words.
-fn puts_words(change: &Change) -> bool
-    ensures { result ≡ puts_words change.now }
+/// Whether the platforms that an edit gives to a host are words, at least one. Other edits give none.
+fn gives_words(edit: &Edit) -> bool
+    ensures { result ≡ gives_words edit.now }
 {
-    match change {
-        Change::Host { row, .. } => are_words(row.platforms.as_slice()),
-        Change::Instance { .. } | Change::Class { .. } => true,
-        Change::Account(_) | Change::App(_) | Change::Version(_) | Change::Workunit(_) => false,
+    match edit {
+        Edit::Host { row, .. } => are_words(row.platforms.as_slice()),
+        Edit::Instance { .. } | Edit::Class { .. } => true,
     }
 }
 
-/// Whether each of the changes puts an instance, grants a class, or puts a host whose platforms are words.
-fn put_words(changes: &[Change]) -> bool
-    ensures { result ≡ list_all puts_words changes.now }
+/// Whether all platforms that edits give to hosts are words.
+fn give_words(edits: &[Edit]) -> bool
+    ensures { result ≡ list_all gives_words edits.now }
 {
-    changes.iter().all(puts_words)
+    edits.iter().all(gives_words)
 }
 
-/// Puts the changes onto a page. Each must be at an existing place or at the next one.
+/// Makes the edits on a page. Each must be at an existing place or at the next one.
 fn put_onto<D: Desk>(
     alloc: Global,
     desk: &mut D,
     page: &mut Page,
-    delta: &Delta,
+    edits: &Edits,
 ) -> Result<(), Unavailable>
     ensures reads { D.reads desk.old desk.new }
     ensures page { Trusted D.Units desk.old desk.new (IsPageOf (D.world desk.old) page.old → IsPageOf (D.world desk.old) page.new) }
-    ensures delta { OnOk result (page.new.delta ≡ page.old.delta ++ delta.now) }
+    ensures edits { OnOk result (page.new.edits ≡ page.old.edits ++ edits.now) }
 {
     let mut sheet = Sheet { desk, page };
-    put_all(alloc, &mut sheet, delta.as_slice())
+    put_all(alloc, &mut sheet, edits.as_slice())
 }
 
-/// The page of a call that started from the desk's world and makes these changes.
-fn page_of<D: Desk>(alloc: Global, desk: &mut D, delta: &Delta) -> Result<Page, Unavailable>
+/// The page of a call that started from the desk's world and makes these edits.
+fn page_of<D: Desk>(alloc: Global, desk: &mut D, edits: &Edits) -> Result<Page, Unavailable>
     ensures reads { D.reads desk.old desk.new }
     ensures page { Trusted D.Units desk.old desk.new (IfOk result (IsPageOf (D.world desk.old))) }
-    ensures delta { IfOk result (λ page. page.delta ≡ delta.now) }
+    ensures edits { IfOk result (λ page. page.edits ≡ edits.now) }
 {
     let settings = desk.settings(alloc)?;
     let mut page = Page::new(alloc, settings);
-    put_onto(alloc, desk, &mut page, delta)?;
+    put_onto(alloc, desk, &mut page, edits)?;
     Ok(page)
 }
 
-/// Appends the rows that the page's changes touch: workunits, their marks, hosts, then instances.
+/// Appends the rows that the page's edits touch: workunits, their marks, hosts, then instances.
 fn push_rows<D: Desk>(
     alloc: Global,
     desk: &mut D,
@@ -97,7 +95,7 @@ fn push_rows<D: Desk>(
 ) -> Result<(), Unavailable>
     ensures reads { D.reads desk.old desk.new }
     ensures rows { Trusted D.Units desk.old desk.new (IsPageOf (D.world desk.old) page.now → AreTouched page.now touched.now → rows.old ≡ []
-        → OnOk result (AreChanges (D.world desk.old) (applied (D.world desk.old) page.now.delta) rows.new)) }
+        → OnOk result (AreChanges (D.world desk.old) (edited (D.world desk.old) page.now.edits) rows.new)) }
 {
     push_units(alloc, desk, page, touched.units.as_slice(), rows)?;
     push_marks(page, touched.units.as_slice(), rows)?;
@@ -105,7 +103,7 @@ fn push_rows<D: Desk>(
     push_instances(page, touched.units.as_slice(), rows)
 }
 
-/// The rows that the changes of a page put.
+/// The rows that the edits of a page put.
 fn rows_of_page<D: Desk>(
     alloc: Global,
     desk: &mut D,
@@ -113,7 +111,7 @@ fn rows_of_page<D: Desk>(
 ) -> Result<Listed<RowChange>, Unavailable>
     ensures reads { D.reads desk.old desk.new }
     ensures rows { Trusted D.Units desk.old desk.new (IsPageOf (D.world desk.old) page.now →
-        IfOk result (AreChanges (D.world desk.old) (applied (D.world desk.old) page.now.delta))) }
+        IfOk result (AreChanges (D.world desk.old) (edited (D.world desk.old) page.now.edits))) }
 {
     let touched = touched_by(alloc, page)?;
     let mut rows = Listed::new(alloc);
@@ -121,22 +119,21 @@ fn rows_of_page<D: Desk>(
     Ok(rows)
 }
 
-/// The rows that the changes of a call put: workunits, marks, hosts and instances. `Unavailable` if there is any other
-/// change.
+/// The rows that the edits of a call put: workunits, marks, hosts and instances.
 pub(crate) fn rows_of_call<D: Desk>(
     alloc: Global,
     desk: &mut D,
-    delta: &Delta,
+    edits: &Edits,
 ) -> Result<Listed<RowChange>, Unavailable>
     ensures reads { D.reads desk.old desk.new }
     ensures rows { Trusted D.Units desk.old desk.new (
-        IfOk result (AreChanges (D.world desk.old) (applied (D.world desk.old) delta.now))) }
+        IfOk result (AreChanges (D.world desk.old) (edited (D.world desk.old) edits.now))) }
     ensures readable { Trusted D.Units desk.old desk.new (IsReadable (D.world desk.old) →
-        IfOk result (λ rows. IsReadable (applied (D.world desk.old) delta.now))) }
+        IfOk result (λ rows. IsReadable (edited (D.world desk.old) edits.now))) }
 {
-    if !put_words(delta.as_slice()) {
+    if !give_words(edits.as_slice()) {
         return Err(Unavailable);
     }
-    let page = page_of(alloc, desk, delta)?;
+    let page = page_of(alloc, desk, edits)?;
     rows_of_page(alloc, desk, &page)
 }

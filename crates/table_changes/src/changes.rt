@@ -8,20 +8,18 @@ ghost use Rattle.table_worlds.specs.Readable.{IsReadable};
 
 use crate::calls::rows_of_call;
 use crate::imports::rows_of_import;
-use sched_book::{Change, Delta, Desk, Unavailable};
+use sched_book::{Delta, Desk, Unavailable};
 use std::alloc::Global;
 use table_meaning::rows::RowChange;
 use texts::Listed;
 
 /// The rows that these changes of the desk's world put. Each row comes after those that it refers to.
 ///
-/// The changes are those of an import or of a call: only new rows, or only hosts, instances and classes.
-///
 /// # Errors
 ///
-/// [`Unavailable`] if out of memory, if the desk is unavailable, or if a table can't hold a number of a row. Also if
-/// the changes are of both kinds, or name an application that does not exist. Also if they give a host platforms that
-/// are not words, or put a host or an instance beyond the next.
+/// [`Unavailable`] if out of memory, if the desk is unavailable, or if a table can't hold a number of a row. Also if new
+/// rows name an application that does not exist. Also if edits give a host platforms that are not words, or put a host or
+/// an instance beyond the next.
 pub fn rows_of_changes<D: Desk>(
     alloc: Global,
     desk: &mut D,
@@ -33,10 +31,8 @@ pub fn rows_of_changes<D: Desk>(
     ensures readable { Trusted D.Units desk.old desk.new (IsReadable (D.world desk.old) →
         IfOk result (λ rows. IsReadable (applied (D.world desk.old) delta.now))) }
 {
-    match delta.as_slice().first() {
-        Some(Change::Host { .. } | Change::Instance { .. } | Change::Class { .. }) => {
-            rows_of_call(alloc, desk, delta)
-        }
-        _ => rows_of_import(alloc, desk, delta),
+    match delta {
+        Delta::Rows(rows) => rows_of_import(alloc, desk, rows),
+        Delta::Edits(edits) => rows_of_call(alloc, desk, edits),
     }
 }

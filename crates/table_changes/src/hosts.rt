@@ -1,7 +1,7 @@
 //! The rows of hosts that a call put, or whose instances or credit it changed.
 
 ghost use Rattle.std.specs.Prelude.{◌≡◌, ◌+◌, option_map, IfOk, OnOk};
-ghost use Rattle.sched_book.specs.Delta.{applied};
+ghost use Rattle.sched_book.specs.Delta.{edited};
 ghost use Rattle.sched_book.specs.Places.{host_at};
 ghost use Rattle.sched_book.specs.Trusted.{Trusted};
 ghost use Rattle.sched_book.specs.declared.world.World.{World};
@@ -57,7 +57,7 @@ fn total_after<D: Desk>(
     moved(Total { held, credit }, share, other)
 }
 
-/// The host of a number, as it is after the page's changes.
+/// The host of a number, as it is after the page's edits.
 fn host_now<D: Desk>(
     alloc: Global,
     desk: &mut D,
@@ -66,7 +66,7 @@ fn host_now<D: Desk>(
 ) -> Result<Option<HostRow>, Unavailable>
     ensures reads { D.reads desk.old desk.new }
     ensures host { Trusted D.Units desk.old desk.new (IsPageOf (D.world desk.old) page.now →
-        IfOk result (λ row. row ≡ host_at (applied (D.world desk.old) page.now.delta) host)) }
+        IfOk result (λ row. row ≡ host_at (edited (D.world desk.old) page.now.edits) host)) }
 {
     match page.host(host) {
         Some(row) => Ok(Some(copy_of(row)?)),
@@ -103,8 +103,8 @@ fn changed_host<D: Desk>(
 ) -> Result<Option<RowChange>, Unavailable>
     ensures reads { D.reads desk.old desk.new }
     ensures row { Trusted D.Units desk.old desk.new (IsPageOf (D.world desk.old) page.now
-        → ReplacesShare (D.world desk.old) (applied (D.world desk.old) page.now.delta) host share other
-        → IfOk result (IsChange (row_in (D.world desk.old) (key.Host host)) (row_in (applied (D.world desk.old) page.now.delta) (key.Host host)))) }
+        → ReplacesShare (D.world desk.old) (edited (D.world desk.old) page.now.edits) host share other
+        → IfOk result (IsChange (row_in (D.world desk.old) (key.Host host)) (row_in (edited (D.world desk.old) page.now.edits) (key.Host host)))) }
 {
     if page.host(host).is_none() && share.held == other.held && share.credit == other.credit {
         return Ok(None);
@@ -124,7 +124,7 @@ pub(crate) fn push_hosts<D: Desk>(
 ) -> Result<(), Unavailable>
     ensures reads { D.reads desk.old desk.new }
     ensures rows { Trusted D.Units desk.old desk.new (IsPageOf (D.world desk.old) page.now → AreTouched page.now touched.now
-        → OnOk result (AreAdded (is_host_among touched.now.hosts) (D.world desk.old) (applied (D.world desk.old) page.now.delta) rows.old rows.new)) }
+        → OnOk result (AreAdded (is_host_among touched.now.hosts) (D.world desk.old) (edited (D.world desk.old) page.now.edits) rows.old rows.new)) }
 {
     for host in touched.hosts.as_slice() {
         let share = tally(&touched.tallies.before, *host);

@@ -2,24 +2,24 @@
 
 ghost use Rattle.std.specs.Prelude.{◌≡◌, ◌+◌, ◌≤◌, [], ◌∷◌, length, replicate, IfOk, OnOk, Some};
 ghost use Rattle.sched_book.specs.Count as spec;
-ghost use Rattle.sched_book.specs.Delta.{applied, applied_one};
+ghost use Rattle.sched_book.specs.Imports.{with_rows};
 ghost use Rattle.sched_book.specs.Places.{unit_at, status_of as spec_status};
 ghost use Rattle.sched_book.specs.Settle.{fresh};
 ghost use Rattle.sched_book.specs.Trusted.{Trusted};
-ghost use Rattle.sched_book.specs.declared.delta.Change.TheVariants as change;
 ghost use Rattle.sched_book.specs.declared.instance.UnitBook.{UnitBook};
+ghost use Rattle.sched_book.specs.declared.rows.Rows.TheVariants as kinds;
 ghost use Rattle.sched_book.specs.declared.world.World.{World};
 ghost use Rattle.table_worlds.specs.Changes.{AreChanges};
 ghost use Rattle.table_worlds.specs.Readable.{IsReadable};
 ghost use Rattle.table_changes.specs.Added.{is_instance_among, AreAdded};
-ghost use Rattle.table_changes.specs.Imported.{AreImported};
+ghost use Rattle.table_changes.specs.Imported.{AreImported, HaveImported};
 
 use crate::applications::known_app;
 use sched_book::count::status;
 use sched_book::limits::MOST_INSTANCES;
 use sched_book::{
-    Account, Agreement, App, Change, Counts, Delta, Desk, Instance, Place, Status, Unavailable,
-    Version, Workunit, fresh_instances,
+    Account, Agreement, App, Counts, Desk, Instance, Place, Rows, Status, Unavailable, Version,
+    Workunit, fresh_instances,
 };
 use std::alloc::Global;
 use table_meaning::rows::{RowChange, StoredRow};
@@ -41,7 +41,7 @@ fn push_account(
     account: &Account,
     rows: &mut Listed<RowChange>,
 ) -> Result<Counts, Unavailable>
-    ensures { (w v : World) → AreImported w v count rows.old → IfOk result (λ counted. AreImported w (applied_one v (change.Account account.now)) counted rows.new) }
+    ensures { (w v : World) → AreImported w v count rows.old → IfOk result (λ counted. AreImported w (with_rows v (kinds.Accounts (account.now ∷ []))) counted rows.new) }
 {
     let accounts = next(count.accounts)?;
     let row = account_row(accounts, account)?;
@@ -51,7 +51,7 @@ fn push_account(
 
 /// Appends the row of a new application, and counts it.
 fn push_app(count: Counts, app: &App, rows: &mut Listed<RowChange>) -> Result<Counts, Unavailable>
-    ensures { (w v : World) → AreImported w v count rows.old → IfOk result (λ counted. AreImported w (applied_one v (change.App app.now)) counted rows.new) }
+    ensures { (w v : World) → AreImported w v count rows.old → IfOk result (λ counted. AreImported w (with_rows v (kinds.Apps (app.now ∷ []))) counted rows.new) }
 {
     let apps = next(count.apps)?;
     let row = app_row(apps, app)?;
@@ -70,7 +70,7 @@ fn push_version<D: Desk>(
 ) -> Result<Counts, Unavailable>
     ensures reads { D.reads desk.old desk.new }
     ensures rows { Trusted D.Units desk.old desk.new ((v : World) → AreImported (D.world desk.old) v count rows.old
-        → IfOk result (λ counted. AreImported (D.world desk.old) (applied_one v (change.Version version.now)) counted rows.new)) }
+        → IfOk result (λ counted. AreImported (D.world desk.old) (with_rows v (kinds.Versions (version.now ∷ []))) counted rows.new)) }
 {
     let app = known_app(alloc, desk, version.app.as_str())?;
     let versions = next(count.versions)?;
@@ -79,17 +79,6 @@ fn push_version<D: Desk>(
     let class = class_row(versions, version)?;
     rows.push(RowChange::insert(StoredRow::VersionClass(class)))?;
     Ok(Counts { versions, ..count })
-}
-
-/// An instance that was not sent yet.
-fn fresh_instance() -> Instance
-    ensures { result ≡ fresh }
-{
-    Instance {
-        owner: None,
-        lapse: None,
-        report: None,
-    }
 }
 
 /// The status of a new workunit. `Unavailable` if it begins with more instances than it may have.
@@ -118,7 +107,7 @@ fn push_fresh(
         → OnOk result (AreAdded (is_instance_among (unit ∷ [])) w v rows.old rows.new) }
 {
     for number in 0..count {
-        let row = instance_row(Place { unit, number }, &fresh_instance(), status)?;
+        let row = instance_row(Place { unit, number }, &Instance::unsent(), status)?;
         rows.push(RowChange::insert(StoredRow::Instance(row)))?;
     }
     Ok(())
@@ -135,7 +124,7 @@ fn push_unit<D: Desk>(
 ) -> Result<Counts, Unavailable>
     ensures reads { D.reads desk.old desk.new }
     ensures rows { Trusted D.Units desk.old desk.new ((v : World) → AreImported (D.world desk.old) v count rows.old
-        → IfOk result (λ counted. AreImported (D.world desk.old) (applied_one v (change.Workunit unit.now)) counted rows.new)) }
+        → IfOk result (λ counted. AreImported (D.world desk.old) (with_rows v (kinds.Workunits (unit.now ∷ []))) counted rows.new)) }
 {
     let app = known_app(alloc, desk, unit.app.as_str())?;
     let workunits = next(count.workunits)?;
@@ -148,44 +137,107 @@ fn push_unit<D: Desk>(
     Ok(Counts { workunits, ..count })
 }
 
-/// Appends the rows of one change of an import, and counts it. `Unavailable` if it is any other change.
-fn push_change<D: Desk>(
+/// Appends the rows of new accounts.
+fn import_accounts(
+    accounts: &[Account],
+    count: Counts,
+    rows: &mut Listed<RowChange>,
+) -> Result<(), Unavailable>
+    ensures { (w v : World) → AreImported w v count rows.old → OnOk result (HaveImported w (with_rows v (kinds.Accounts accounts.now)) rows.new) }
+{
+    let mut counted = count;
+    for account in accounts {
+        counted = push_account(counted, account, rows)?;
+    }
+    Ok(())
+}
+
+/// Appends the rows of new applications.
+fn import_apps(apps: &[App], count: Counts, rows: &mut Listed<RowChange>) -> Result<(), Unavailable>
+    ensures { (w v : World) → AreImported w v count rows.old → OnOk result (HaveImported w (with_rows v (kinds.Apps apps.now)) rows.new) }
+{
+    let mut counted = count;
+    for app in apps {
+        counted = push_app(counted, app, rows)?;
+    }
+    Ok(())
+}
+
+/// Appends the rows of new versions and of their classes.
+fn import_versions<D: Desk>(
     alloc: Global,
     desk: &mut D,
+    versions: &[Version],
     count: Counts,
-    change: &Change,
     rows: &mut Listed<RowChange>,
-) -> Result<Counts, Unavailable>
+) -> Result<(), Unavailable>
     ensures reads { D.reads desk.old desk.new }
     ensures rows { Trusted D.Units desk.old desk.new ((v : World) → AreImported (D.world desk.old) v count rows.old
-        → IfOk result (λ counted. AreImported (D.world desk.old) (applied_one v change.now) counted rows.new)) }
+        → OnOk result (HaveImported (D.world desk.old) (with_rows v (kinds.Versions versions.now)) rows.new)) }
 {
-    match change {
-        Change::Account(account) => push_account(count, account, rows),
-        Change::App(app) => push_app(count, app, rows),
-        Change::Version(version) => push_version(alloc, desk, count, version, rows),
-        Change::Workunit(unit) => push_unit(alloc, desk, count, unit, rows),
-        Change::Host { .. } | Change::Instance { .. } | Change::Class { .. } => Err(Unavailable),
+    let mut counted = count;
+    for version in versions {
+        counted = push_version(alloc, desk, counted, version, rows)?;
+    }
+    Ok(())
+}
+
+/// Appends the rows of new workunits, of their marks and of their instances.
+fn import_units<D: Desk>(
+    alloc: Global,
+    desk: &mut D,
+    units: &[Workunit],
+    count: Counts,
+    rows: &mut Listed<RowChange>,
+) -> Result<(), Unavailable>
+    ensures reads { D.reads desk.old desk.new }
+    ensures rows { Trusted D.Units desk.old desk.new ((v : World) → AreImported (D.world desk.old) v count rows.old
+        → OnOk result (HaveImported (D.world desk.old) (with_rows v (kinds.Workunits units.now)) rows.new)) }
+{
+    let mut counted = count;
+    for unit in units {
+        counted = push_unit(alloc, desk, counted, unit, rows)?;
+    }
+    Ok(())
+}
+
+/// Appends the rows of an import.
+fn import_rows<D: Desk>(
+    alloc: Global,
+    desk: &mut D,
+    new: &Rows,
+    count: Counts,
+    rows: &mut Listed<RowChange>,
+) -> Result<(), Unavailable>
+    ensures reads { D.reads desk.old desk.new }
+    ensures rows { Trusted D.Units desk.old desk.new ((v : World) → AreImported (D.world desk.old) v count rows.old
+        → OnOk result (HaveImported (D.world desk.old) (with_rows v new.now) rows.new)) }
+{
+    match new {
+        Rows::Accounts(accounts) => import_accounts(accounts.as_slice(), count, rows),
+        Rows::Apps(apps) => import_apps(apps.as_slice(), count, rows),
+        Rows::Versions(versions) => {
+            import_versions(alloc, desk, versions.as_slice(), count, rows)
+        }
+        Rows::Workunits(units) => import_units(alloc, desk, units.as_slice(), count, rows),
     }
 }
 
-/// The rows that an import's changes put, in their order. A version is followed by its class, a workunit by its mark
-/// and its instances. `Unavailable` if there is any other change.
+/// The rows that an import puts, in their order. A version is followed by its class, a workunit by its mark and its
+/// instances.
 pub(crate) fn rows_of_import<D: Desk>(
     alloc: Global,
     desk: &mut D,
-    delta: &Delta,
+    new: &Rows,
 ) -> Result<Listed<RowChange>, Unavailable>
     ensures reads { D.reads desk.old desk.new }
     ensures rows { Trusted D.Units desk.old desk.new (IsReadable (D.world desk.old) →
-        IfOk result (AreChanges (D.world desk.old) (applied (D.world desk.old) delta.now))) }
+        IfOk result (AreChanges (D.world desk.old) (with_rows (D.world desk.old) new.now))) }
     ensures readable { Trusted D.Units desk.old desk.new (IsReadable (D.world desk.old) →
-        IfOk result (λ rows. IsReadable (applied (D.world desk.old) delta.now))) }
+        IfOk result (λ rows. IsReadable (with_rows (D.world desk.old) new.now))) }
 {
-    let mut count = desk.counts()?;
+    let count = desk.counts()?;
     let mut rows = Listed::new(alloc);
-    for change in delta.as_slice() {
-        count = push_change(alloc, desk, count, change, &mut rows)?;
-    }
+    import_rows(alloc, desk, new, count, &mut rows)?;
     Ok(rows)
 }

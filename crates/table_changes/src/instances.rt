@@ -3,7 +3,7 @@
 ghost use Rattle.std.specs.Prelude.{◌≡◌, [], ◌∷◌, IfOk, OnOk};
 ghost use Rattle.std.specs.Option.{option_copied};
 ghost use Rattle.sched_book.specs.Count as spec;
-ghost use Rattle.sched_book.specs.Delta.{applied};
+ghost use Rattle.sched_book.specs.Delta.{edited};
 ghost use Rattle.sched_book.specs.declared.world.World.{World};
 ghost use Rattle.call_sheet.specs.Sheets.{IsLeafOf, IsLeafAt, IsPageOf};
 ghost use Rattle.table_worlds.specs.Changes.{IsChange};
@@ -81,7 +81,7 @@ pub(crate) fn push_instances(
     rows: &mut Listed<RowChange>,
 ) -> Result<(), Unavailable>
     ensures { (w : World) → IsPageOf w page.now
-        → OnOk result (AreAdded (is_instance_among units.now) w (applied w page.now.delta) rows.old rows.new) }
+        → OnOk result (AreAdded (is_instance_among units.now) w (edited w page.now.edits) rows.old rows.new) }
 {
     for unit in units {
         push_instances_of(*unit, page.leaf(*unit), rows)?;

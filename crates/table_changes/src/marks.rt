@@ -2,7 +2,7 @@
 
 ghost use Rattle.std.specs.Prelude.{◌≡◌, IsTrue, IfOk, OnOk};
 ghost use Rattle.std.specs.Option.{option_copied};
-ghost use Rattle.sched_book.specs.Delta.{applied};
+ghost use Rattle.sched_book.specs.Delta.{edited};
 ghost use Rattle.sched_book.specs.declared.world.World.{World};
 ghost use Rattle.call_sheet.specs.Sheets.{IsLeafAt, IsPageOf};
 ghost use Rattle.table_worlds.specs.Changes.{IsChange};
@@ -48,7 +48,7 @@ pub(crate) fn push_marks(
     rows: &mut Listed<RowChange>,
 ) -> Result<(), Unavailable>
     ensures { (w : World) → IsPageOf w page.now
-        → OnOk result (AreAdded (is_mark_among units.now) w (applied w page.now.delta) rows.old rows.new) }
+        → OnOk result (AreAdded (is_mark_among units.now) w (edited w page.now.edits) rows.old rows.new) }
 {
     for unit in units {
         rows.push_some(changed_mark(*unit, page.leaf(*unit))?)?;

@@ -1,4 +1,4 @@
-//! What the changes of a page touch.
+//! What the edits of a page touch.
 
 ghost use Rattle.std.specs.Prelude.{◌≡◌, ◌||◌, ℕ, false, None, is_some, IfOk, OnOk};
 ghost use Rattle.std.specs.BTreeMap.{get};
@@ -51,7 +51,7 @@ fn hosts_of(alloc: Global, page: &Page, tallies: &Tallies) -> Result<Listed<u32>
     Ok(Listed::of(hosts.iter().copied().collect(alloc)?))
 }
 
-/// What the changes of the page touch.
+/// What the edits of the page touch.
 pub(crate) fn touched_by(alloc: Global, page: &Page) -> Result<Touched, Unavailable>
     ensures { IfOk result (AreTouched page.now) }
 {

@@ -3,7 +3,7 @@
 ghost use Rattle.std.specs.Prelude.{◌≡◌, IfOk, OnOk};
 ghost use Rattle.std.specs.Option.{option_copied};
 ghost use Rattle.sched_book.specs.Count as spec;
-ghost use Rattle.sched_book.specs.Delta.{applied};
+ghost use Rattle.sched_book.specs.Delta.{edited};
 ghost use Rattle.sched_book.specs.Trusted.{Trusted};
 ghost use Rattle.sched_book.specs.declared.world.World.{World};
 ghost use Rattle.call_sheet.specs.Sheets.{IsLeafAt, IsPageOf};
@@ -62,7 +62,7 @@ pub(crate) fn push_units<D: Desk>(
 ) -> Result<(), Unavailable>
     ensures reads { D.reads desk.old desk.new }
     ensures rows { Trusted D.Units desk.old desk.new (IsPageOf (D.world desk.old) page.now →
-        OnOk result (AreAdded (is_unit_among units.now) (D.world desk.old) (applied (D.world desk.old) page.now.delta) rows.old rows.new)) }
+        OnOk result (AreAdded (is_unit_among units.now) (D.world desk.old) (edited (D.world desk.old) page.now.edits) rows.old rows.new)) }
 {
     for unit in units {
         rows.push_some(changed_unit(alloc, desk, *unit, page.leaf(*unit))?)?;

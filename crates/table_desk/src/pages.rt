@@ -9,7 +9,7 @@ ghost use Rattle.table_desk.specs.Asked.{Asked};
 ghost use Rattle.table_desk.specs.Pages.{candidates_at, next_page, unsent_after};
 ghost use Rattle.table_desk.specs.WaitingPage.{is_within, with_wait_at, IsPageFor, IsPageOf};
 
-use crate::sorted::{is_before, rest_from, set_place};
+use crate::sorted::{rest_from, set_place};
 use sched_book::{Place, Unavailable};
 use sqlite::{Alter, Connection};
 use std::alloc::Global;
@@ -40,12 +40,12 @@ pub(crate) fn next_page(page: QueuePage, places: &[Place]) -> Result<Option<Plac
 fn is_within(from: Place, end: Option<Place>, place: Place) -> bool
     ensures { result ≡ is_within from end place }
 {
-    if is_before(place, from) {
+    if place.is_before(from) {
         return false;
     }
     match end {
         None => true,
-        Some(end) => is_before(place, end),
+        Some(end) => place.is_before(end),
     }
 }
 

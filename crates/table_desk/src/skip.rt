@@ -5,7 +5,7 @@ ghost use Rattle.sched_book.specs.Places as book;
 ghost use Rattle.sched_book.specs.declared.instance.Place.{Place as BookPlace};
 ghost use Rattle.table_desk.specs.Skips.{no_skip, covers, with_came, raised, nearer, first_listed};
 
-use crate::sorted::{is_before, is_listed};
+use crate::sorted::is_listed;
 use sched_book::Place;
 use std::alloc::Global;
 use std::marker::Model;
@@ -34,18 +34,14 @@ fn later(place: Place, other: Place) -> Place
     ensures than_the_other { book.is_before result other ≡ false }
     ensures one_of_them { (result ≡ place) ⊎ (result ≡ other) }
 {
-    if is_before(place, other) {
-        other
-    } else {
-        place
-    }
+    if place.is_before(other) { other } else { place }
 }
 
 /// The earlier one of two places, if the second is not before `from`.
 fn nearer(from: Place, next: Place, place: Place) -> Place
     ensures { result ≡ nearer from next place }
 {
-    if !is_before(place, from) && is_before(place, next) {
+    if !place.is_before(from) && place.is_before(next) {
         place
     } else {
         next
@@ -78,7 +74,7 @@ impl Skip {
     pub fn covers(&self, place: Place) -> bool
         ensures { result ≡ covers self.now place }
     {
-        is_before(place, self.place) && !is_listed(self.came.as_slice(), place)
+        place.is_before(self.place) && !is_listed(self.came.as_slice(), place)
     }
 
     /// The first place from this one on that the skip does not cover.
@@ -114,7 +110,7 @@ impl Skip {
     pub fn raise(&mut self, place: Place)
         ensures { self.new ≡ raised self.old place }
     {
-        if !is_before(place, self.place) {
+        if !place.is_before(self.place) {
             self.place = place;
             self.came.clear();
         }

@@ -1,20 +1,23 @@
 -- If a world has a row at a key, it still has one there after changes.
-use Rattle.std.proofs.Common.{◌≡◌, ℕ, zero, suc, ◌+◌, ◌-◌, ◌≤◌, Bool, true, false, cond, eqb, List, [], ◌∷◌, ◌++◌, length, Option, Some, None, option_map, option_and_then, refl, sym, ap, ◌∙◌, arith, nat_lt}
+use Rattle.std.proofs.Common.{◌≡◌, ℕ, zero, suc, ◌-◌, ◌≤◌, Bool, true, false, cond, eqb, List, [], ◌∷◌, ◌++◌, length, map, Option, Some, None, option_map, option_and_then, refl, sym, ap, ◌∙◌, arith, nat_lt}
 use Rattle.std.specs.Prelude.{slice_get, slice_set}
-use Rattle.std.proofs.lemmas.Bool.{eqb-true}
 use Rattle.std.proofs.lemmas.List.{length-append, length-set}
 use Rattle.std.proofs.lemmas.Option.{none-some, slice_get_past}
-use Rattle.sched_book.specs.Delta.{set_at, set_nth, with_instance, applied_one, applied}
+use Rattle.sched_book.specs.Delta.{set_at, set_nth, with_instance, edited_one, edited, applied}
 use Rattle.sched_book.specs.Classes.{with_class}
-use Rattle.sched_book.specs.Imports.{new_unit}
+use Rattle.sched_book.specs.Imports.{new_unit, with_rows}
 use Rattle.sched_book.specs.Places.{nth, unit_at}
 use Rattle.sched_book.specs.Reports.{modify_nth}
-use Rattle.sched_book.specs.declared.delta.Change.{Change}
-use Rattle.sched_book.specs.declared.delta.Change.TheVariants as change
+use Rattle.sched_book.specs.declared.delta.Delta.{Delta}
+use Rattle.sched_book.specs.declared.delta.Delta.TheVariants as delta
+use Rattle.sched_book.specs.declared.delta.Edit.{Edit}
+use Rattle.sched_book.specs.declared.delta.Edit.TheVariants as edit
 use Rattle.sched_book.specs.declared.instance.Instance.{Instance as Job}
 use Rattle.sched_book.specs.declared.instance.UnitBook.{UnitBook}
+use Rattle.sched_book.specs.declared.rows.Rows.{Rows}
+use Rattle.sched_book.specs.declared.rows.Rows.TheVariants as rows
 use Rattle.sched_book.specs.declared.world.World.{World}
-use Rattle.sched_book.proofs.PlacesOf.{nth-suc, nth-push, nth-modify_nth, length-modify_nth}
+use Rattle.sched_book.proofs.PlacesOf.{nth-suc, nth-front, nth-modify_nth, length-modify_nth}
 use Rattle.table_meaning.specs.declared.rows.StoredRow.{StoredRow}
 use Rattle.table_worlds.specs.declared.keys.WorldKey.{WorldKey}
 use Rattle.table_worlds.specs.declared.keys.WorldKey.TheVariants.{Account, App, Version, Class, Unit, Mark, Host, Instance}
@@ -34,15 +37,15 @@ none_at : {X : Type 0} (xs ys : List X) (n : ℕ) → length xs ≤ length ys �
 none_at xs ys zero fewer none = refl
 none_at xs ys (suc i) fewer none = nth-suc xs i ∙ no_more xs ys i fewer (sym (nth-suc ys i) ∙ none)
 
-more_pushed : {X : Type 0} (xs : List X) (x : X) → length xs ≤ length (xs ++ x ∷ [])
-more_pushed xs x = omega (arith, length-append xs (x ∷ []))
+more_behind : {X : Type 0} (xs more : List X) → length xs ≤ length (xs ++ more)
+more_behind xs more = omega (arith, length-append xs more)
 
 more_set : {X : Type 0} (xs : List X) (i : ℕ) (x : X) → length xs ≤ length (set_at xs i x)
 more_set xs i x = cases (nat_lt i (length xs))
   where
     cases : (b : Bool) → length xs ≤ length (cond b (slice_set xs i x) (xs ++ x ∷ []))
     cases true = omega (arith, length-set xs i x)
-    cases false = more_pushed xs x
+    cases false = more_behind xs (x ∷ [])
 
 more_put : {X : Type 0} (xs : List X) (n : ℕ) (x : X) → length xs ≤ length (set_nth xs n x)
 more_put xs n x = cases (eqb n 0)
@@ -80,17 +83,12 @@ record NoFewer (w w' : World) : Type 0 where
 same : (xs : ℕ) → xs ≤ xs
 same n = omega arith
 
-new_unit_jobs : (bs : List UnitBook) (b : UnitBook) (unit number : ℕ) → job_at number (nth (bs ++ b ∷ []) unit) ≡ None → job_at number (nth bs unit) ≡ None
-new_unit_jobs bs b unit number none =
-    cases (eqb (length bs + 1) unit) refl (sym (ap (job_at number) (nth-push bs b unit)) ∙ none)
+new_unit_jobs : (bs more : List UnitBook) (unit number : ℕ) → job_at number (nth (bs ++ more) unit) ≡ None → job_at number (nth bs unit) ≡ None
+new_unit_jobs bs more unit number none = cases (nth bs unit) refl
   where
-    cases : (c : Bool) → eqb (length bs + 1) unit ≡ c → job_at number (cond c (Some b) (nth bs unit)) ≡ None → job_at number (nth bs unit) ≡ None
-    cases true new none = ap (job_at number) (past unit (eqb-true (length bs + 1) unit new))
-      where
-        past : (n : ℕ) → length bs + 1 ≡ n → nth bs n ≡ None
-        past zero is = refl
-        past (suc i) is = nth-suc bs i ∙ slice_get_past bs i (omega (arith, is))
-    cases false old none = none
+    cases : (o : Option UnitBook) → nth bs unit ≡ o → job_at number o ≡ None
+    cases None at = refl
+    cases (Some b) at = ap (job_at number) (sym (nth-front bs more unit b at)) ∙ none
 
 changed_jobs : (f : UnitBook → UnitBook) → ((b : UnitBook) → length b.instances ≤ length (f b).instances)
     → (p : ℕ) (bs : List UnitBook) (unit number : ℕ) → job_at number (nth (modify_nth f bs p) unit) ≡ None → job_at number (nth bs unit) ≡ None
@@ -102,36 +100,71 @@ changed_jobs f more p bs unit number none = cases (eqb p unit) (nth bs unit) (sy
     cases false o none = none
 
 module _ (w : World) where
-  accounts_stay : (c : Change) → length w.accounts ≤ length (applied_one w c).accounts
-  accounts_stay (change.Account a) = more_pushed w.accounts a
-  accounts_stay _ = same (length w.accounts)
+  units_stay : (e : Edit) → length w.units ≤ length (edited_one w e).units
+  units_stay (edit.Host number h) = same (length w.units)
+  units_stay (edit.Instance p x) = let long = length-modify_nth (with_instance p.number x) w.units p.unit in omega (arith, long)
+  units_stay (edit.Class unit class) = let long = length-modify_nth (with_class class) w.units unit in omega (arith, long)
 
-  apps_stay : (c : Change) → length w.apps ≤ length (applied_one w c).apps
-  apps_stay (change.App a) = more_pushed w.apps a
-  apps_stay _ = same (length w.apps)
+  hosts_stay : (e : Edit) → length w.hosts ≤ length (edited_one w e).hosts
+  hosts_stay (edit.Host number h) = more_put w.hosts number h
+  hosts_stay (edit.Instance p x) = same (length w.hosts)
+  hosts_stay (edit.Class unit class) = same (length w.hosts)
 
-  versions_stay : (c : Change) → length w.versions ≤ length (applied_one w c).versions
-  versions_stay (change.Version v) = more_pushed w.versions v
-  versions_stay _ = same (length w.versions)
+  jobs_stay : (e : Edit) (unit number : ℕ) → job_at number (unit_at (edited_one w e) unit) ≡ None → job_at number (unit_at w unit) ≡ None
+  jobs_stay (edit.Host number h) = λ unit number none. none
+  jobs_stay (edit.Instance p x) = changed_jobs (with_instance p.number x) (λ b. more_set b.instances p.number x) p.unit w.units
+  jobs_stay (edit.Class unit class) = changed_jobs (with_class class) (λ b. same (length b.instances)) unit w.units
 
-  units_stay : (c : Change) → length w.units ≤ length (applied_one w c).units
-  units_stay (change.Workunit u) = more_pushed w.units (new_unit u)
-  units_stay (change.Instance p x) = let long = length-modify_nth (with_instance p.number x) w.units p.unit in omega (arith, long)
-  units_stay (change.Class unit class) = let long = length-modify_nth (with_class class) w.units unit in omega (arith, long)
-  units_stay _ = same (length w.units)
+  lists_stay : (e : Edit) → (length w.accounts ≤ length (edited_one w e).accounts) × (length w.apps ≤ length (edited_one w e).apps)
+      × (length w.versions ≤ length (edited_one w e).versions)
+  lists_stay (edit.Host number h) = (same (length w.accounts), same (length w.apps), same (length w.versions))
+  lists_stay (edit.Instance p x) = (same (length w.accounts), same (length w.apps), same (length w.versions))
+  lists_stay (edit.Class unit class) = (same (length w.accounts), same (length w.apps), same (length w.versions))
 
-  hosts_stay : (c : Change) → length w.hosts ≤ length (applied_one w c).hosts
-  hosts_stay (change.Host number h) = more_put w.hosts number h
-  hosts_stay _ = same (length w.hosts)
+  one_edit : (e : Edit) → NoFewer w (edited_one w e)
+  one_edit e = record {
+    accounts = (lists_stay e).0;
+    apps = (lists_stay e).1;
+    versions = (lists_stay e).2;
+    units = units_stay e;
+    hosts = hosts_stay e;
+    jobs = jobs_stay e;
+  }
 
-  jobs_stay : (c : Change) (unit number : ℕ) → job_at number (unit_at (applied_one w c) unit) ≡ None → job_at number (unit_at w unit) ≡ None
-  jobs_stay (change.Workunit u) = new_unit_jobs w.units (new_unit u)
-  jobs_stay (change.Instance p x) = changed_jobs (with_instance p.number x) (λ b. more_set b.instances p.number x) p.unit w.units
-  jobs_stay (change.Class unit class) = changed_jobs (with_class class) (λ b. same (length b.instances)) unit w.units
-  jobs_stay _ = λ unit number none. none
-
-  one_change : (c : Change) → NoFewer w (applied_one w c)
-  one_change c = record { accounts = accounts_stay c; apps = apps_stay c; versions = versions_stay c; units = units_stay c; hosts = hosts_stay c; jobs = jobs_stay c }
+  -- new rows come after the others
+  new_rows : (new : Rows) → NoFewer w (with_rows w new)
+  new_rows (rows.Accounts xs) = record {
+    accounts = more_behind w.accounts xs;
+    apps = same (length w.apps);
+    versions = same (length w.versions);
+    units = same (length w.units);
+    hosts = same (length w.hosts);
+    jobs = λ unit number none. none;
+  }
+  new_rows (rows.Apps xs) = record {
+    accounts = same (length w.accounts);
+    apps = more_behind w.apps xs;
+    versions = same (length w.versions);
+    units = same (length w.units);
+    hosts = same (length w.hosts);
+    jobs = λ unit number none. none;
+  }
+  new_rows (rows.Versions xs) = record {
+    accounts = same (length w.accounts);
+    apps = same (length w.apps);
+    versions = more_behind w.versions xs;
+    units = same (length w.units);
+    hosts = same (length w.hosts);
+    jobs = λ unit number none. none;
+  }
+  new_rows (rows.Workunits xs) = record {
+    accounts = same (length w.accounts);
+    apps = same (length w.apps);
+    versions = same (length w.versions);
+    units = more_behind w.units (map new_unit xs);
+    hosts = same (length w.hosts);
+    jobs = new_unit_jobs w.units (map new_unit xs);
+  }
 
 none_between : (w w' : World) → NoFewer w w' → (key : WorldKey) → row_in w' key ≡ None → row_in w key ≡ None
 none_between w w' grown (Account id) none = ap (option_map _) (none_at w.accounts w'.accounts id grown.accounts (no_source _ _ none))
@@ -143,7 +176,11 @@ none_between w w' grown (Mark id) none = ap (option_map _) (none_at w.units w'.u
 none_between w w' grown (Host id) none = ap (option_map _) (none_at w.hosts w'.hosts id grown.hosts (no_source _ _ none))
 none_between w w' grown (Instance p) none = no_job_row _ p.number (unit_at w p.unit) (grown.jobs p.unit p.number (no_job _ p.number (unit_at w' p.unit) none))
 
+none_after : (w : World) (edits : List Edit) (key : WorldKey) → row_in (edited w edits) key ≡ None → row_in w key ≡ None
+none_after w [] key none = none
+none_after w (e ∷ es) key none = none_between w (edited_one w e) (one_edit w e) key (none_after (edited_one w e) es key none)
+
 -- after any changes
-pub none_goes : (w : World) (cs : List Change) (key : WorldKey) → row_in (applied w cs) key ≡ None → row_in w key ≡ None
-none_goes w [] key none = none
-none_goes w (c ∷ cs) key none = none_between w (applied_one w c) (one_change w c) key (none_goes (applied_one w c) cs key none)
+pub none_goes : (w : World) (changes : Delta) (key : WorldKey) → row_in (applied w changes) key ≡ None → row_in w key ≡ None
+none_goes w (delta.Rows new) key none = none_between w (with_rows w new) (new_rows w new) key none
+none_goes w (delta.Edits edits) key none = none_after w edits key none

@@ -1,27 +1,29 @@
 -- The rows of a sound world determine it. This stays true after changes whose rows can be read back.
-use Rattle.std.proofs.Common.{◌≡◌, ◌≤◌, ℕ, Bool, true, false, ◌||◌, cond, List, [], ◌∷◌, ◌++◌, length, ap, ◌∙◌, arith}
+use Rattle.std.proofs.Common.{◌≡◌, ◌≤◌, ℕ, Bool, true, false, ◌||◌, cond, List, [], ◌∷◌, ◌++◌, length, map, refl, sym, subst, ap, ◌∙◌, arith}
 use Rattle.std.specs.Prelude.{All, ◌==◌, ◌-◌, nat_le, nat_lt, slice_set}
 use Rattle.std.specs.List.{list_all, list_any}
 use Rattle.std.specs.Str.{bytes_eq}
 use Rattle.std.proofs.lemmas.Bool.{and_parts}
 use Rattle.std.proofs.lemmas.Bool.Decides.{nat_tests}
-use Rattle.std.proofs.lemmas.List.Elements.{All-push, All-set, All-weaker}
+use Rattle.std.proofs.lemmas.List.Elements.{All-append, All-map, All-push, All-set, All-weaker}
 use Rattle.std.proofs.lemmas.List.Folds.{list_any-append}
 use Rattle.std.proofs.lemmas.List.Sums.{AllPass-from_list_all}
 use Rattle.texts.specs.Words.{is_word, IsWord}
 use Rattle.sched_book.specs.Classes.{with_class}
-use Rattle.sched_book.specs.Delta.{set_nth, with_instance, applied_one}
+use Rattle.sched_book.specs.Delta.{set_nth, with_instance, edited_one}
 use Rattle.sched_book.specs.Imports.{has_app, new_unit}
 use Rattle.sched_book.specs.Sound.{IsSoundHost, IsSoundUnit, IsSoundVersion}
-use Rattle.sched_book.specs.declared.delta.Change.{Change}
-use Rattle.sched_book.specs.declared.delta.Change.TheVariants as change
+use Rattle.sched_book.specs.declared.delta.Edit.{Edit}
+use Rattle.sched_book.specs.declared.delta.Edit.TheVariants as edit
 use Rattle.sched_book.specs.declared.instance.UnitBook.{UnitBook}
 use Rattle.sched_book.specs.declared.rows.App.{App}
 use Rattle.sched_book.specs.declared.rows.HostRow.{HostRow}
+use Rattle.sched_book.specs.declared.rows.Rows.TheVariants as rows
 use Rattle.sched_book.specs.declared.rows.Version.{Version}
+use Rattle.sched_book.specs.declared.rows.Workunit.{Workunit}
 use Rattle.sched_book.specs.declared.world.World.{World}
 use Rattle.sched_book.proofs.Fitting.{all_changed_nth}
-use Rattle.table_worlds.specs.Readable.{IsReadable, are_words, is_readable_change, are_readable_changes, SoundIsReadable, StaysReadable}
+use Rattle.table_worlds.specs.Readable.{IsReadable, are_words, gives_words, SoundIsReadable, StaysReadable, RowsStayReadable}
 
 -- ---- the conditions on versions, workunits and hosts
 
@@ -54,10 +56,10 @@ all_put P xs n x all one = at_place (n == 0) (nat_lt (n - 1) (length xs))
     at_place false false = All-push P xs x all one
 
 -- an application of a list is one of a longer list
-still_has : (apps : List App) (a : App) (name : List ℕ) → has_app apps name ≡ true → has_app (apps ++ a ∷ []) name ≡ true
-still_has apps a name has =
+still_has : (apps more : List App) (name : List ℕ) → has_app apps name ≡ true → has_app (apps ++ more) name ≡ true
+still_has apps more name has =
     let p : App → Bool = λ b. bytes_eq b.name name in
-    list_any-append p apps (a ∷ []) ∙ ap (λ b. b || list_any p (a ∷ [])) has
+    list_any-append p apps more ∙ ap (λ b. b || list_any p more) has
 
 -- words by the test of words
 words_by_test : (words : List (List ℕ)) → are_words words ≡ true → (1 ≤ length words) × All IsWord words
@@ -66,30 +68,59 @@ words_by_test words pass =
     let some : nat_le 1 (length words) ≡ true = parts.0 in
     (grind (arith, nat_tests, some), AllPass-from_list_all is_word words parts.1)
 
--- ---- changes
+-- ---- edits
 
 module _ (w : World) (readable : IsReadable w) where
-  versions_after : (c : Change) → is_readable_change w c ≡ true → All (NamesApp (applied_one w c).apps) (applied_one w c).versions
-  versions_after (change.App a) pass = All-weaker (NamesApp w.apps) (NamesApp (w.apps ++ a ∷ [])) (λ v has. still_has w.apps a v.app has) w.versions readable.versions
-  versions_after (change.Version v) pass = All-push (NamesApp w.apps) w.versions v readable.versions pass
-  versions_after _ pass = readable.versions
+  units_after : (e : Edit) → All (IsOfApp w.apps) (edited_one w e).units
+  units_after (edit.Host number h) = readable.units
+  units_after (edit.Instance p x) = all_changed_nth (IsOfApp w.apps) (with_instance p.number x) (λ b has. has) w.units p.unit readable.units
+  units_after (edit.Class unit class) = all_changed_nth (IsOfApp w.apps) (with_class class) (λ b has. has) w.units unit readable.units
 
-  units_after : (c : Change) → is_readable_change w c ≡ true → All (IsOfApp (applied_one w c).apps) (applied_one w c).units
-  units_after (change.App a) pass = All-weaker (IsOfApp w.apps) (IsOfApp (w.apps ++ a ∷ [])) (λ b has. still_has w.apps a b.unit.app has) w.units readable.units
-  units_after (change.Workunit u) pass = All-push (IsOfApp w.apps) w.units (new_unit u) readable.units pass
-  units_after (change.Instance p x) pass = all_changed_nth (IsOfApp w.apps) (with_instance p.number x) (λ b has. has) w.units p.unit readable.units
-  units_after (change.Class unit class) pass = all_changed_nth (IsOfApp w.apps) (with_class class) (λ b has. has) w.units unit readable.units
-  units_after _ pass = readable.units
+  hosts_after : (e : Edit) → gives_words e ≡ true → All HasWords (edited_one w e).hosts
+  hosts_after (edit.Host number h) pass = all_put HasWords w.hosts number h readable.hosts (words_by_test h.platforms pass)
+  hosts_after (edit.Instance p x) pass = readable.hosts
+  hosts_after (edit.Class unit class) pass = readable.hosts
 
-  hosts_after : (c : Change) → is_readable_change w c ≡ true → All HasWords (applied_one w c).hosts
-  hosts_after (change.Host number h) pass = all_put HasWords w.hosts number h readable.hosts (words_by_test h.platforms pass)
-  hosts_after _ pass = readable.hosts
+  versions_after : (e : Edit) → All (NamesApp (edited_one w e).apps) (edited_one w e).versions
+  versions_after (edit.Host number h) = readable.versions
+  versions_after (edit.Instance p x) = readable.versions
+  versions_after (edit.Class unit class) = readable.versions
 
-  after_one : (c : Change) → is_readable_change w c ≡ true → IsReadable (applied_one w c)
-  after_one c pass = record { versions = versions_after c pass; units = units_after c pass; hosts = hosts_after c pass }
+  apps_after : (e : Edit) → (edited_one w e).apps ≡ w.apps
+  apps_after (edit.Host number h) = refl
+  apps_after (edit.Instance p x) = refl
+  apps_after (edit.Class unit class) = refl
+
+  after_one : (e : Edit) → gives_words e ≡ true → IsReadable (edited_one w e)
+  after_one e pass = record {
+    versions = versions_after e;
+    units = subst (λ apps. All (IsOfApp apps) (edited_one w e).units) (sym (apps_after e)) (units_after e);
+    hosts = hosts_after e pass;
+  }
 
 pub stays_readable : StaysReadable
 stays_readable w [] readable pass = readable
-stays_readable w (c ∷ cs) readable pass =
-    let parts = and_parts (is_readable_change w c) (are_readable_changes (applied_one w c) cs) pass in
-    stays_readable (applied_one w c) cs (after_one w readable c parts.0) parts.1
+stays_readable w (e ∷ es) readable pass =
+    let parts = and_parts (gives_words e) (list_all gives_words es) pass in
+    stays_readable (edited_one w e) es (after_one w readable e parts.0) parts.1
+
+-- ---- new rows
+
+pub rows_stay_readable : RowsStayReadable
+rows_stay_readable w (rows.Accounts xs) readable pass = record { versions = readable.versions; units = readable.units; hosts = readable.hosts }
+rows_stay_readable w (rows.Apps xs) readable pass = record {
+  versions = All-weaker (NamesApp w.apps) (NamesApp (w.apps ++ xs)) (λ v has. still_has w.apps xs v.app has) w.versions readable.versions;
+  units = All-weaker (IsOfApp w.apps) (IsOfApp (w.apps ++ xs)) (λ b has. still_has w.apps xs b.unit.app has) w.units readable.units;
+  hosts = readable.hosts;
+}
+rows_stay_readable w (rows.Versions xs) readable pass = record {
+  versions = All-append (NamesApp w.apps) w.versions xs readable.versions (AllPass-from_list_all (λ (v : Version). has_app w.apps v.app) xs pass);
+  units = readable.units;
+  hosts = readable.hosts;
+}
+rows_stay_readable w (rows.Workunits xs) readable pass = record {
+  units = All-append (IsOfApp w.apps) w.units (map new_unit xs) readable.units
+      (All-map (IsOfApp w.apps) new_unit xs (AllPass-from_list_all (λ (u : Workunit). has_app w.apps u.app) xs pass));
+  versions = readable.versions;
+  hosts = readable.hosts;
+}

@@ -5,9 +5,9 @@ use Rattle.std.proofs.lemmas.List.Folds.{list_any-append}
 use Rattle.std.proofs.lemmas.Bool.{or_parts}
 use Rattle.reply_register.specs.declared.kept.Kept.{Kept as Call}
 use Rattle.sched_book.specs.Delta.{applied}
-use Rattle.sched_book.specs.declared.delta.Change.{Change}
+use Rattle.sched_book.specs.declared.delta.Delta.{Delta}
 use Rattle.sched_book.specs.declared.world.World.{World}
-use Rattle.sched_book.proofs.Fitting.{all_settings_stay}
+use Rattle.sched_book.proofs.Fitting.{settings_stay_in}
 use Rattle.table_meaning.specs.declared.rows.StoredRow.{StoredRow}
 use Rattle.table_meaning.specs.declared.rows.StoredRow.TheVariants as stored
 use Rattle.table_meaning.specs.Rows.{RowKey, setting_key, account_key, app_key, version_key, class_key, unit_key, mark_key, host_key, instance_key, kept_key, batch_key, key_of}
@@ -26,7 +26,7 @@ at_world_key : (w : World) (calls : SlotCalls) (batches : List ℕ → List ℕ 
 at_world_key w calls batches (Account id) = refl
 at_world_key w calls batches _ = refl
 
-module _ (w : World) (cs : List Change) (rows : List StoredRow) (changes : AreChanges w (applied w cs) rows)
+module _ (w : World) (cs : Delta) (rows : List StoredRow) (changes : AreChanges w (applied w cs) rows)
     (calls calls' : SlotCalls) (batches batches' : List ℕ → List ℕ → Option BatchText) (more : List StoredRow)
     (kept : AllByRecursion (λ r. contents_of (applied w cs) calls' batches' (key_of r) ≡ Some r) more)
     (other_calls : (host slot : ℕ) → is_put more (kept_key host slot) ≡ false → calls host slot ≡ calls' host slot)
@@ -52,7 +52,7 @@ module _ (w : World) (cs : List Change) (rows : List StoredRow) (changes : AreCh
   ]
 
   others_hold : (key : RowKey) → is_put (rows ++ more) key ≡ false → contents_of w calls batches key ≡ contents_of w' calls' batches' key
-  others_hold (setting_key name) none = ap (λ s. option_map (λ v. stored.Setting (record { name = name; value = v })) (setting_in s name)) (sym (all_settings_stay w cs))
+  others_hold (setting_key name) none = ap (λ s. option_map (λ v. stored.Setting (record { name = name; value = v })) (setting_in s name)) (sym (settings_stay_in w cs))
   others_hold (account_key id) none = same_at (Account id) none
   others_hold (app_key id) none = same_at (App id) none
   others_hold (version_key id) none = same_at (Version id) none

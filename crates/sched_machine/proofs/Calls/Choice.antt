@@ -7,7 +7,7 @@ use Rattle.sched_book.specs.Fits.{estimate_at, version_among, version_for}
 use Rattle.sched_book.specs.Grant.{Asking, IsGrant, end_word}
 use Rattle.sched_book.specs.Places.{unit_at, host_at, held_by}
 use Rattle.sched_book.specs.Step.{host_number, host_at_entry, after_settlement, asking_of}
-use Rattle.sched_book.specs.declared.delta.Change.{Change}
+use Rattle.sched_book.specs.declared.delta.Edit.{Edit}
 use Rattle.sched_book.specs.declared.instance.Place.{Place}
 use Rattle.sched_book.specs.declared.instance.UnitBook.{UnitBook}
 use Rattle.sched_book.specs.declared.machine.Caller.{Caller}
@@ -25,7 +25,7 @@ use Rattle.sched_machine.proofs.Alike.Settled.{the_settled_world_is_like_the_fir
 use Rattle.sched_machine.proofs.Held.Said.{platforms_stay}
 
 -- A call that is ready for its grant, and the world after its settlement.
-module _ (w v : World) (r : Request) (now : ℕ) (ready : Ready) (changes : List Change) (is : IsReady w r now ready v changes) where
+module _ (w v : World) (r : Request) (now : ℕ) (ready : Ready) (changes : List Edit) (is : IsReady w r now ready v changes) where
   abbrev caller : Caller
   caller = ready.call.caller
 

@@ -6,7 +6,7 @@ use Rattle.rpc_records.specs.declared.reply.Job.{Job}
 use Rattle.rpc_records.specs.declared.reply.Reply.{Reply}
 use Rattle.rpc_records.specs.declared.request.Report.{Report}
 use Rattle.rpc_records.specs.declared.request.Request.{Request}
-use Rattle.sched_book.specs.Delta.{applied}
+use Rattle.sched_book.specs.Delta.{edited}
 use Rattle.sched_book.specs.Grant.{IsGrant, end_word}
 use Rattle.sched_book.specs.Limits.{last_moment}
 use Rattle.sched_book.specs.Lost.{aborts}
@@ -14,7 +14,7 @@ use Rattle.sched_book.specs.Places.{host_at, host_credit, user_credit}
 use Rattle.sched_book.specs.Reports.{first_reports}
 use Rattle.sched_book.specs.Sound.{Sound}
 use Rattle.sched_book.specs.Step.{RpcStep, host_number, host_at_entry, after_settlement, asking_of, granted, classed, after_grant, resent_of, job_at, user_name}
-use Rattle.sched_book.specs.declared.delta.Change.{Change}
+use Rattle.sched_book.specs.declared.delta.Edit.{Edit}
 use Rattle.sched_book.specs.declared.instance.Place.{Place}
 use Rattle.sched_book.specs.declared.machine.Caller.{Caller}
 use Rattle.sched_book.specs.declared.rows.HostRow.{HostRow}
@@ -40,7 +40,7 @@ use Rattle.sched_machine.proofs.Credit.Scored.{totals_known}
 use Rattle.sched_machine.proofs.Moves.Sound.{settled_sound, host_stands}
 
 -- A call that is ready for its grant.
-module _ (w v : World) (r : Request) (now : ℕ) (ready : Ready) (changes : List Change) (is : IsReady w r now ready v changes) (soon : now ≤ last_moment) where
+module _ (w v : World) (r : Request) (now : ℕ) (ready : Ready) (changes : List Edit) (is : IsReady w r now ready v changes) (soon : now ≤ last_moment) where
   -- the world before the grant is sound, and has the call's host
   ready_sound : Sound v
   ready_sound =
@@ -53,12 +53,12 @@ module _ (w v : World) (r : Request) (now : ℕ) (ready : Ready) (changes : List
       ∙ ap is_some (host_stands w ready.call.caller r now is.calling.sound is.calling.admitted.caller is.calling.room is.calling.admitted.limits soon)
 
   -- the grant, and what the reply says of it
-  pub granted_is : (u : World) (after : List Change) (chosen : List Granted) (jobs : List Place) (told : Told) (word : EndWord)
+  pub granted_is : (u : World) (after : List Edit) (chosen : List Granted) (jobs : List Place) (told : Told) (word : EndWord)
       → AreRunBy w ready.call.host chosen → places_of chosen ≡ jobs
       → IsGrant (after_settlement w ready.call.caller r now) (asking_of w ready.call.caller r now) jobs
       → word ≡ end_word (after_settlement w ready.call.caller r now) (asking_of w ready.call.caller r now) jobs
       → u ≡ with_classes (granted v ready.call.number now (places_of chosen)) chosen
-      → v ≡ applied w changes → (CanTake w chosen → FitWithHost w ready.call.number changes → FitWithHost w ready.call.number after)
+      → v ≡ edited w changes → (CanTake w chosen → FitWithHost w ready.call.number changes → FitWithHost w ready.call.number after)
       → AreReplyParts w u ready jobs told
       → IsGranted w r now ready u after told word
   granted_is u after chosen jobs told word runs places grant ends given here fits said = record {
@@ -72,7 +72,7 @@ module _ (w v : World) (r : Request) (now : ℕ) (ready : Ready) (changes : List
         ∙ ap₂ (λ (z : World) n. classed w (host_at_entry w ready.call.caller r) (granted z n now (places_of chosen)) (places_of chosen)) is.settled.left is.calling.number
         ∙ ap (after_grant w ready.call.caller r now) places;
     fits = (fits (can_take w ready.call.host chosen is.calling.sound runs) (record {
-      units = units_in_limits w [] is.calling.sound refl;
+      units = units_in_limits w [] is.calling.sound;
       within = record { fits = is.settled.fits; limited = subst IsLimited here (limited_from_sound v ready_sound) };
       stands = subst (λ z. IsTrue (is_some (host_at z ready.call.number))) here ready_has_host;
     })).within.fits;
@@ -80,7 +80,7 @@ module _ (w v : World) (r : Request) (now : ℕ) (ready : Ready) (changes : List
   }
 
   -- so the call is a step of the machine
-  module _ (u : World) (after : List Change) (told : Told) (word : EndWord) (done : IsGranted w r now ready u after told word) where
+  module _ (u : World) (after : List Edit) (told : Told) (word : EndWord) (done : IsGranted w r now ready u after told word) where
     abbrev caller : Caller
     caller = ready.call.caller
 

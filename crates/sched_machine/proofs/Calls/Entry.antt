@@ -5,12 +5,12 @@ use Rattle.std.proofs.lemmas.Bool.{eqb-true}
 use Rattle.rpc_records.specs.Ranges.{IsInRange}
 use Rattle.rpc_records.specs.declared.request.Request.{Request}
 use Rattle.sched_book.specs.Places.{nth, host_at, is_host_of, known_host}
-use Rattle.sched_book.specs.Delta.{set_at, set_nth, applied_one, FitsOne, Fits}
+use Rattle.sched_book.specs.Delta.{set_at, set_nth, edited_one, EditFits, EditsFit}
 use Rattle.sched_book.specs.Reports.{modify_nth}
 use Rattle.sched_book.specs.Sound.{IsSoundHost, Sound}
 use Rattle.sched_book.specs.Step.{IsCaller, HasRoom, host_number, quota_of, row_of_call, hosts_at_entry}
-use Rattle.sched_book.specs.declared.delta.Change.{Change}
-use Rattle.sched_book.specs.declared.delta.Change.TheVariants as change
+use Rattle.sched_book.specs.declared.delta.Edit.{Edit}
+use Rattle.sched_book.specs.declared.delta.Edit.TheVariants as edit
 use Rattle.sched_book.specs.declared.machine.Caller.{Caller}
 use Rattle.sched_book.specs.declared.rows.Account.{Account}
 use Rattle.sched_book.specs.declared.rows.HostRow.{HostRow}
@@ -71,11 +71,11 @@ module _ (w : World) (c : Caller) (r : Request) (sound : Sound w) (caller : IsCa
   account_stands : IsTrue (is_some (nth w.accounts c.account))
   account_stands = ap is_some (place_found (λ (a : Account). bytes_eq a.authenticator r.authenticator) w.accounts c.account caller.account).1
 
-  entry_fits : HasRoom w c → FitsOne w (change.Host (host_number w c) (row_of_call c r (quota_of w c.host)))
+  entry_fits : HasRoom w c → EditFits w (edit.Host (host_number w c) (row_of_call c r (quota_of w c.host)))
   entry_fits room = cases c.host caller.host room
     where
       cases : (o : Option ℕ) → known_host w c.account r.host.host_cpid ≡ o → (o ≡ None → length w.hosts < w.settings.max_hosts)
-          → FitsOne w (change.Host (unwrap_or o (length w.hosts + 1)) (row_of_call c r (quota_of w o)))
+          → EditFits w (edit.Host (unwrap_or o (length w.hosts + 1)) (row_of_call c r (quota_of w o)))
       cases None is left =
           let few : length w.hosts < w.settings.max_hosts = left refl in
           let same : w.settings.daily_result_quota ≤ w.settings.daily_result_quota = omega arith in
@@ -117,14 +117,14 @@ makes w c r number most quota row sound admitted new next low limit given is = r
 }
 
 -- what is left after the row of a call's host was put, before any other change
-pub enters : (w v : World) (r : Request) (k : Calling) (changes : List Change) → IsCalling w r k → v ≡ applied_one w (change.Host k.number k.host)
-    → changes ≡ change.Host k.number k.host ∷ [] → IsEntered w r k v changes
+pub enters : (w v : World) (r : Request) (k : Calling) (changes : List Edit) → IsCalling w r k → v ≡ edited_one w (edit.Host k.number k.host)
+    → changes ≡ edit.Host k.number k.host ∷ [] → IsEntered w r k v changes
 enters w v r k changes calling put are = record {
   calling = calling;
-  left = put ∙ ap (applied_one w) (sym row_is) ∙ ap (λ hosts. record w { hosts = hosts }) (puts_row_of_call w k.caller r calling.admitted.caller);
-  fits = subst (Fits w) (sym are)
-      (subst (FitsOne w) row_is (entry_fits w k.caller r calling.sound calling.admitted.caller calling.admitted.limits calling.room), tt);
+  left = put ∙ ap (edited_one w) (sym row_is) ∙ ap (λ hosts. record w { hosts = hosts }) (puts_row_of_call w k.caller r calling.admitted.caller);
+  fits = subst (EditsFit w) (sym are)
+      (subst (EditFits w) row_is (entry_fits w k.caller r calling.sound calling.admitted.caller calling.admitted.limits calling.room), tt);
 }
   where
-    row_is : change.Host (host_number w k.caller) (row_of_call k.caller r (quota_of w k.caller.host)) ≡ change.Host k.number k.host
-    row_is = ap (change.Host (host_number w k.caller)) (sym calling.host) ∙ ap (λ n. change.Host n k.host) (sym calling.number)
+    row_is : edit.Host (host_number w k.caller) (row_of_call k.caller r (quota_of w k.caller.host)) ≡ edit.Host k.number k.host
+    row_is = ap (edit.Host (host_number w k.caller)) (sym calling.host) ∙ ap (λ n. edit.Host n k.host) (sym calling.number)

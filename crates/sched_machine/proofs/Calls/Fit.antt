@@ -4,15 +4,15 @@ use Rattle.std.specs.Prelude.{All, filter_map, is_some, option_map, unwrap_or, s
 use Rattle.std.specs.List.{cons_option}
 use Rattle.std.proofs.lemmas.List.Elements.{All-head, All-tail}
 use Rattle.rpc_records.specs.declared.request.Request.{Request}
-use Rattle.sched_book.specs.Delta.{applied_one, applied, FitsOne, Fits}
+use Rattle.sched_book.specs.Delta.{edited_one, edited, EditFits, EditsFit}
 use Rattle.sched_book.specs.Limits.{last_moment, last_deadline, IsInstanceInLimits}
 use Rattle.sched_book.specs.Fits.{estimate_at}
 use Rattle.sched_book.specs.Lost.{is_resent, delay_at, deadline_after}
 use Rattle.sched_book.specs.Places.{unit_at, instance_at, deadline_of}
 use Rattle.sched_book.specs.Sound.{IsBare, HasOwnerAmong, IsWellUnit, IsWell}
 use Rattle.sched_book.specs.Step.{after_reports, deadline_at, host_number, host_at_entry, lost_of}
-use Rattle.sched_book.specs.declared.delta.Change.{Change}
-use Rattle.sched_book.specs.declared.delta.Change.TheVariants as change
+use Rattle.sched_book.specs.declared.delta.Edit.{Edit}
+use Rattle.sched_book.specs.declared.delta.Edit.TheVariants as edit
 use Rattle.sched_book.specs.declared.instance.Instance.{Instance}
 use Rattle.sched_book.specs.declared.instance.Lapse.TheVariants.{Dropped}
 use Rattle.sched_book.specs.declared.instance.Owner.{Owner}
@@ -72,26 +72,26 @@ fated_given (Some d) x = is_some-option_map _ x.owner
 module _ (r : Place → Option ℕ) (before : World) (low : (p : Place) (d : ℕ) → r p ≡ Some d → d ≤ last_deadline) where
   -- one of them fits if there is an instance
   one_fits : (v : World) (p : Place) (y : Instance) → IsLimited v → is_some y.owner ≡ true → instance_at v p ≡ Some y
-      → FitsOne v (change.Instance p (fated (r p) y)) × IsLimited (applied_one v (change.Instance p (fated (r p) y)))
+      → EditFits v (edit.Instance p (fated (r p) y)) × IsLimited (edited_one v (edit.Instance p (fated (r p) y)))
   one_fits v p y limited given is =
       let b = then_by (λ (b : UnitBook). slice_get b.instances p.number) (unit_at v p.unit) y is in
       done_fits (fated (r p)) v p b.0 y limited b.1 b.2 (fated_good v.hosts (r p) y (low p) given (limited.each p y is))
 
   -- the change of one fate, before the others
-  step_fits : (v : World) (p : Place) (rest : List Change) (o now : Option Instance) → IsLimited v → IsGiven v p → instance_at v p ≡ now
+  step_fits : (v : World) (p : Place) (rest : List Edit) (o now : Option Instance) → IsLimited v → IsGiven v p → instance_at v p ≡ now
       → option_map (fated (r p)) now ≡ option_map (fated (r p)) o
-      → Fits v rest → (IsLimited (with_fate v (by_place r before p)) → Fits (with_fate v (by_place r before p)) rest)
-      → Fits v (cons_option (option_map (λ x. change.Instance p (fated (r p) x)) o) rest)
+      → EditsFit v rest → (IsLimited (with_fate v (by_place r before p)) → EditsFit (with_fate v (by_place r before p)) rest)
+      → EditsFit v (cons_option (option_map (λ x. edit.Instance p (fated (r p) x)) o) rest)
   step_fits v p rest None now limited given is same nothing later = nothing
   step_fits v p rest (Some x) None limited given is same nothing later = absurd cc
   step_fits v p rest (Some x) (Some y) limited given is same nothing later =
       let alike : fated (r p) y ≡ fated (r p) x = cc in
       let one = one_fits v p y limited (given y is) is in
-      let made : with_fate v (by_place r before p) ≡ applied_one v (change.Instance p (fated (r p) y)) = with_changed-is v p (fated (r p)) y is in
-      subst (λ z. FitsOne v (change.Instance p z) × Fits (applied_one v (change.Instance p z)) rest) alike
-      (one.0, subst (λ u. Fits u rest) made (later (subst IsLimited (sym made) one.1)))
+      let made : with_fate v (by_place r before p) ≡ edited_one v (edit.Instance p (fated (r p) y)) = with_changed-is v p (fated (r p)) y is in
+      subst (λ z. EditFits v (edit.Instance p z) × EditsFit (edited_one v (edit.Instance p z)) rest) alike
+      (one.0, subst (λ u. EditsFit u rest) made (later (subst IsLimited (sym made) one.1)))
 
-  in_turn_fit : (v : World) (ps : List Place) → Alike r before v → IsLimited v → All (IsGiven v) ps → Fits v (filter_map (fate_change before) (map (by_place r before) ps))
+  in_turn_fit : (v : World) (ps : List Place) → Alike r before v → IsLimited v → All (IsGiven v) ps → EditsFit v (filter_map (fate_change before) (map (by_place r before) ps))
   in_turn_fit v [] alike limited given = tt
   in_turn_fit v (p ∷ ps) alike limited given =
       step_fits v p (filter_map (fate_change before) (map (by_place r before) ps)) (instance_at before p) (instance_at v p) limited (All-head (IsGiven v) p ps given) refl (alike p)
@@ -124,17 +124,17 @@ resent_low w h now well early p d is = cases (is_resent w h p) is
     cases false is = absurd cc
 
 -- what the fates of a call's lost jobs change fits after the changes of its reports
-pub lost_fit : (w : World) (k : Calling) (r : Request) (now : ℕ) (before after : List Change) (fates : List Fate) → now ≤ last_moment
-    → IsCalling w r k → applied w before ≡ after_reports w k.caller r → fates ≡ fates_known w k.caller r now
-    → after ≡ before ++ filter_map (fate_change (applied w before)) fates → Fits w before → Fits w after
+pub lost_fit : (w : World) (k : Calling) (r : Request) (now : ℕ) (before after : List Edit) (fates : List Fate) → now ≤ last_moment
+    → IsCalling w r k → edited w before ≡ after_reports w k.caller r → fates ≡ fates_known w k.caller r now
+    → after ≡ before ++ filter_map (fate_change (edited w before)) fates → EditsFit w before → EditsFit w after
 lost_fit w k r now before after fates early is made known pushed fits =
     let left : World = after_reports w k.caller r in
     let limited : IsLimited left =
     limited_from_well left (reported w k.caller r now is.sound is.admitted.caller is.room is.admitted.limits early) in
-    let behind : Fits left (filter_map (fate_change left) (fates_known w k.caller r now)) =
+    let behind : EditsFit left (filter_map (fate_change left) (fates_known w k.caller r now)) =
     in_turn_fit (resent_to w (host_at_entry w k.caller r) now) left (resent_low w (host_at_entry w k.caller r) now (sound_is_well w is.sound) early)
     left (lost_of w k.caller r) (λ p. refl) limited (lost_given left (host_number w k.caller) r.other_results) in
-    subst (Fits w) (sym pushed)
-    (fits_then w before (filter_map (fate_change (applied w before)) fates) fits
-    (subst (λ v. Fits v (filter_map (fate_change v) fates)) (sym made)
-    (subst (λ fs. Fits left (filter_map (fate_change left) fs)) (sym known) behind)))
+    subst (EditsFit w) (sym pushed)
+    (fits_then w before (filter_map (fate_change (edited w before)) fates) fits
+    (subst (λ v. EditsFit v (filter_map (fate_change v) fates)) (sym made)
+    (subst (λ fs. EditsFit left (filter_map (fate_change left) fs)) (sym known) behind)))

@@ -3,12 +3,12 @@ use Rattle.std.proofs.Common.{◌≡◌, ℕ, ◌+◌, ◌≤◌, List, [], ◌�
 use Rattle.std.specs.Prelude.{IsTrue, is_some, option_map, option_and_then, unwrap_or, slice_get}
 use Rattle.std.proofs.lemmas.List.Sums.{fold-append}
 use Rattle.sched_book.specs.Places.{unit_at, instance_at, host_at}
-use Rattle.sched_book.specs.Delta.{applied_one, applied, FitsOne}
+use Rattle.sched_book.specs.Delta.{edited_one, edited, EditFits}
 use Rattle.sched_book.specs.Lost.{delay_at}
 use Rattle.sched_book.specs.Limits.{last_moment, last_deadline, most_delay}
 use Rattle.sched_book.specs.Step.{with_owner, grant_one}
-use Rattle.sched_book.specs.declared.delta.Change.{Change}
-use Rattle.sched_book.specs.declared.delta.Change.TheVariants as change
+use Rattle.sched_book.specs.declared.delta.Edit.{Edit}
+use Rattle.sched_book.specs.declared.delta.Edit.TheVariants as edit
 use Rattle.sched_book.specs.declared.instance.Instance.{Instance}
 use Rattle.sched_book.specs.declared.instance.Place.{Place}
 use Rattle.sched_book.specs.declared.instance.UnitBook.{UnitBook}
@@ -52,20 +52,20 @@ module _ (entry present : World) (p : Place) (host now : ℕ) (y : Instance) whe
 
   -- it is given as a change of the world
   pub given_is : (o : Option Leaf) → IsReadAt entry present p.unit o → Some y ≡ given_on o p.number host now
-      → applied_one present (change.Instance p y) ≡ grant_one host now present p
+      → edited_one present (edit.Instance p y) ≡ grant_one host now present p
   given_is o read puts =
       let at = standing o read puts in
-      ap (λ z. applied_one present (change.Instance p z)) (sym at.given)
+      ap (λ z. edited_one present (edit.Instance p z)) (sym at.given)
       ∙ sym (with_changed-is (with_owner (owner_for host now (delay_at present p))) present p at.book at.x at.unit at.number)
 
   -- the change fits if the host exists and the moment is not too late
   one_fits : Stands → now ≤ last_moment → AreUnitsInLimits entry → IsTrue (is_some (host_at present host)) → IsLimited present
-      → FitsOne present (change.Instance p y) × IsLimited (applied_one present (change.Instance p y))
+      → EditFits present (edit.Instance p y) × IsLimited (edited_one present (edit.Instance p y))
   one_fits at soon units stands limited =
       let here : instance_at present p ≡ Some at.x = ap (option_and_then (λ (u : UnitBook). slice_get u.instances p.number)) at.unit ∙ at.number in
       let few : delay_at present p ≤ most_delay = at.short units in
       let late : now + delay_at present p ≤ last_deadline = omega arith in
-      subst (λ z. FitsOne present (change.Instance p z) × IsLimited (applied_one present (change.Instance p z))) at.given
+      subst (λ z. EditFits present (edit.Instance p z) × IsLimited (edited_one present (edit.Instance p z))) at.given
       (done_fits (with_owner (owner_for host now (delay_at present p))) present p at.book at.x limited at.unit at.number (
         stands,
         (λ none. absurd cc),
@@ -78,16 +78,16 @@ module _ (entry present : World) (p : Place) (host now : ℕ) (y : Instance) whe
       ))
 
   pub given_fits : (o : Option Leaf) → IsReadAt entry present p.unit o → Some y ≡ given_on o p.number host now
-      → (cs more : List Change) → now ≤ last_moment → present ≡ applied entry cs → more ≡ cs ++ change.Instance p y ∷ []
+      → (cs more : List Edit) → now ≤ last_moment → present ≡ edited entry cs → more ≡ cs ++ edit.Instance p y ∷ []
       → FitWithHost entry host cs → FitWithHost entry host more
   given_fits o read puts cs more soon here pushed before =
       let stands = subst (λ w. IsTrue (is_some (host_at w host))) (sym here) before.stands in
-      let after : applied entry more ≡ applied_one (applied entry cs) (change.Instance p y) =
-      ap (applied entry) pushed ∙ fold-append applied_one entry cs (change.Instance p y ∷ []) in
+      let after : edited entry more ≡ edited_one (edited entry cs) (edit.Instance p y) =
+      ap (edited entry) pushed ∙ fold-append edited_one entry cs (edit.Instance p y ∷ []) in
       record {
         units = before.units;
-        within = fit_more entry cs more (change.Instance p y) pushed
-            (subst (λ w. IsLimited w → FitsOne w (change.Instance p y) × IsLimited (applied_one w (change.Instance p y))) here
+        within = fit_more entry cs more (edit.Instance p y) pushed
+            (subst (λ w. IsLimited w → EditFits w (edit.Instance p y) × IsLimited (edited_one w (edit.Instance p y))) here
             (one_fits (standing o read puts) soon before.units stands))
             before.within;
         stands = subst (λ w. IsTrue (is_some (host_at w host))) (sym after) before.stands;

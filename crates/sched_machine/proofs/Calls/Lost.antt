@@ -3,10 +3,10 @@ use Rattle.std.proofs.Common.{◌≡◌, ℕ, List, ◌++◌, map, sym, ap, ◌�
 use Rattle.std.specs.Prelude.{filter_map}
 use Rattle.std.proofs.lemmas.List.Sums.{fold-append}
 use Rattle.rpc_records.specs.declared.request.Request.{Request}
-use Rattle.sched_book.specs.Delta.{applied_one, applied}
+use Rattle.sched_book.specs.Delta.{edited_one, edited}
 use Rattle.sched_book.specs.Lost.{lost}
 use Rattle.sched_book.specs.Step.{at_entry, after_reports, after_lost, host_number, host_at_entry, lost_of, resent_of}
-use Rattle.sched_book.specs.declared.delta.Change.{Change}
+use Rattle.sched_book.specs.declared.delta.Edit.{Edit}
 use Rattle.sched_book.specs.declared.machine.Caller.{Caller}
 use Rattle.sched_book.specs.declared.world.World.{World}
 use Rattle.lost_jobs.specs.Fated.{fate_change}
@@ -33,15 +33,15 @@ module _ (w : World) (c : Caller) (r : Request) where
 
   module _ (now : ℕ) where
     -- the changes of the fates, after those of the reports, leave what the lost jobs leave
-    pub lost_left : (before after : List Change) (fates : List Fate) → applied w before ≡ after_reports w c r → fates ≡ fates_known w c r now
-        → after ≡ before ++ filter_map (fate_change (applied w before)) fates → applied w after ≡ after_lost w c r now
+    pub lost_left : (before after : List Edit) (fates : List Fate) → edited w before ≡ after_reports w c r → fates ≡ fates_known w c r now
+        → after ≡ before ++ filter_map (fate_change (edited w before)) fates → edited w after ≡ after_lost w c r now
     lost_left before after fates reported known pushed =
         let law = fates_resend_or_drop (at_entry w c r) (after_reports w c r) (host_at_entry w c r) now (host_number w c) r.other_results
         (reports_keep_deadlines (at_entry w c r) (host_number w c) r.results) in
-        ap (applied w) pushed
-        ∙ fold-append applied_one w before (filter_map (fate_change (applied w before)) fates)
-        ∙ ap (λ fs. applied (applied w before) (filter_map (fate_change (applied w before)) fs)) known
-        ∙ ap (λ v. applied v (filter_map (fate_change v) (fates_known w c r now))) reported
+        ap (edited w) pushed
+        ∙ fold-append edited_one w before (filter_map (fate_change (edited w before)) fates)
+        ∙ ap (λ fs. edited (edited w before) (filter_map (fate_change (edited w before)) fs)) known
+        ∙ ap (λ v. edited v (filter_map (fate_change v) (fates_known w c r now))) reported
         ∙ made_by_fates (after_reports w c r) (fates_known w c r now) law.0
         ∙ law.1
 
@@ -51,14 +51,14 @@ module _ (w : World) (c : Caller) (r : Request) where
 
 -- What the steps say that found a call's lost jobs and put their fates. The call found the world w, its reports left v,
 -- and the fates left u.
-pub record AreLost (w v u : World) (r : Request) (k : Calling) (now : ℕ) (places : List Place) (fates : List Fate) (before after : List Change) : Type 0 where
+pub record AreLost (w v u : World) (r : Request) (k : Calling) (now : ℕ) (places : List Place) (fates : List Fate) (before after : List Edit) : Type 0 where
   pub found : HoldsNoMore w v k.number → places ≡ lost v k.number r.other_results
   pub told : fates ≡ map (fate w k.host now) places
-  pub here : v ≡ applied w before
-  pub there : u ≡ applied w after
+  pub here : v ≡ edited w before
+  pub there : u ≡ edited w after
   pub put : after ≡ before ++ filter_map (fate_change v) fates
 
-module _ (w v u : World) (r : Request) (k : Calling) (now : ℕ) (places : List Place) (fates : List Fate) (before after : List Change)
+module _ (w v u : World) (r : Request) (k : Calling) (now : ℕ) (places : List Place) (fates : List Fate) (before after : List Edit)
     (are : AreLost w v u r k now places fates before after) (calling : IsCalling w r k) (reported : v ≡ after_reports w k.caller r) where
   no_more : HoldsNoMore w v k.number
   no_more =
@@ -73,10 +73,10 @@ module _ (w v u : World) (r : Request) (k : Calling) (now : ℕ) (places : List 
       ∙ ap (map (fate w (host_at_entry w k.caller r) now))
       (are.found no_more ∙ ap (λ z. lost z k.number r.other_results) reported ∙ ap (λ n. lost (after_reports w k.caller r) n r.other_results) calling.number)
 
-  pub before_is : applied w before ≡ after_reports w k.caller r
+  pub before_is : edited w before ≡ after_reports w k.caller r
   before_is = sym are.here ∙ reported
 
-  pub put_is : after ≡ before ++ filter_map (fate_change (applied w before)) fates
+  pub put_is : after ≡ before ++ filter_map (fate_change (edited w before)) fates
   put_is = are.put ∙ ap (λ z. before ++ filter_map (fate_change z) fates) are.here
 
   pub left_known : u ≡ after_lost w k.caller r now

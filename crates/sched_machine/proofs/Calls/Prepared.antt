@@ -6,7 +6,7 @@ use Rattle.sched_book.specs.Fits.{estimate_at}
 use Rattle.sched_book.specs.Lost.{aborts}
 use Rattle.sched_book.specs.Places.{host_at, held_by}
 use Rattle.sched_book.specs.Step.{after_settlement}
-use Rattle.sched_book.specs.declared.delta.Change.{Change}
+use Rattle.sched_book.specs.declared.delta.Edit.{Edit}
 use Rattle.sched_book.specs.declared.instance.Place.{Place}
 use Rattle.sched_book.specs.declared.world.World.{World}
 use Rattle.lost_jobs.specs.Holding.{HoldsNoMore}
@@ -17,7 +17,7 @@ use Rattle.sched_machine.specs.declared.preparing.Ready.{Ready}
 use Rattle.sched_machine.proofs.Held.Settled.{after_settlement_holds}
 
 -- v is the world that settlement left, u the one in which the host was asked about, and t the one after that
-pub ready_call : (w v u t : World) (r : Request) (now : ℕ) (ready : Ready) (before after : List Change) (resent : List Place) → u ≡ v → t ≡ u
+pub ready_call : (w v u t : World) (r : Request) (now : ℕ) (ready : Ready) (before after : List Edit) (resent : List Place) → u ≡ v → t ≡ u
     → after ≡ before → resent ≡ ready.settled.resent → IsCalling w r ready.call → IsSettledCall w r ready.call now ready.settled v before
     → ready.aborted ≡ aborts v ready.call.number r.other_results
     → ready.wish.row ≡ unwrap_or (host_at u ready.call.number) ready.call.host
@@ -40,7 +40,7 @@ ready_call w v u t r now ready before after resent asked last same slice calling
     }
 
 -- a read keeps what was entered
-pub still_entered : (w v u : World) (r : Request) (k : Calling) (before after : List Change) → u ≡ v → after ≡ before
+pub still_entered : (w v u : World) (r : Request) (k : Calling) (before after : List Edit) → u ≡ v → after ≡ before
     → IsEntered w r k v before → IsEntered w r k u after
 still_entered w v u r k before after same changes entered =
     subst (IsEntered w r k u) (sym changes) (subst (λ z. IsEntered w r k z before) (sym same) entered)

@@ -3,11 +3,11 @@ use Rattle.std.proofs.Common.{◌≡◌, ℕ, List, map, sym, ap, ap₂, ◌∙�
 use Rattle.std.specs.Prelude.{fold}
 use Rattle.rpc_records.specs.declared.request.Report.{Report}
 use Rattle.rpc_records.specs.declared.request.Request.{Request}
-use Rattle.sched_book.specs.Delta.{applied, Fits}
+use Rattle.sched_book.specs.Delta.{edited, EditsFit}
 use Rattle.sched_book.specs.Reports.{record_one, first_reports}
 use Rattle.sched_book.specs.Settle.{settled}
 use Rattle.sched_book.specs.Step.{at_entry, after_reports, after_lost, resent_of}
-use Rattle.sched_book.specs.declared.delta.Change.{Change}
+use Rattle.sched_book.specs.declared.delta.Edit.{Edit}
 use Rattle.sched_book.specs.declared.world.World.{World}
 use Rattle.quorum_credit.specs.Limited.{IsLimited, FitWithin}
 use Rattle.quorum_credit.specs.Settling.{AreScores}
@@ -18,9 +18,9 @@ use Rattle.sched_machine.specs.declared.caller.Calling.{Calling}
 use Rattle.sched_machine.specs.declared.settlement.SettledCall.{SettledCall}
 use Rattle.sched_machine.proofs.Rows.Entry.{entry_keeps_sound}
 
-module _ (w v : World) (r : Request) (k : Calling) (changes : List Change) (entered : IsEntered w r k v changes) where
+module _ (w v : World) (r : Request) (k : Calling) (changes : List Edit) (entered : IsEntered w r k v changes) where
   -- what was put fits, and leaves a world within limits
-  pub entered_within : v ≡ applied w changes → FitWithin w changes
+  pub entered_within : v ≡ edited w changes → FitWithin w changes
   entered_within here = record {
     fits = entered.fits;
     limited = subst IsLimited (sym entered.left ∙ here)
@@ -34,8 +34,8 @@ module _ (w v : World) (r : Request) (k : Calling) (changes : List Change) (ente
       is ∙ ap₂ (λ (n : ℕ) (z : World). fold (record_one w n) z (first_reports r.results)) entered.calling.number entered.left
 
 -- settlement depends on them too
-pub settled_call : (w v u : World) (r : Request) (k : Calling) (now : ℕ) (done : SettledCall) (changes : List Change)
-    → v ≡ after_lost w k.caller r now → u ≡ settled w v → Fits w changes
+pub settled_call : (w v u : World) (r : Request) (k : Calling) (now : ℕ) (done : SettledCall) (changes : List Edit)
+    → v ≡ after_lost w k.caller r now → u ≡ settled w v → EditsFit w changes
     → done.acked ≡ map (λ (x : Report). x.name) (first_reports r.results) → done.resent ≡ resent_of w k.caller r → AreScores w u done.scores
     → IsSettledCall w r k now done u changes
 settled_call w v u r k now done changes left settles fits acked resent scores = record {

@@ -2,8 +2,8 @@ use Rattle.std.proofs.Common.{sym, ap, ap₂, ◌∙◌, ◌++◌, List}
 use Rattle.std.specs.Prelude.{filter_map}
 use Rattle.std.proofs.lemmas.List.{append-nil, drop_all}
 use Rattle.std.proofs.lemmas.Result.{on_ok_weaker}
-use Rattle.sched_book.specs.Delta.{applied}
-use Rattle.sched_book.specs.declared.delta.Change.{Change}
+use Rattle.sched_book.specs.Delta.{edited}
+use Rattle.sched_book.specs.declared.delta.Edit.{Edit}
 use Rattle.sched_book.specs.declared.world.World.{World}
 use Rattle.lost_jobs.specs.Fated.{fate_change}
 use Rattle.lost_jobs.proofs.Fated.{made_by_fates}
@@ -25,6 +25,6 @@ returns-clause-put g c = λ honest kept.
     on_ok_weaker c.put_all.result
     (λ put by_place.
     put
-    ∙ ap₂ (λ (v : World) (cs : List Change). applied v cs) here (c.as_slice.ensures ∙ all)
+    ∙ ap₂ (λ (v : World) (cs : List Edit). edited v cs) here (c.as_slice.ensures ∙ all)
     ∙ made_by_fates before fates by_place)
     (c.put_all.ensures.put honest kept_1)

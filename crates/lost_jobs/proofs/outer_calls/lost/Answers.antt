@@ -1,8 +1,8 @@
 use Rattle.std.proofs.Common.{sym, ap, ap₂, ◌∙◌, subst, rules, List}
 use Rattle.std.proofs.lemmas.Result.{IfOk-weaker}
-use Rattle.sched_book.specs.Delta.{applied}
+use Rattle.sched_book.specs.Delta.{edited}
 use Rattle.sched_book.specs.Places.{held_by}
-use Rattle.sched_book.specs.declared.delta.Change.{Change}
+use Rattle.sched_book.specs.declared.delta.Edit.{Edit}
 use Rattle.sched_book.specs.declared.world.World.{World}
 use Rattle.call_sheet.specs.Sheets.{IsPageOf}
 use Rattle.lost_jobs.proofs.Requested.{lost_of_both, lost_by_request}
@@ -13,7 +13,7 @@ pub returns-clause-answer : goal.returns-clause-answer
 returns-clause-answer g c = λ honest kept.
     let d = g.met.D.Units in
     let w = g.D.Units.world in
-    let changes = c.args.delta.now in
+    let changes = c.args.edits.now in
     let honest_4 : g.D.Units.honest c.lost_on.new.sheet.desk.now = search rules in
     let honest_3 = d.stays_honest _ _ c.lost_on.ensures.reads.0 honest_4 in
     let honest_2 = d.stays_honest _ _ c.held_before.ensures.reads.0 honest_3 in
@@ -29,10 +29,10 @@ returns-clause-answer g c = λ honest kept.
     let page_3 = subst (λ v. IsPageOf v c.held_before.new.self.page.now) (sym same_3) (c.held_before.ensures.reads.2 honest_3 kept_2 page_2) in
     let held = c.as_slice-2.ensures ∙ c.in_ok-held.ensures.answer honest_3 (kept_2, page_2) ∙ ap (λ v. held_by v c.args.host) (sym same_3) in
     let changed =
-    ap₂ (λ (v : World) (cs : List Change). applied v cs) same_3 c.held_before.ensures.reads.1
+    ap₂ (λ (v : World) (cs : List Edit). edited v cs) same_3 c.held_before.ensures.reads.1
     ∙ c.in_ok-put_all.ensures.put honest_2 (kept_1, page_1)
-    ∙ ap₂ (λ (ds cs : List Change). applied (applied (w c.settings.new.self) ds) cs) c.new-page.ensures.delta c.as_slice.ensures
-    ∙ ap (λ v. applied v changes) same_1 in
+    ∙ ap₂ (λ (ds cs : List Edit). edited (edited (w c.settings.new.self) ds) cs) c.new-page.ensures.edits c.as_slice.ensures
+    ∙ ap (λ v. edited v changes) same_1 in
     IfOk-weaker c.lost_on.result _ _
     (λ places are. lost_of_both c.args.host c.args.request.now places _ _ _ _ (same_3 ∙ same_2 ∙ same_1) changed (are held))
     (c.lost_on.ensures.answer honest_4 (kept_3, page_3))
@@ -40,5 +40,5 @@ returns-clause-answer g c = λ honest kept.
 pub returns-clause-of_request : goal.returns-clause-of_request
 returns-clause-of_request g c = λ honest kept.
     IfOk-weaker c.lost_on.result _ _
-    (λ places are records. lost_by_request (g.D.Units.world c.args.desk.now) c.args.delta.now c.args.host c.args.request.now records places are)
+    (λ places are records. lost_by_request (g.D.Units.world c.args.desk.now) c.args.edits.now c.args.host c.args.request.now records places are)
     (returns-clause-answer g c honest kept)

@@ -27,7 +27,7 @@ loop-place-preserved g c =
       fits = λ honest kept fit.
           let before = draft.works_honest _ _ c.put_late.ensures.works honest in
           let well = draft.works_kept _ _ inv.works before kept in
-          subst (λ w. FitWithin w (g.S.Draft.delta c.loop-place.sheet) → FitWithin w (g.S.Draft.delta c.put_late.new.sheet))
+          subst (λ w. FitWithin w (g.S.Draft.edits c.loop-place.sheet) → FitWithin w (g.S.Draft.edits c.put_late.new.sheet))
           (draft.works_entry _ _ inv.works before kept)
           (c.in_ok-put_late.ensures.fits honest well) (inv.fits before kept fit);
     }

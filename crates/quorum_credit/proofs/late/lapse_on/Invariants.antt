@@ -14,5 +14,5 @@ invariant-loop-place g l = record {
       → fold (with_changed (with_lapse Late)) (g.S.Units.world l.sheet) (drop l.place-index l.places)
       ≡ fold (with_changed (with_lapse Late)) (g.S.Units.world l.fn.sheet) l.places;
   fits : g.S.Units.honest l.sheet → g.S.Units.well_kept l.fn.sheet
-      → FitWithin (g.S.Draft.entry l.fn.sheet) (g.S.Draft.delta l.fn.sheet) → FitWithin (g.S.Draft.entry l.fn.sheet) (g.S.Draft.delta l.sheet);
+      → FitWithin (g.S.Draft.entry l.fn.sheet) (g.S.Draft.edits l.fn.sheet) → FitWithin (g.S.Draft.entry l.fn.sheet) (g.S.Draft.edits l.sheet);
 }

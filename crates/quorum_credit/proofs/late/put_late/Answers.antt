@@ -1,7 +1,7 @@
 use Rattle.std.proofs.Common.{sym, ap, ◌∙◌, [], ◌∷◌, ◌++◌}
-use Rattle.sched_book.specs.Delta.{applied_one}
+use Rattle.sched_book.specs.Delta.{edited_one}
 use Rattle.quorum_credit.specs.Leaves.{late_on}
-use Rattle.sched_book.specs.declared.delta.Change.TheVariants as change
+use Rattle.sched_book.specs.declared.delta.Edit.TheVariants as edit
 use Rattle.quorum_credit.proofs.LateOnes.{late_is, late_fits}
 use Rattle.quorum_credit.proofs.OnLeaves.{late-is}
 use Rattle.quorum_credit.proofs.late.put_late.Goals as goal
@@ -16,7 +16,7 @@ returns-in_ok-put_instance-in-Some-clause-put g c = λ honest kept.
     let kept_1 = u.stays_kept _ _ c.read.ensures.reads honest_1 kept in
     let here = u.stays_same _ _ c.read.ensures.reads honest_1 kept in
     c.in_ok-put_instance-in-Some.ensures.put honest kept_1
-    ∙ ap (λ w. applied_one w (change.Instance c.args.place c.in-Some.row)) here
+    ∙ ap (λ w. edited_one w (edit.Instance c.args.place c.in-Some.row)) here
     ∙ late_is (g.S.Units.world c.args.sheet.now) c.args.place c.in-Some.row row
 
 pub returns-in_ok-put_instance-in-Some-clause-fits : goal.returns-in_ok-put_instance-in-Some-clause-fits
@@ -25,8 +25,8 @@ returns-in_ok-put_instance-in-Some-clause-fits g c = λ honest kept.
     let row =
     sym c.in-Some.is ∙ c.in_ok-late_on.ensures ∙ ap (λ o. late_on o c.args.place.number) c.leaf.ensures
     ∙ late-is (g.S.Draft.entry c.args.sheet.now) (g.S.Units.world c.args.sheet.now) c.args.place _ (c.in_ok-read.ensures.answer honest_1 kept) in
-    late_fits (g.S.Draft.entry c.args.sheet.now) (g.S.Units.world c.args.sheet.now) (g.S.Draft.delta c.args.sheet.now) (g.S.Draft.delta c.put_instance.new.self)
-    c.args.place c.in-Some.row (g.met.S.Draft.is_applied c.args.sheet.now)
+    late_fits (g.S.Draft.entry c.args.sheet.now) (g.S.Units.world c.args.sheet.now) (g.S.Draft.edits c.args.sheet.now) (g.S.Draft.edits c.put_instance.new.self)
+    c.args.place c.in-Some.row (g.met.S.Draft.is_edited c.args.sheet.now)
     row
-    (c.in_ok-put_instance-in-Some.ensures.delta
-    ∙ ap (λ cs. cs ++ change.Instance c.args.place c.in-Some.row ∷ []) (g.met.S.Draft.reads_delta _ _ c.read.ensures.reads))
+    (c.in_ok-put_instance-in-Some.ensures.edits
+    ∙ ap (λ cs. cs ++ edit.Instance c.args.place c.in-Some.row ∷ []) (g.met.S.Draft.reads_edits _ _ c.read.ensures.reads))

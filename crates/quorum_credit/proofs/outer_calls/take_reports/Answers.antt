@@ -1,5 +1,5 @@
 use Rattle.std.proofs.Common.{◌≡◌, sym, ap, subst, ◌∙◌, rules}
-use Rattle.sched_book.specs.Delta.{Fits}
+use Rattle.sched_book.specs.Delta.{EditsFit}
 use Rattle.call_sheet.specs.declared.page.Page.{Page}
 use Rattle.quorum_credit.proofs.FitReports.{page_fits}
 use Rattle.quorum_credit.proofs.outer_calls.take_reports.Goals as goal
@@ -16,5 +16,5 @@ returns-clause-fits g c = λ honest kept told sound.
     let kept_1 = d.stays_kept _ _ c.settings.ensures.reads honest_1 kept in
     let here = d.stays_same _ _ c.settings.ensures.reads honest_1 kept in
     let page = c.new-page.ensures.page _ (c.in_ok-settings.ensures.answer honest_1 kept ∙ ap (λ v. v.settings) (sym here)) in
-    subst (λ (p : Page). Fits (g.D.Units.world c.args.desk.now) p.delta) same_page
-    (page_fits _ _ _ _ here c.new-page.ensures.delta (c.in_ok-acked.ensures.fits honest_2 (kept_1, page) told) sound)
+    subst (λ (p : Page). EditsFit (g.D.Units.world c.args.desk.now) p.edits) same_page
+    (page_fits _ _ _ _ here c.new-page.ensures.edits (c.in_ok-acked.ensures.fits honest_2 (kept_1, page) told) sound)

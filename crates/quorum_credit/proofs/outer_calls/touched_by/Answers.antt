@@ -6,9 +6,9 @@ use Rattle.quorum_credit.proofs.outer_calls.touched_by.Goals as goal
 
 pub returns : goal.returns
 returns c =
-    let changes = c.args.changes.now in
-    let units = c.loop-change.units in
+    let edits = c.args.edits.now in
+    let units = c.loop-edit.units in
     let are : c.of.result ≡ units.keys = search rules in
-    subst (AreTouched changes) (sym are)
-    (touched-is changes units c.iter.ensures.ordered
-    (subst (λ cs. HasTouched cs units) (take_all c.loop-change.change-index changes c.loop-change-test.false) c.loop-change.invariant))
+    subst (AreTouched edits) (sym are)
+    (touched-is edits units c.iter.ensures.ordered
+    (subst (λ cs. HasTouched cs units) (take_all c.loop-edit.edit-index edits c.loop-edit-test.false) c.loop-edit.invariant))

@@ -1,8 +1,8 @@
 use Rattle.std.proofs.Common.{sym, ap, ◌∙◌, [], ◌∷◌, ◌++◌}
 use Rattle.sched_book.specs.Count.{has_failed}
 use Rattle.sched_book.specs.Places.{status_at}
-use Rattle.sched_book.specs.Delta.{applied_one}
-use Rattle.sched_book.specs.declared.delta.Change.TheVariants as change
+use Rattle.sched_book.specs.Delta.{edited_one}
+use Rattle.sched_book.specs.declared.delta.Edit.TheVariants as edit
 use Rattle.quorum_credit.proofs.FitReports.{fit_report}
 use Rattle.quorum_credit.specs.Leaves.{reported_on}
 use Rattle.quorum_credit.proofs.OnLeaves.{reported-is}
@@ -20,7 +20,7 @@ returns-in_ok-put_instance-in-Some-clause-put g c = λ honest kept.
     let kept_1 = u.stays_kept _ _ c.read.ensures.reads honest_1 kept in
     let here = u.stays_same _ _ c.read.ensures.reads honest_1 kept in
     c.in_ok-put_instance-in-Some.ensures.put honest kept_1
-    ∙ ap (λ w. applied_one w (change.Instance c.args.place c.in-Some.row)) here
+    ∙ ap (λ w. edited_one w (edit.Instance c.args.place c.in-Some.row)) here
     ∙ report_some (g.S.Draft.entry c.args.sheet.now) c.args.host (g.S.Units.world c.args.sheet.now) c.args.report.now c.args.place c.in-Some.row row
 
 pub returns-in_ok-put_instance-in-Some-clause-fits : goal.returns-in_ok-put_instance-in-Some-clause-fits
@@ -31,9 +31,9 @@ returns-in_ok-put_instance-in-Some-clause-fits g c = λ honest kept told.
     ∙ reported-is c.args.host c.args.report.now (g.S.Draft.entry c.args.sheet.now) (g.S.Units.world c.args.sheet.now) c.args.place _
     (c.in_ok-read.ensures.answer honest_1 kept)) ∙ c.in-Some.is in
     let entry = g.S.Draft.entry c.args.sheet.now in
-    fit_report entry (g.S.Units.world c.args.sheet.now) c.args.host c.args.report.now (has_failed (status_at entry c.args.place.unit)) c.args.place c.in-Some.row (g.S.Draft.delta c.args.sheet.now) (g.S.Draft.delta c.put_instance.new.self)
-    (g.met.S.Draft.is_applied c.args.sheet.now)
+    fit_report entry (g.S.Units.world c.args.sheet.now) c.args.host c.args.report.now (has_failed (status_at entry c.args.place.unit)) c.args.place c.in-Some.row (g.S.Draft.edits c.args.sheet.now) (g.S.Draft.edits c.put_instance.new.self)
+    (g.met.S.Draft.is_edited c.args.sheet.now)
     row
-    (c.in_ok-put_instance-in-Some.ensures.delta
-    ∙ ap (λ cs. cs ++ change.Instance c.args.place c.in-Some.row ∷ []) (g.met.S.Draft.reads_delta _ _ c.read.ensures.reads))
+    (c.in_ok-put_instance-in-Some.ensures.edits
+    ∙ ap (λ cs. cs ++ edit.Instance c.args.place c.in-Some.row ∷ []) (g.met.S.Draft.reads_edits _ _ c.read.ensures.reads))
     told.output

@@ -34,6 +34,6 @@ loop-report-preserved g c =
           let well = draft.works_kept _ _ inv.works before kept in
           let entry = draft.works_entry _ _ inv.works before kept in
           let here : IsReport c.report-item.result.now = report_there reports i c.report-item.result _ c.report-item.is c.loop-report-test.true told in
-          subst (λ w. FitWithin w (g.S.Draft.delta c.loop-report.sheet) → FitWithin w (g.S.Draft.delta c.take_report.new.sheet)) entry
+          subst (λ w. FitWithin w (g.S.Draft.edits c.loop-report.sheet) → FitWithin w (g.S.Draft.edits c.take_report.new.sheet)) entry
           (c.in_ok-take_report.ensures.fits honest well here) (inv.fits before kept told fit);
     }

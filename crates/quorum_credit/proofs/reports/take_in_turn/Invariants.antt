@@ -13,5 +13,5 @@ invariant-loop-report g l = record {
       → fold (record_one (g.S.Draft.entry l.fn.sheet) l.host) (g.S.Units.world l.sheet) (map (λ r. r.now) (drop l.report-index l.reports))
       ≡ fold (record_one (g.S.Draft.entry l.fn.sheet) l.host) (g.S.Units.world l.fn.sheet) (map (λ r. r.now) l.reports);
   fits : g.S.Units.honest l.sheet → g.S.Units.well_kept l.fn.sheet → All (λ r. IsReport r.now) l.reports
-      → FitWithin (g.S.Draft.entry l.fn.sheet) (g.S.Draft.delta l.fn.sheet) → FitWithin (g.S.Draft.entry l.fn.sheet) (g.S.Draft.delta l.sheet);
+      → FitWithin (g.S.Draft.entry l.fn.sheet) (g.S.Draft.edits l.fn.sheet) → FitWithin (g.S.Draft.entry l.fn.sheet) (g.S.Draft.edits l.sheet);
 }

@@ -1,5 +1,5 @@
 use Rattle.std.proofs.Common.{[], sym, ap, ap₂, ◌∙◌, subst}
-use Rattle.sched_book.specs.Delta.{applied, Fits}
+use Rattle.sched_book.specs.Delta.{edited, EditsFit}
 use Rattle.sched_book.specs.Settle.{settled}
 use Rattle.sched_book.specs.Sound.{Sound}
 use Rattle.sched_book.specs.declared.world.World.{World}
@@ -14,10 +14,10 @@ returns-clause-left g c = λ honest kept none sound.
     let honest_1 = draft.works_honest _ _ c.settle_read.ensures.works honest in
     let kept_1 = draft.works_kept _ _ c.lapse_on.ensures.works honest_1 kept in
     let entry = draft.works_entry _ _ c.lapse_on.ensures.works honest_1 kept in
-    let here = draft.is_applied sheet ∙ ap (applied (g.S.Draft.entry sheet)) none in
-    let fits = c.in_ok-lapse_on.ensures.fits honest_1 kept (nothing_put_within (g.S.Draft.entry sheet) (g.S.Draft.delta sheet) none sound) in
+    let here = draft.is_edited sheet ∙ ap (edited (g.S.Draft.entry sheet)) none in
+    let fits = c.in_ok-lapse_on.ensures.fits honest_1 kept (nothing_put_within (g.S.Draft.entry sheet) (g.S.Draft.edits sheet) none sound) in
     c.in_ok-settle_read.ensures.settled honest kept_1 (subst Sound (sym entry) sound)
-    (subst (λ (w : World). Fits w (g.S.Draft.delta c.lapse_on.new.sheet)) (sym entry) fits.fits)
+    (subst (λ (w : World). EditsFit w (g.S.Draft.edits c.lapse_on.new.sheet)) (sym entry) fits.fits)
     ∙ ap₂ settled entry (c.in_ok-lapse_on.ensures.lapsed honest_1 kept ∙ ap (λ w. lapsed_at w c.args.places.now) here)
 
 pub returns-clause-fits : goal.returns-clause-fits
@@ -27,7 +27,7 @@ returns-clause-fits g c = λ honest kept none sound.
     let honest_1 = draft.works_honest _ _ c.settle_read.ensures.works honest in
     let kept_1 = draft.works_kept _ _ c.lapse_on.ensures.works honest_1 kept in
     let entry = draft.works_entry _ _ c.lapse_on.ensures.works honest_1 kept in
-    let fits = c.in_ok-lapse_on.ensures.fits honest_1 kept (nothing_put_within (g.S.Draft.entry sheet) (g.S.Draft.delta sheet) none sound) in
-    subst (λ (w : World). Fits w (g.S.Draft.delta c.settle_read.new.sheet)) entry
+    let fits = c.in_ok-lapse_on.ensures.fits honest_1 kept (nothing_put_within (g.S.Draft.entry sheet) (g.S.Draft.edits sheet) none sound) in
+    subst (λ (w : World). EditsFit w (g.S.Draft.edits c.settle_read.new.sheet)) entry
     (c.in_ok-settle_read.ensures.fits honest kept_1 (subst Sound (sym entry) sound)
-    (subst (λ (w : World). Fits w (g.S.Draft.delta c.lapse_on.new.sheet)) (sym entry) fits.fits))
+    (subst (λ (w : World). EditsFit w (g.S.Draft.edits c.lapse_on.new.sheet)) (sym entry) fits.fits))

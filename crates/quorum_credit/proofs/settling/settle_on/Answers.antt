@@ -1,11 +1,10 @@
 use Rattle.std.proofs.Common.{ap, ap₂, ◌∙◌, ◌++◌, subst, List}
-use Rattle.sched_book.specs.Delta.{applied}
-use Rattle.sched_book.specs.declared.delta.Change.{Change}
+use Rattle.sched_book.specs.Delta.{edited}
+use Rattle.sched_book.specs.declared.delta.Edit.{Edit}
 use Rattle.sched_book.specs.declared.world.World.{World}
 use Rattle.quorum_credit.specs.Growing.{all_growth}
 use Rattle.quorum_credit.specs.Scoring.{scores_of_units}
 use Rattle.quorum_credit.specs.Settling.{AreQuotasBy}
-use Rattle.quorum_credit.proofs.RowsPut.{call_puts}
 use Rattle.quorum_credit.proofs.SettledAll.{AreSteps, scores_hold, settles, settling_fits, goes_on}
 use Rattle.quorum_credit.proofs.settling.settle_on.Given
 use Rattle.quorum_credit.proofs.settling.settle_on.Goals as goal
@@ -13,7 +12,7 @@ use Rattle.quorum_credit.proofs.settling.settle_on.Goals as goal
 -- what the steps say of the world that the call found, and of those in between
 steps : (g : Given.Over) (c : goal.After-drop-quotas-inside-2 g) → g.S.Units.honest c.put_all.new.sheet → g.S.Units.well_kept c.args.sheet.now
     → AreSteps (g.S.Draft.entry c.args.sheet.now) (g.S.Units.world c.args.sheet.now) (g.S.Units.world c.grow_on.new.sheet) (g.S.Units.world c.put_all.new.sheet)
-    (g.S.Draft.delta c.args.sheet.now) (g.S.Draft.delta c.put_all.new.sheet) c.in_ok-quotas.quotas c.args.touched.now c.in_ok-scores.scores
+    (g.S.Draft.edits c.args.sheet.now) (g.S.Draft.edits c.put_all.new.sheet) c.in_ok-quotas.quotas c.args.touched.now c.in_ok-scores.scores
 steps g c honest kept =
     let u = g.met.S.Units in
     let draft = g.met.S.Draft in
@@ -27,9 +26,7 @@ steps g c honest kept =
     let same_3 = u.stays_same _ _ c.new_quotas.ensures.reads honest_3 kept_2 ∙ same_2 in
     let entry = draft.works_entry _ _ c.grow_on.ensures.works honest_1 kept in
     record {
-      here = draft.is_applied c.args.sheet.now;
-      puts = call_puts (g.S.Draft.entry c.args.sheet.now) (g.S.Units.world c.args.sheet.now) (g.S.Draft.delta c.args.sheet.now) (g.S.Draft.kept c.args.sheet.now)
-          (draft.is_applied c.args.sheet.now) (draft.rest_stays _ kept) (draft.leaves_are _ kept);
+      here = draft.is_edited c.args.sheet.now;
       grew = c.in_ok-grow_on.ensures.grown honest_1 kept;
       scored = c.in_ok-scores.ensures.answer honest_2 kept_1
           ∙ ap (λ e. scores_of_units e (g.S.Units.world c.grow_on.new.sheet) c.args.touched.now) entry;
@@ -37,11 +34,11 @@ steps g c honest kept =
           (subst (λ ms. AreQuotasBy ms (g.S.Units.world c.scores_of_units.new.sheet) c.in_ok-quotas.quotas) c.as_slice.ensures
           (c.in_ok-quotas.ensures.answer honest_3 kept_2));
       put = c.in_ok-put_all.ensures.put honest kept_3
-          ∙ ap₂ (λ (v : World) (cs : List Change). applied v cs) same_3 c.as_slice-2.ensures;
-      changes = c.in_ok-put_all.ensures.delta
-          ∙ ap₂ (λ (ds cs : List Change). ds ++ cs)
-          (draft.reads_delta _ _ c.new_quotas.ensures.reads ∙ draft.reads_delta _ _ c.scores_of_units.ensures.reads
-          ∙ c.in_ok-grow_on.ensures.delta honest_1 kept)
+          ∙ ap₂ (λ (v : World) (cs : List Edit). edited v cs) same_3 c.as_slice-2.ensures;
+      changes = c.in_ok-put_all.ensures.edits
+          ∙ ap₂ (λ (ds cs : List Edit). ds ++ cs)
+          (draft.reads_edits _ _ c.new_quotas.ensures.reads ∙ draft.reads_edits _ _ c.scores_of_units.ensures.reads
+          ∙ c.in_ok-grow_on.ensures.edits honest_1 kept)
           c.as_slice-2.ensures;
     }
 
@@ -54,7 +51,7 @@ returns-clause-fits g c = λ honest kept. settling_fits _ _ _ _ _ _ _ _ _ (steps
 pub returns-clause-scores : goal.returns-clause-scores
 returns-clause-scores g c = λ honest kept. scores_hold _ _ _ _ _ _ _ _ _ (steps g c honest kept)
 
-pub returns-clause-delta : goal.returns-clause-delta
-returns-clause-delta g c = λ honest kept.
-    goes_on (g.S.Draft.delta c.args.sheet.now) (all_growth (g.S.Units.world c.args.sheet.now) c.args.touched.now) c.in_ok-quotas.quotas
-    (g.S.Draft.delta c.put_all.new.sheet) (steps g c honest kept).changes
+pub returns-clause-edits : goal.returns-clause-edits
+returns-clause-edits g c = λ honest kept.
+    goes_on (g.S.Draft.edits c.args.sheet.now) (all_growth (g.S.Units.world c.args.sheet.now) c.args.touched.now) c.in_ok-quotas.quotas
+    (g.S.Draft.edits c.put_all.new.sheet) (steps g c honest kept).changes

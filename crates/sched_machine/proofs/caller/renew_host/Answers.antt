@@ -1,7 +1,7 @@
 use Rattle.std.proofs.Common.{[], ◌∷◌, ◌++◌, sym, ap, ◌∙◌}
-use Rattle.sched_book.specs.Delta.{applied, applied_one}
+use Rattle.sched_book.specs.Delta.{edited, edited_one}
 use Rattle.sched_book.specs.Places.{host_at}
-use Rattle.sched_book.specs.declared.delta.Change.TheVariants as change
+use Rattle.sched_book.specs.declared.delta.Edit.TheVariants as edit
 use Rattle.sched_machine.proofs.Calls.Entry.{renews, enters}
 use Rattle.sched_machine.proofs.caller.renew_host.Goals as goal
 
@@ -11,14 +11,14 @@ returns-clause-entered g c = λ honest kept none sound admitted known.
     let draft = g.met.S.Draft in
     let sheet = c.args.sheet.now in
     let w = g.S.Draft.entry sheet in
-    let row = change.Host c.args.number c.in_ok-host.host in
+    let row = edit.Host c.args.number c.in_ok-host.host in
     let honest_1 = draft.works_honest _ _ c.put_host.ensures.works honest in
     let kept_1 = u.stays_kept _ _ c.host.ensures.reads honest_1 kept in
-    let here = draft.is_applied sheet ∙ ap (applied w) none in
+    let here = draft.is_edited sheet ∙ ap (edited w) none in
     let same = u.stays_same _ _ c.host.ensures.reads honest_1 kept ∙ here in
-    enters w (g.S.Units.world c.put_host.new.self) c.args.request.now _ (g.S.Draft.delta c.put_host.new.self)
+    enters w (g.S.Units.world c.put_host.new.self) c.args.request.now _ (g.S.Draft.edits c.put_host.new.self)
     (renews w c.args.caller.now c.args.request.now c.args.number c.in-Some.before c.in_ok-host.host sound admitted known
     (ap (λ v. host_at v c.args.number) (sym here) ∙ sym (c.in_ok-before.ensures.answer honest_1 kept) ∙ c.in-Some.is)
     c.in_ok-host.ensures)
-    (c.in_ok-put_host.ensures.put honest kept_1 ∙ ap (λ v. applied_one v row) same)
-    (c.in_ok-put_host.ensures.delta ∙ ap (λ cs. cs ++ row ∷ []) (draft.reads_delta _ _ c.host.ensures.reads ∙ none))
+    (c.in_ok-put_host.ensures.put honest kept_1 ∙ ap (λ v. edited_one v row) same)
+    (c.in_ok-put_host.ensures.edits ∙ ap (λ cs. cs ++ row ∷ []) (draft.reads_edits _ _ c.host.ensures.reads ∙ none))

@@ -1,7 +1,7 @@
 use Rattle.std.proofs.Common.{◌≡◌, rules, ◌++◌, filter_map, map, ap, ap₂, ◌∙◌, List}
-use Rattle.sched_book.specs.Delta.{applied}
+use Rattle.sched_book.specs.Delta.{edited}
 use Rattle.sched_book.specs.Places.{held_by}
-use Rattle.sched_book.specs.declared.delta.Change.{Change}
+use Rattle.sched_book.specs.declared.delta.Edit.{Edit}
 use Rattle.sched_book.specs.declared.world.World.{World}
 use Rattle.lost_jobs.specs.Fated.{fate_change}
 use Rattle.lost_jobs.specs.Fates.{fate}
@@ -17,7 +17,7 @@ lost : (g : Given.Over) (c : goal.After-drop-lost-inside-2 g) → g.S.Units.hone
     → c.args.held.now ≡ held_by (g.S.Draft.entry c.args.sheet.now) c.args.call.now.number
     → AreLost (g.S.Draft.entry c.args.sheet.now) (g.S.Units.world c.args.sheet.now) (g.S.Units.world c.put_fates.new.sheet)
     c.args.request.now c.args.call.now c.args.now c.in_ok-lost.lost c.in_ok-fates.fates
-    (g.S.Draft.delta c.args.sheet.now) (g.S.Draft.delta c.put_fates.new.sheet)
+    (g.S.Draft.edits c.args.sheet.now) (g.S.Draft.edits c.put_fates.new.sheet)
 lost g c honest kept held =
     let u = g.met.S.Units in
     let draft = g.met.S.Draft in
@@ -31,16 +31,16 @@ lost g c honest kept held =
     let entry_1 = draft.works_entry _ _ (draft.reads_works _ _ c.lost_on.ensures.reads) honest_1 kept in
     let entry_2 = draft.works_entry _ _ (draft.reads_works _ _ c.fates_on.ensures.reads) honest_2 kept_1 ∙ entry_1 in
     let entry = draft.works_entry _ _ c.put_fates.ensures.works honest kept_2 ∙ entry_2 in
-    let delta = draft.reads_delta _ _ c.fates_on.ensures.reads ∙ draft.reads_delta _ _ c.lost_on.ensures.reads in
+    let edits = draft.reads_edits _ _ c.fates_on.ensures.reads ∙ draft.reads_edits _ _ c.lost_on.ensures.reads in
     record {
       found = c.in_ok-lost.ensures.answer honest_1 kept held;
       told = c.in_ok-fates.ensures.answer honest_2 kept_1
           ∙ ap₂ (λ (e : World) ps. map (fate e c.args.call.now.host c.args.now) ps) entry_1 c.as_slice.ensures;
-      here = draft.is_applied c.args.sheet.now;
-      there = draft.is_applied c.put_fates.new.sheet ∙ ap (λ (e : World). applied e (g.S.Draft.delta c.put_fates.new.sheet)) entry;
-      put = c.in_ok-put_fates.ensures.delta honest kept_2
-          ∙ ap₂ (λ (ds : List Change) (fs : List Fate). ds ++ filter_map (fate_change (world c.fates_on.new.sheet)) fs) delta c.as_slice-2.ensures
-          ∙ ap (λ (w : World). g.S.Draft.delta c.args.sheet.now ++ filter_map (fate_change w) c.in_ok-fates.fates) same;
+      here = draft.is_edited c.args.sheet.now;
+      there = draft.is_edited c.put_fates.new.sheet ∙ ap (λ (e : World). edited e (g.S.Draft.edits c.put_fates.new.sheet)) entry;
+      put = c.in_ok-put_fates.ensures.edits honest kept_2
+          ∙ ap₂ (λ (ds : List Edit) (fs : List Fate). ds ++ filter_map (fate_change (world c.fates_on.new.sheet)) fs) edits c.as_slice-2.ensures
+          ∙ ap (λ (w : World). g.S.Draft.edits c.args.sheet.now ++ filter_map (fate_change w) c.in_ok-fates.fates) same;
     }
 
 pub returns-clause-left : goal.returns-clause-left

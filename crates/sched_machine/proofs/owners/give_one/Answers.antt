@@ -1,6 +1,6 @@
 use Rattle.std.proofs.Common.{rules, [], ◌∷◌, ◌++◌, sym, ap, ◌∙◌}
-use Rattle.sched_book.specs.Delta.{applied_one}
-use Rattle.sched_book.specs.declared.delta.Change.TheVariants as change
+use Rattle.sched_book.specs.Delta.{edited_one}
+use Rattle.sched_book.specs.declared.delta.Edit.TheVariants as edit
 use Rattle.sched_machine.specs.Granting.{given_on}
 use Rattle.sched_machine.proofs.Calls.Granted.{given_is, given_fits}
 use Rattle.sched_machine.proofs.owners.give_one.Goals as goal
@@ -12,7 +12,7 @@ returns-in_ok-put_instance-in-Some-clause-left g c = λ honest kept.
     let honest_1 = g.met.S.Draft.works_honest _ _ c.put_instance.ensures.works honest in
     let kept_1 = u.stays_kept _ _ c.read.ensures.reads honest_1 kept in
     c.in_ok-put_instance-in-Some.ensures.put honest kept_1
-    ∙ ap (λ w. applied_one w (change.Instance c.args.place c.in-Some.row)) (u.stays_same _ _ c.read.ensures.reads honest_1 kept)
+    ∙ ap (λ w. edited_one w (edit.Instance c.args.place c.in-Some.row)) (u.stays_same _ _ c.read.ensures.reads honest_1 kept)
     ∙ given_is (g.S.Draft.entry sheet) (g.S.Units.world sheet) c.args.place c.args.host c.args.now c.in-Some.row _ (c.in_ok-read.ensures.answer honest_1 kept)
     (sym c.in-Some.is ∙ c.in_ok-given_on.ensures ∙ ap (λ o. given_on o c.args.place.number c.args.host c.args.now) c.leaf.ensures)
 
@@ -23,6 +23,6 @@ returns-in_ok-put_instance-in-Some-clause-fits g c = λ honest kept.
     let honest_1 = draft.works_honest _ _ c.put_instance.ensures.works honest in
     given_fits (g.S.Draft.entry sheet) (g.S.Units.world sheet) c.args.place c.args.host c.args.now c.in-Some.row _ (c.in_ok-read.ensures.answer honest_1 kept)
     (sym c.in-Some.is ∙ c.in_ok-given_on.ensures ∙ ap (λ o. given_on o c.args.place.number c.args.host c.args.now) c.leaf.ensures)
-    (g.S.Draft.delta sheet) (g.S.Draft.delta c.put_instance.new.self) (search rules) (draft.is_applied sheet)
-    (c.in_ok-put_instance-in-Some.ensures.delta
-    ∙ ap (λ cs. cs ++ change.Instance c.args.place c.in-Some.row ∷ []) (draft.reads_delta _ _ c.read.ensures.reads))
+    (g.S.Draft.edits sheet) (g.S.Draft.edits c.put_instance.new.self) (search rules) (draft.is_edited sheet)
+    (c.in_ok-put_instance-in-Some.ensures.edits
+    ∙ ap (λ cs. cs ++ edit.Instance c.args.place c.in-Some.row ∷ []) (draft.reads_edits _ _ c.read.ensures.reads))

@@ -13,6 +13,6 @@ invariant-loop-job g l = record {
       → fold (grant_one l.host l.now) (g.S.Units.world l.sheet) (places_of (drop l.job-index l.jobs))
       ≡ fold (grant_one l.host l.now) (g.S.Units.world l.fn.sheet) (places_of l.jobs);
   fits : g.S.Units.honest l.sheet → g.S.Units.well_kept l.fn.sheet
-      → FitWithHost (g.S.Draft.entry l.fn.sheet) l.host (g.S.Draft.delta l.fn.sheet)
-      → FitWithHost (g.S.Draft.entry l.fn.sheet) l.host (g.S.Draft.delta l.sheet);
+      → FitWithHost (g.S.Draft.entry l.fn.sheet) l.host (g.S.Draft.edits l.fn.sheet)
+      → FitWithHost (g.S.Draft.entry l.fn.sheet) l.host (g.S.Draft.edits l.sheet);
 }

@@ -17,6 +17,6 @@ loop-job-preserved g c =
           ∙ before.told honest_0 kept);
       fits = λ honest kept host can fits.
           (let honest_0 = draft.works_honest _ _ c.put_class.ensures.works honest in
-          job_fits w host (g.S.Draft.delta c.loop-job.sheet) (g.S.Draft.delta c.put_class.new.self) c.args.jobs.now c.loop-job.job-index c.job-item.result
-          can c.loop-job-test.true c.job-item.is put.delta (before.fits honest_0 kept host can fits));
+          job_fits w host (g.S.Draft.edits c.loop-job.sheet) (g.S.Draft.edits c.put_class.new.self) c.args.jobs.now c.loop-job.job-index c.job-item.result
+          can c.loop-job-test.true c.job-item.is put.edits (before.fits honest_0 kept host can fits));
     }

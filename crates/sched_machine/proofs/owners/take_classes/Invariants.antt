@@ -9,6 +9,6 @@ invariant-loop-job g l = record {
   told : g.S.Units.honest l.sheet → g.S.Units.well_kept l.fn.sheet
       → with_classes (g.S.Units.world l.sheet) (drop l.job-index l.jobs) ≡ with_classes (g.S.Units.world l.fn.sheet) l.jobs;
   fits : g.S.Units.honest l.sheet → g.S.Units.well_kept l.fn.sheet → (host : ℕ) → CanTake (g.S.Draft.entry l.fn.sheet) l.jobs
-      → FitWithHost (g.S.Draft.entry l.fn.sheet) host (g.S.Draft.delta l.fn.sheet)
-      → FitWithHost (g.S.Draft.entry l.fn.sheet) host (g.S.Draft.delta l.sheet);
+      → FitWithHost (g.S.Draft.entry l.fn.sheet) host (g.S.Draft.edits l.fn.sheet)
+      → FitWithHost (g.S.Draft.entry l.fn.sheet) host (g.S.Draft.edits l.sheet);
 }

@@ -54,7 +54,7 @@ returns-clause-left g c = λ honest kept.
 
 pub returns-clause-fits : goal.returns-clause-fits
 returns-clause-fits g c = λ honest kept can fits.
-    subst (FitWithHost (g.S.Draft.entry c.args.sheet.now) c.args.ready.now.call.number) (sym (g.met.S.Draft.reads_delta _ _ (read g c)))
+    subst (FitWithHost (g.S.Draft.entry c.args.sheet.now) c.args.ready.now.call.number) (sym (g.met.S.Draft.reads_edits _ _ (read g c)))
     (c.in_ok-give.ensures.fits (g.met.S.Units.stays_honest _ _ (read g c) honest) kept can fits)
 
 pub returns-clause-told : goal.returns-clause-told

@@ -1,5 +1,5 @@
 use Rattle.std.proofs.Common.{◌≡◌, ◌∙◌, subst}
-use Rattle.sched_book.specs.Delta.{Fits}
+use Rattle.sched_book.specs.Delta.{EditsFit}
 use Rattle.sched_book.specs.Places.{held_by}
 use Rattle.sched_book.specs.Settle.{settled}
 use Rattle.sched_book.specs.Sound.{Sound}
@@ -14,7 +14,7 @@ pub returns-clause-settled : goal.returns-clause-settled
 returns-clause-settled g c = λ honest kept entered held.
     let draft = g.met.S.Draft in
     let world = g.S.Units.world in
-    let delta = g.S.Draft.delta in
+    let edits = g.S.Draft.edits in
     let sheet = c.args.sheet.now in
     let w = g.S.Draft.entry sheet in
     let k = c.args.call.now in
@@ -26,20 +26,20 @@ returns-clause-settled g c = λ honest kept entered held.
     let entry_1 = draft.works_entry _ _ c.record_on.ensures.works honest_1 kept in
     let entry_2 = draft.works_entry _ _ c.lose.ensures.works honest_2 kept_1 ∙ entry_1 in
     let calling = entered.calling in
-    let reported = reports_known w (world sheet) r k (delta sheet) entered (world c.record_on.new.sheet) (c.in_ok-acked.ensures.recorded honest_1 kept) in
+    let reported = reports_known w (world sheet) r k (edits sheet) entered (world c.record_on.new.sheet) (c.in_ok-acked.ensures.recorded honest_1 kept) in
     let within = c.in_ok-acked.ensures.fits honest_1 kept calling.admitted.limits.results
-    (entered_within w (world sheet) r k (delta sheet) entered (draft.is_applied sheet)) in
+    (entered_within w (world sheet) r k (edits sheet) entered (draft.is_edited sheet)) in
     let lost = subst (λ (e : World). IsCalling e r k → c.args.held.now ≡ held_by e k.number → world c.record_on.new.sheet ≡ after_reports e k.caller r
     → world c.lose.new.sheet ≡ after_lost e k.caller r c.args.now) entry_1 (c.in_ok-resent.ensures.left honest_2 kept_1) calling held reported in
     let fits = subst (λ (e : World). IsCalling e r k → c.args.held.now ≡ held_by e k.number → world c.record_on.new.sheet ≡ after_reports e k.caller r
-    → Fits e (delta c.record_on.new.sheet) → Fits e (delta c.lose.new.sheet)) entry_1 (c.in_ok-resent.ensures.fits honest_2 kept_1) calling held reported within.fits in
+    → EditsFit e (edits c.record_on.new.sheet) → EditsFit e (edits c.lose.new.sheet)) entry_1 (c.in_ok-resent.ensures.fits honest_2 kept_1) calling held reported within.fits in
     let resent = subst (λ (e : World). IsCalling e r k → c.args.held.now ≡ held_by e k.number → world c.record_on.new.sheet ≡ after_reports e k.caller r
     → c.in_ok-resent.resent ≡ resent_of e k.caller r) entry_1 (c.in_ok-resent.ensures.resent honest_2 kept_1) calling held reported in
-    let settles = subst (λ (e : World). Sound e → Fits e (delta c.lose.new.sheet) → world c.settle_read.new.sheet ≡ settled e (world c.lose.new.sheet)) entry_2
+    let settles = subst (λ (e : World). Sound e → EditsFit e (edits c.lose.new.sheet) → world c.settle_read.new.sheet ≡ settled e (world c.lose.new.sheet)) entry_2
     (c.in_ok-scores.ensures.settled honest kept_2) calling.sound fits in
-    let fits_then = subst (λ (e : World). Sound e → Fits e (delta c.lose.new.sheet) → Fits e (delta c.settle_read.new.sheet)) entry_2
+    let fits_then = subst (λ (e : World). Sound e → EditsFit e (edits c.lose.new.sheet) → EditsFit e (edits c.settle_read.new.sheet)) entry_2
     (c.in_ok-scores.ensures.fits honest kept_2) calling.sound fits in
-    let scores = subst (λ (e : World). Sound e → Fits e (delta c.lose.new.sheet) → AreScores e (world c.settle_read.new.sheet) c.in_ok-scores.scores) entry_2
+    let scores = subst (λ (e : World). Sound e → EditsFit e (edits c.lose.new.sheet) → AreScores e (world c.settle_read.new.sheet) c.in_ok-scores.scores) entry_2
     (c.in_ok-scores.ensures.scores honest kept_2) calling.sound fits in
-    settled_call w (world c.lose.new.sheet) (world c.settle_read.new.sheet) r k c.args.now _ (delta c.settle_read.new.sheet)
+    settled_call w (world c.lose.new.sheet) (world c.settle_read.new.sheet) r k c.args.now _ (edits c.settle_read.new.sheet)
     lost settles fits_then c.in_ok-acked.ensures.acked resent scores

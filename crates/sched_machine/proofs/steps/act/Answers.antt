@@ -1,5 +1,5 @@
 use Rattle.std.proofs.Common.{◌≡◌, [], rules, sym, ap, ◌∙◌, subst}
-use Rattle.sched_book.specs.Delta.{applied}
+use Rattle.sched_book.specs.Delta.{edited}
 use Rattle.sched_book.specs.Sound.{Sound}
 use Rattle.sched_book.specs.Step.{RpcStep}
 use Rattle.sched_book.specs.declared.settings.Settings.{Settings}
@@ -21,18 +21,18 @@ given_honest g c honest =
 
 -- what the two parts say of the one world that they read
 granted_by : (g : Given.Over) (c : goal.After-reply_of g) → g.D.Units.honest c.grant_jobs.new.desk → g.D.Units.well_kept c.args.desk.now
-    → IsPageOf (g.D.Units.world c.args.desk.now) c.args.page.now → c.args.page.now.delta ≡ [] → Sound (g.D.Units.world c.args.desk.now)
+    → IsPageOf (g.D.Units.world c.args.desk.now) c.args.page.now → c.args.page.now.edits ≡ [] → Sound (g.D.Units.world c.args.desk.now)
     → IsAdmitted (g.D.Units.world c.args.desk.now) c.args.caller.now c.args.request.now
     → IsGranted (g.D.Units.world c.args.desk.now) c.args.request.now c.args.now c.in_ok-ready.ready
-    (applied (g.D.Units.world c.args.desk.now) c.grant_jobs.new.page.delta) c.grant_jobs.new.page.delta c.in_ok-told.told c.in_ok-told.end_word
+    (edited (g.D.Units.world c.args.desk.now) c.grant_jobs.new.page.edits) c.grant_jobs.new.page.edits c.in_ok-told.told c.in_ok-told.end_word
 granted_by g c honest kept page none sound admitted =
     let d = g.met.D.Units in
     let w = g.D.Units.world c.args.desk.now in
     let r = c.args.request.now in
     let k = c.in_ok-ready.ready in
     let sheet = c.prepare.new.sheet in
-    let first = sheet.page.now.delta in
-    let after = c.grant_jobs.new.page.delta in
+    let first = sheet.page.now.edits in
+    let after = c.grant_jobs.new.page.edits in
     let worked = c.prepare.ensures.works in
     let same_desk : sheet.desk.now ≡ c.desk-2-1.given.0 = search rules in
     let same_page : c.page-2-1.given.0 ≡ sheet.page.now = search rules in
@@ -40,11 +40,11 @@ granted_by g c honest kept page none sound admitted =
     let kept_1 = subst g.D.Units.well_kept same_desk (d.stays_kept _ _ worked.0 honest_1 kept) in
     let begun = g.D.Units.world c.desk-2-1.given.0 in
     let left = d.stays_same _ _ worked.0 honest_1 kept in
-    let told = subst (λ (p : Page). IsPageOf begun p → IsReady begun r c.args.now k (applied begun p.delta) p.delta
-    → IsGranted begun r c.args.now k (applied begun after) after c.in_ok-told.told c.in_ok-told.end_word) same_page (c.in_ok-told.ensures.step honest kept_1) in
-    let ready = subst (λ (e : World). IsReady w r c.args.now k (applied e first) first) left (c.in_ok-ready.ensures.ready honest_1 (kept, page) none sound admitted) in
-    subst (λ (e : World). IsPageOf e sheet.page.now → IsReady e r c.args.now k (applied e first) first
-    → IsGranted e r c.args.now k (applied e after) after c.in_ok-told.told c.in_ok-told.end_word) (ap g.D.Units.world (sym same_desk) ∙ left) told
+    let told = subst (λ (p : Page). IsPageOf begun p → IsReady begun r c.args.now k (edited begun p.edits) p.edits
+    → IsGranted begun r c.args.now k (edited begun after) after c.in_ok-told.told c.in_ok-told.end_word) same_page (c.in_ok-told.ensures.step honest kept_1) in
+    let ready = subst (λ (e : World). IsReady w r c.args.now k (edited e first) first) left (c.in_ok-ready.ensures.ready honest_1 (kept, page) none sound admitted) in
+    subst (λ (e : World). IsPageOf e sheet.page.now → IsReady e r c.args.now k (edited e first) first
+    → IsGranted e r c.args.now k (edited e after) after c.in_ok-told.told c.in_ok-told.end_word) (ap g.D.Units.world (sym same_desk) ∙ left) told
     (worked.1 honest_1 kept page) ready
 
 pub returns-clause-step : goal.returns-clause-step
@@ -53,13 +53,13 @@ returns-clause-step g c = λ honest kept page none sound admitted.
     let w = g.D.Units.world c.args.desk.now in
     let r = c.args.request.now in
     let k = c.in_ok-ready.ready in
-    let first = c.prepare.new.sheet.page.now.delta in
-    let after = c.grant_jobs.new.page.delta in
+    let first = c.prepare.new.sheet.page.now.edits in
+    let after = c.grant_jobs.new.page.edits in
     let honest_1 = given_honest g c honest in
     let left = d.stays_same _ _ c.prepare.ensures.works.0 honest_1 kept in
-    let ready = subst (λ (e : World). IsReady w r c.args.now k (applied e first) first) left (c.in_ok-ready.ensures.ready honest_1 (kept, page) none sound admitted) in
-    subst (λ caller. RpcStep w caller r c.args.now (applied w after) c.reply_of.result) c.in_ok-ready.ensures.caller
-    (call_is_step w (applied w first) r c.args.now k first ready (search rules) (applied w after) after c.in_ok-told.told c.in_ok-told.end_word
+    let ready = subst (λ (e : World). IsReady w r c.args.now k (edited e first) first) left (c.in_ok-ready.ensures.ready honest_1 (kept, page) none sound admitted) in
+    subst (λ caller. RpcStep w caller r c.args.now (edited w after) c.reply_of.result) c.in_ok-ready.ensures.caller
+    (call_is_step w (edited w first) r c.args.now k first ready (search rules) (edited w after) after c.in_ok-told.told c.in_ok-told.end_word
     (granted_by g c honest kept page none sound admitted)
     c.reply_of.result _ (ap (λ (s : Settings). s.request_delay) page.settings) c.reply_of.ensures)
 

@@ -1,5 +1,5 @@
 use Rattle.std.proofs.Common.{◌≡◌, rules, refl, sym, ap, ◌∙◌, subst}
-use Rattle.sched_book.specs.Delta.{applied}
+use Rattle.sched_book.specs.Delta.{edited}
 use Rattle.sched_book.specs.Step.{IsCaller, granted}
 use Rattle.sched_book.specs.declared.world.World.{World}
 use Rattle.job_choice.specs.Chosen.{places_of}
@@ -18,9 +18,9 @@ returns-clause-step g c = λ honest kept page ready.
     let w = g.D.Units.world c.args.desk.now in
     let k = c.args.ready.now in
     let r = c.args.request.now in
-    let before = c.args.page.now.delta in
+    let before = c.args.page.now.edits in
     let sheet = c.conclude.new.sheet in
-    let after = sheet.page.now.delta in
+    let after = sheet.page.now.edits in
     let jobs = c.as_slice.result.now in
     let told = c.in_ok-told.told in
     let worked = c.conclude.ensures.works in
@@ -33,21 +33,21 @@ returns-clause-step g c = λ honest kept page ready.
     let same_2 = d.stays_same _ _ worked.0 honest_2 kept_1 in
     let chosen = c.in_ok-grant.ensures.answer honest_1 kept in
     let here = subst (λ (e : World). IsPageOf e c.args.page.now) (sym same) page in
-    let grant = choice_settled w (applied w before) r c.args.now k before ready c.in_ok-grant.grant chosen in
-    let ends = choice_ends w (applied w before) r c.args.now k before ready c.in_ok-grant.grant chosen in
-    let runs = jobs_run w (applied w before) r c.args.now k before ready c.in_ok-grant.grant chosen in
-    subst (λ (p : Page). IsGranted w r c.args.now k (applied w p.delta) p.delta told c.in_ok-grant.grant.end_word) same_page
-    (granted_is w (applied w before) r c.args.now k before ready (search rules) (applied w after) after jobs (places_of c.in_ok-grant.grant.jobs) told
+    let grant = choice_settled w (edited w before) r c.args.now k before ready c.in_ok-grant.grant chosen in
+    let ends = choice_ends w (edited w before) r c.args.now k before ready c.in_ok-grant.grant chosen in
+    let runs = jobs_run w (edited w before) r c.args.now k before ready c.in_ok-grant.grant chosen in
+    subst (λ (p : Page). IsGranted w r c.args.now k (edited w p.edits) p.edits told c.in_ok-grant.grant.end_word) same_page
+    (granted_is w (edited w before) r c.args.now k before ready (search rules) (edited w after) after jobs (places_of c.in_ok-grant.grant.jobs) told
     c.in_ok-grant.grant.end_word
     (subst (AreRunBy w k.call.host) (sym c.as_slice.ensures) runs) (ap places_of c.as_slice.ensures)
     grant ends
-    (subst (λ (e : World). applied e after ≡ with_classes (granted (applied e before) k.call.number c.args.now (places_of jobs)) jobs) same
-    (ap (λ (e : World). applied e after) (sym same_2) ∙ c.in_ok-told.ensures.left honest_2 (kept_1, here)))
+    (subst (λ (e : World). edited e after ≡ with_classes (granted (edited e before) k.call.number c.args.now (places_of jobs)) jobs) same
+    (ap (λ (e : World). edited e after) (sym same_2) ∙ c.in_ok-told.ensures.left honest_2 (kept_1, here)))
     refl
     (subst (λ (e : World). CanTake e jobs → FitWithHost e k.call.number before → FitWithHost e k.call.number after) same
     (c.in_ok-told.ensures.fits honest_2 (kept_1, here)))
-    (subst (λ js. AreReplyParts w (applied w after) k (places_of js) told) c.as_slice.ensures
-    (subst (λ (e : World). IsCaller e k.call.caller r → AreRunBy e k.call.host jobs → AreReplyParts e (applied e after) k (places_of jobs) told) same
-    (λ caller run. subst (λ (e : World). AreReplyParts (g.D.Units.world c.choose.new.desk) (applied e after) k (places_of jobs) told) same_2
+    (subst (λ js. AreReplyParts w (edited w after) k (places_of js) told) c.as_slice.ensures
+    (subst (λ (e : World). IsCaller e k.call.caller r → AreRunBy e k.call.host jobs → AreReplyParts e (edited e after) k (places_of jobs) told) same
+    (λ caller run. subst (λ (e : World). AreReplyParts (g.D.Units.world c.choose.new.desk) (edited e after) k (places_of jobs) told) same_2
     (c.in_ok-told.ensures.told honest_2 (kept_1, here) caller run)) ready.calling.admitted.caller
     (subst (AreRunBy w k.call.host) (sym c.as_slice.ensures) runs))))

@@ -1,5 +1,5 @@
 use Rattle.std.proofs.Common.{rules, sym, ap, ◌∙◌, subst}
-use Rattle.sched_book.specs.Delta.{applied, Fits}
+use Rattle.sched_book.specs.Delta.{edited, EditsFit}
 use Rattle.sched_book.specs.Sound.{Sound}
 use Rattle.sched_book.specs.Step.{RpcStep}
 use Rattle.sched_book.specs.declared.machine.Answered.TheVariants as answered
@@ -17,8 +17,8 @@ returns-clause-step g c = λ honest kept.
     let here = d.stays_same _ _ c.settings.ensures.reads honest_1 kept in
     let page = c.new-page.ensures.page _ (c.in_ok-settings.ensures.answer honest_1 kept ∙ ap (λ (v : World). v.settings) (sym here)) in
     subst (λ (e : World). Sound e → IsAdmitted e c.args.caller.now c.args.request.now
-    → RpcStep e c.args.caller.now c.args.request.now c.args.now (applied e c.act.new.page.delta) c.in_ok-reply.reply) here
-    (c.in_ok-reply.ensures.step honest kept_1 page c.new-page.ensures.delta)
+    → RpcStep e c.args.caller.now c.args.request.now c.args.now (edited e c.act.new.page.edits) c.in_ok-reply.reply) here
+    (c.in_ok-reply.ensures.step honest kept_1 page c.new-page.ensures.edits)
 
 pub returns-clause-sound : goal.returns-clause-sound
 returns-clause-sound g c = λ honest kept sound admitted.
@@ -32,5 +32,5 @@ returns-clause-fits g c = λ honest kept.
     let kept_1 = d.stays_kept _ _ c.settings.ensures.reads honest_1 kept in
     let here = d.stays_same _ _ c.settings.ensures.reads honest_1 kept in
     let page = c.new-page.ensures.page _ (c.in_ok-settings.ensures.answer honest_1 kept ∙ ap (λ (v : World). v.settings) (sym here)) in
-    subst (λ (e : World). Sound e → IsAdmitted e c.args.caller.now c.args.request.now → Fits e c.act.new.page.delta) here
-    (c.in_ok-reply.ensures.fits honest kept_1 page c.new-page.ensures.delta)
+    subst (λ (e : World). Sound e → IsAdmitted e c.args.caller.now c.args.request.now → EditsFit e c.act.new.page.edits) here
+    (c.in_ok-reply.ensures.fits honest kept_1 page c.new-page.ensures.edits)

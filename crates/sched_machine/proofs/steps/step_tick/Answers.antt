@@ -1,6 +1,6 @@
 use Rattle.std.proofs.Common.{◌≡◌, refl, sym, ap, ◌∙◌, subst}
 use Rattle.std.specs.Prelude.{length}
-use Rattle.sched_book.specs.Delta.{applied}
+use Rattle.sched_book.specs.Delta.{edited}
 use Rattle.sched_book.specs.Places.{overdue}
 use Rattle.sched_book.specs.Settle.{settled}
 use Rattle.sched_book.specs.Sound.{Sound}
@@ -14,11 +14,11 @@ pub returns-clause-sound : goal.returns-clause-sound
 returns-clause-sound g c = λ honest kept sound.
     let d = g.met.D.Units in
     let w = g.D.Units.world c.args.desk.now in
-    let delta = c.in_ok-delta.delta in
+    let edits = c.in_ok-edits.edits in
     let honest_1 = d.stays_honest _ _ c.lapse_places.ensures.reads honest in
     let kept_1 = d.stays_kept _ _ c.due_before.ensures.reads honest_1 kept in
     let same = d.stays_same _ _ c.due_before.ensures.reads honest_1 kept in
     let late = c.as_slice.ensures ∙ c.in_ok-places.ensures.answer honest_1 kept in
-    let left = subst (λ (v : World). applied v delta ≡ settled v (lapsed_at v c.as_slice.result.now)) same (c.in_ok-delta.ensures.settled honest kept_1 (subst Sound (sym same) sound)) in
-    let step : TickStep w c.args.now (applied w delta) (length (overdue w c.args.now)) = record { left = left ∙ ap (λ ps. settled w (lapsed_at w ps)) late; answer = refl } in
+    let left = subst (λ (v : World). edited v edits ≡ settled v (lapsed_at v c.as_slice.result.now)) same (c.in_ok-edits.ensures.settled honest kept_1 (subst Sound (sym same) sound)) in
+    let step : TickStep w c.args.now (edited w edits) (length (overdue w c.args.now)) = record { left = left ∙ ap (λ ps. settled w (lapsed_at w ps)) late; answer = refl } in
     tick_keeps_sound w _ c.args.now _ sound step

@@ -1,6 +1,6 @@
 use Rattle.std.proofs.Common.{◌≡◌, subst}
 use Rattle.std.proofs.lemmas.Result.{IfOk-weaker}
-use Rattle.sched_book.specs.Delta.{applied}
+use Rattle.sched_book.specs.Delta.{edited}
 use Rattle.sched_book.specs.Places.{host_at}
 use Rattle.sched_book.specs.declared.world.World.{World}
 use Rattle.call_sheet.specs.Sheets.{IsPageOf}
@@ -16,7 +16,7 @@ returns-clause-row g c = λ honest kept page goes.
     let before = d.stays_honest _ _ c.host_now.ensures.reads honest in
     let well = d.stays_kept _ _ c.total_after.ensures.reads before kept in
     let same = d.stays_same _ _ c.total_after.ensures.reads before kept in
-    let stands : c.in_ok-row.row ≡ host_at (applied w p.delta) host =
-    subst (λ (x : World). IsPageOf x p → c.in_ok-row.row ≡ host_at (applied x p.delta) host) same (c.in_ok-row.ensures.host honest well) page in
-    let counted = c.in_ok-total.ensures.total before kept (applied w p.delta) goes in
-    IfOk-weaker c.row_of.result _ _ (λ row is. host_changed w (applied w p.delta) host c.in_ok-total.total c.in_ok-row.row row stands counted is) c.row_of.ensures
+    let stands : c.in_ok-row.row ≡ host_at (edited w p.edits) host =
+    subst (λ (x : World). IsPageOf x p → c.in_ok-row.row ≡ host_at (edited x p.edits) host) same (c.in_ok-row.ensures.host honest well) page in
+    let counted = c.in_ok-total.ensures.total before kept (edited w p.edits) goes in
+    IfOk-weaker c.row_of.result _ _ (λ row is. host_changed w (edited w p.edits) host c.in_ok-total.total c.in_ok-row.row row stands counted is) c.row_of.ensures

@@ -1,6 +1,6 @@
 use Rattle.std.proofs.Common.{rules, ◌+◌, ◌<◌, [], length, take, get_or, subst, ◌∙◌}
 use Rattle.std.proofs.lemmas.List.{take_all}
-use Rattle.sched_book.specs.Delta.{applied}
+use Rattle.sched_book.specs.Delta.{edited}
 use Rattle.table_changes.specs.Added.{is_host_among, AreAdded}
 use Rattle.table_changes.proofs.Adding.{none_added, one_added}
 use Rattle.table_changes.proofs.InTurn.{no_host, hosts_next}
@@ -37,5 +37,5 @@ loop-host-preserved g c =
 pub returns-clause-rows : goal.returns-clause-rows
 returns-clause-rows g c = λ honest kept page touched.
     let hosts = c.as_slice-host-items.result.now in
-    subst (λ ns. AreAdded (is_host_among ns) (g.D.Units.world c.args.desk.now) (applied (g.D.Units.world c.args.desk.now) c.args.page.now.delta) c.args.rows.now c.loop-host.rows)
+    subst (λ ns. AreAdded (is_host_among ns) (g.D.Units.world c.args.desk.now) (edited (g.D.Units.world c.args.desk.now) c.args.page.now.edits) c.args.rows.now c.loop-host.rows)
     (take_all c.loop-host.host-index hosts c.loop-host-test.false ∙ c.as_slice-host-items.ensures) (c.loop-host.invariant.told honest kept page touched)

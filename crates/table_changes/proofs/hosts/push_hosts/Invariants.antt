@@ -1,5 +1,5 @@
 use Rattle.std.proofs.Common.{take}
-use Rattle.sched_book.specs.Delta.{applied}
+use Rattle.sched_book.specs.Delta.{edited}
 use Rattle.call_sheet.specs.Sheets.{IsPageOf}
 use Rattle.table_changes.specs.Added.{is_host_among, AreAdded}
 use Rattle.table_changes.specs.Touching.{AreTouched}
@@ -10,5 +10,5 @@ abbrev pub invariant-loop-host : goal.invariant-loop-host
 invariant-loop-host g l = record {
   reads : g.D.Units.reads l.fn.desk l.desk;
   told : g.D.Units.honest l.desk → g.D.Units.well_kept l.fn.desk → IsPageOf (g.D.Units.world l.fn.desk) l.page → AreTouched l.page l.touched
-      → AreAdded (is_host_among (take l.host-index l.host-items)) (g.D.Units.world l.fn.desk) (applied (g.D.Units.world l.fn.desk) l.page.delta) l.fn.rows l.rows;
+      → AreAdded (is_host_among (take l.host-index l.host-items)) (g.D.Units.world l.fn.desk) (edited (g.D.Units.world l.fn.desk) l.page.edits) l.fn.rows l.rows;
 }

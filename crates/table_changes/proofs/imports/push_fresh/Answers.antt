@@ -18,7 +18,7 @@ loop-number-preserved c = λ w v b stands begins told.
     let within : i < c.args.count = search rules in
     one_added (is_instance_below unit i) (is_instance_below unit (i + 1)) (Instance (record { unit = unit; number = i })) w v c.args.rows.now c.loop-number.rows c.push.new.self
     (Some row) (instances_next unit i)
-    (fresh_change w v b unit c.args.count i c.args.status c.fresh_instance.result row stands begins within told c.fresh_instance.ensures
+    (fresh_change w v b unit c.args.count i c.args.status c.unsent.result row stands begins within told c.unsent.ensures
     (λ y d of. c.insert.ensures ∙ ap stored.Instance (c.in_ok-row.ensures y d of)))
     c.in_ok-push.ensures.ok (c.loop-number.invariant w v b stands begins told)
 

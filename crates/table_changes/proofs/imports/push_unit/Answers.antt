@@ -1,8 +1,7 @@
-use Rattle.std.proofs.Common.{refl, sym, ap, ◌∙◌}
-use Rattle.sched_book.specs.Delta.{applied_one}
-use Rattle.sched_book.specs.Imports.{has_app, new_unit}
+use Rattle.std.proofs.Common.{[], ◌∷◌, refl, sym, ap, ◌∙◌}
+use Rattle.sched_book.specs.Imports.{has_app, new_unit, with_rows}
 use Rattle.sched_book.specs.Places.{agreement_by}
-use Rattle.sched_book.specs.declared.delta.Change.TheVariants as change
+use Rattle.sched_book.specs.declared.rows.Rows.TheVariants as kinds
 use Rattle.table_meaning.specs.Worlds.{app_place}
 use Rattle.table_meaning.specs.declared.rows.StoredRow.TheVariants as stored
 use Rattle.table_changes.proofs.ImportRows.{first_status, new_book, unit_added}
@@ -22,7 +21,7 @@ returns-clause-rows g c = λ honest kept v so_far.
     let first = first_status w v so_far.apps.0 c.in_ok-app.app.agreement s u so_far.apps.1 stands agrees c.in_ok-status.ensures in
     let mark = c.insert-2.result in
     let book = new_book w v c.args.count c.args.rows.now c.push.new.self c.push-2.new.self c.push_fresh.new.rows n app s row mark u so_far c.in_ok-workunits.ensures place stands in
-    let fresh = c.in_ok-push_fresh.ensures v (applied_one v (change.Workunit u)) (new_unit u) book refl first in
+    let fresh = c.in_ok-push_fresh.ensures v (with_rows v (kinds.Workunits (u ∷ []))) (new_unit u) book refl first in
     unit_added w v c.args.count c.args.rows.now c.push.new.self c.push-2.new.self c.push_fresh.new.rows n app s row mark u so_far c.in_ok-workunits.ensures place stands
     (λ x b rule of at told. c.insert.ensures ∙ ap stored.Unit (c.in_ok-row.ensures x b rule of at told))
     (λ b of. c.insert-2.ensures ∙ ap stored.UnitMark (c.in_ok-mark.ensures b of)) first c.in_ok-push.ensures.ok c.in_ok-push-2.ensures.ok fresh

@@ -1,5 +1,5 @@
 use Rattle.std.proofs.Common.{rules, ◌+◌, ◌<◌, [], ◌∷◌, length, take, get_or, refl}
-use Rattle.sched_book.specs.Delta.{applied}
+use Rattle.sched_book.specs.Delta.{edited}
 use Rattle.table_changes.specs.Added.{is_instance_among}
 use Rattle.table_changes.proofs.Adding.{none_added, added_then}
 use Rattle.table_changes.proofs.InTurn.{no_instance, instances_then}
@@ -16,6 +16,6 @@ loop-unit-preserved c = λ w page.
     let i = c.loop-unit.unit-index in
     let unit = get_or units i 0 in
     let within : i < length units = search rules in
-    added_then (is_instance_among (take i units)) (is_instance_among (unit ∷ [])) (is_instance_among (take (i + 1) units)) w (applied w p.delta)
+    added_then (is_instance_among (take i units)) (is_instance_among (unit ∷ [])) (is_instance_among (take (i + 1) units)) w (edited w p.edits)
     c.args.rows.now c.loop-unit.rows c.push_instances_of.new.rows (instances_then units i unit within refl) (c.loop-unit.invariant w page)
-    (c.in_ok-push_instances_of.ensures w (applied w p.delta) (apps_stay w p page) (leaf_at w p unit _ page c.leaf.ensures))
+    (c.in_ok-push_instances_of.ensures w (edited w p.edits) (apps_stay w p page) (leaf_at w p unit _ page c.leaf.ensures))

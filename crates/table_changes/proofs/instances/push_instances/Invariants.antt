@@ -1,5 +1,5 @@
 use Rattle.std.proofs.Common.{take}
-use Rattle.sched_book.specs.Delta.{applied}
+use Rattle.sched_book.specs.Delta.{edited}
 use Rattle.sched_book.specs.declared.world.World.{World}
 use Rattle.call_sheet.specs.Sheets.{IsPageOf}
 use Rattle.table_changes.specs.Added.{is_instance_among, AreAdded}
@@ -8,4 +8,4 @@ use Rattle.table_changes.proofs.instances.push_instances.Given as goal
 -- the rows of the instances of the workunits so far are added
 abbrev pub invariant-loop-unit : goal.invariant-loop-unit
 invariant-loop-unit l =
-    (w : World) → IsPageOf w l.page → AreAdded (is_instance_among (take l.unit-index l.units)) w (applied w l.page.delta) l.initial.rows l.rows
+    (w : World) → IsPageOf w l.page → AreAdded (is_instance_among (take l.unit-index l.units)) w (edited w l.page.edits) l.initial.rows l.rows

@@ -1,5 +1,5 @@
 use Rattle.std.proofs.Common.{rules, ◌+◌, ◌<◌, [], length, take, get_or, refl}
-use Rattle.sched_book.specs.Delta.{applied}
+use Rattle.sched_book.specs.Delta.{edited}
 use Rattle.table_changes.specs.Added.{is_mark_among}
 use Rattle.table_changes.proofs.Adding.{none_added, one_added}
 use Rattle.table_changes.proofs.InTurn.{no_mark, marks_next}
@@ -16,7 +16,7 @@ loop-unit-preserved c = λ w page.
     let i = c.loop-unit.unit-index in
     let unit = get_or units i 0 in
     let within : i < length units = search rules in
-    one_added (is_mark_among (take i units)) (is_mark_among (take (i + 1) units)) _ w (applied w p.delta) c.args.rows.now c.loop-unit.rows c.push_some.new.self
+    one_added (is_mark_among (take i units)) (is_mark_among (take (i + 1) units)) _ w (edited w p.edits) c.args.rows.now c.loop-unit.rows c.push_some.new.self
     c.in_ok-changed_mark.field-0 (marks_next units i unit within refl)
-    (c.in_ok-changed_mark.ensures w (applied w p.delta) (leaf_at w p unit _ page c.leaf.ensures))
+    (c.in_ok-changed_mark.ensures w (edited w p.edits) (leaf_at w p unit _ page c.leaf.ensures))
     c.in_ok-push_some.ensures (c.loop-unit.invariant w page)

@@ -1,6 +1,6 @@
 use Rattle.std.proofs.Common.{rules, ◌+◌, ◌<◌, [], length, take, get_or, subst}
 use Rattle.std.proofs.lemmas.List.{take_all}
-use Rattle.sched_book.specs.Delta.{applied}
+use Rattle.sched_book.specs.Delta.{edited}
 use Rattle.table_changes.specs.Added.{is_unit_among, AreAdded}
 use Rattle.table_changes.proofs.Adding.{none_added, one_added}
 use Rattle.table_changes.proofs.InTurn.{no_unit, units_next}
@@ -36,5 +36,5 @@ loop-unit-preserved g c =
 pub returns-clause-rows : goal.returns-clause-rows
 returns-clause-rows g c = λ honest kept page.
     let units = c.args.units.now in
-    subst (λ ns. AreAdded (is_unit_among ns) (g.D.Units.world c.args.desk.now) (applied (g.D.Units.world c.args.desk.now) c.args.page.now.delta) c.args.rows.now c.loop-unit.rows)
+    subst (λ ns. AreAdded (is_unit_among ns) (g.D.Units.world c.args.desk.now) (edited (g.D.Units.world c.args.desk.now) c.args.page.now.edits) c.args.rows.now c.loop-unit.rows)
     (take_all c.loop-unit.unit-index units c.loop-unit-test.false) (c.loop-unit.invariant.told honest kept page)

@@ -1,5 +1,5 @@
 use Rattle.std.proofs.Common.{take}
-use Rattle.sched_book.specs.Delta.{applied}
+use Rattle.sched_book.specs.Delta.{edited}
 use Rattle.call_sheet.specs.Sheets.{IsPageOf}
 use Rattle.table_changes.specs.Added.{is_unit_among, AreAdded}
 use Rattle.table_changes.proofs.units.push_units.Given as goal
@@ -9,5 +9,5 @@ abbrev pub invariant-loop-unit : goal.invariant-loop-unit
 invariant-loop-unit g l = record {
   reads : g.D.Units.reads l.fn.desk l.desk;
   told : g.D.Units.honest l.desk → g.D.Units.well_kept l.fn.desk → IsPageOf (g.D.Units.world l.fn.desk) l.page
-      → AreAdded (is_unit_among (take l.unit-index l.units)) (g.D.Units.world l.fn.desk) (applied (g.D.Units.world l.fn.desk) l.page.delta) l.fn.rows l.rows;
+      → AreAdded (is_unit_among (take l.unit-index l.units)) (g.D.Units.world l.fn.desk) (edited (g.D.Units.world l.fn.desk) l.page.edits) l.fn.rows l.rows;
 }

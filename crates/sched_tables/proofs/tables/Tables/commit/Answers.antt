@@ -9,7 +9,7 @@ use Rattle.sched_tables.specs.Views.{world_of, AreKept}
 use Rattle.sched_tables.specs.Held.{IsHonest}
 use Rattle.sched_tables.specs.ReadLaws.{was_honest}
 use Rattle.sched_book.specs.Delta.{applied}
-use Rattle.sched_book.specs.declared.delta.Change.{Change}
+use Rattle.sched_book.specs.declared.delta.Delta.{Delta}
 use Rattle.table_rows.specs.Utf8.{HaveUtf8}
 use Rattle.table_worlds.specs.StoredWorld.{world_in}
 use Rattle.sched_tables.specs.DueFrom.{NothingIsDueBefore, lowered}
@@ -37,7 +37,7 @@ returns-clause-made g c = λ honest kept.
     puts (was_ok c.put_rows.result (HaveUtf8 c.as_slice-put.result.now) (search rules) c.put_rows.ensures.utf8)
 
 -- where the rows are as they were, nothing is due before a lowered `due_from` either
-due_from_left : (old new : State) (due_from lower : ℕ) (cs : List Change) → lower ≡ lowered due_from cs → new.now ≡ old.now → NothingIsDueBefore (world_in old.now.trees) due_from → NothingIsDueBefore (world_in new.now.trees) lower
+due_from_left : (old new : State) (due_from lower : ℕ) (cs : Delta) → lower ≡ lowered due_from cs → new.now ≡ old.now → NothingIsDueBefore (world_in old.now.trees) due_from → NothingIsDueBefore (world_in new.now.trees) lower
 due_from_left old new due_from lower cs is same marked =
     subst (λ (db : Database). NothingIsDueBefore (world_in db.trees) lower) (sym same) (subst (NothingIsDueBefore (world_in old.now.trees)) (sym is) (lowered_before (world_in old.now.trees) due_from cs marked))
 
