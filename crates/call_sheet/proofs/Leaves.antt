@@ -9,7 +9,7 @@ use Rattle.std.specs.List.{list_any, AllByRecursion}
 use Rattle.std.specs.List.Sorted.{IsStrictlySortedBy}
 use Rattle.std.specs.Map.{lookup, keys_of}
 use Rattle.std.specs.Ordering.{nat_cmp, is_eq}
-use Rattle.call_sheet.specs.declared.leaf.Leaf.{Leaf}
+use Rattle.call_sheet.specs.Leaf.{Leaf}
 use Rattle.call_sheet.specs.Sheets.{AreAbove, AreRising, AreAllOf}
 
 -- what comes first in the order is less

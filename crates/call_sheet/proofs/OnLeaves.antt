@@ -10,7 +10,7 @@ use Rattle.sched_book.specs.declared.instance.Status.TheVariants.{FailedTotal}
 use Rattle.sched_book.specs.declared.instance.UnitBook.{UnitBook}
 use Rattle.sched_book.specs.declared.world.World.{World}
 use Rattle.call_sheet.specs.Sheets.{IsReadAt, instances_now, instance_before, instance_now, status_before, existing_on}
-use Rattle.call_sheet.specs.declared.leaf.Leaf.{Leaf}
+use Rattle.call_sheet.specs.Leaf.{Leaf}
 
 -- the instances now, and one of them before
 pub instances_now-is : (entry present : World) (unit : ℕ) (o : Option Leaf) → IsReadAt entry present unit o → instances_now o ≡ instances_at present unit

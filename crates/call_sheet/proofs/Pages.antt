@@ -18,14 +18,13 @@ use Rattle.sched_book.specs.declared.instance.Instance.{Instance}
 use Rattle.sched_book.specs.declared.instance.Place.{Place}
 use Rattle.sched_book.specs.declared.instance.UnitBook.{UnitBook}
 use Rattle.sched_book.specs.declared.rows.Agreement.{Agreement}
-use Rattle.sched_book.specs.declared.rows.ClassRule.{ClassRule}
 use Rattle.sched_book.specs.declared.rows.HostRow.{HostRow}
 use Rattle.sched_book.specs.declared.rows.Workunit.{Workunit}
 use Rattle.sched_book.specs.declared.settings.Settings.{Settings}
 use Rattle.sched_book.specs.declared.world.World.{World}
 use Rattle.sched_book.proofs.PlacesOf.{nth-modify_nth, place_where-modify_nth}
 use Rattle.call_sheet.specs.Sheets.{IsLeafOf, IsLeafAt, IsReadAt, IsHostAt, IsPageOf, HasPlace, book_before, book_now, with_put, ArePut, with_granted, AreClassed}
-use Rattle.call_sheet.specs.declared.leaf.Leaf.{Leaf}
+use Rattle.call_sheet.specs.Leaf.{Leaf}
 use Rattle.call_sheet.specs.declared.page.Page.{Page}
 use Rattle.call_sheet.proofs.SetRows.{nth-put, nth_found}
 
@@ -198,27 +197,27 @@ asked entry present unit None same read = (same ∙ read.0, read.0)
 asked entry present unit (Some k) same read = record { before = read.before; here = same ∙ read.here; agreement = read.agreement }
 
 -- a workunit, its agreement and its instances, read one after another
-pub read_in_turn : (w v u : World) (unit : ℕ) (row : Workunit) (rule : ClassRule) (a : Agreement) (before present : List Instance) → v ≡ w → u ≡ v
-    → Some row ≡ workunit_at w unit → Some a ≡ agreement_at v unit → before ≡ instances_at u unit → present ≡ before → rule ≡ row.class_rule
-    → IsReadAt w w unit (Some (record { unit = row; rule = rule; agreement = a; before = before; present = present }))
-read_in_turn w v u unit row rule a before present same next is agrees lists copy ruled =
-    found (unit_at w unit) refl is (agrees ∙ ap (λ (x : World). agreement_at x unit) same)
-    (lists ∙ ap (λ (x : World). instances_at x unit) (next ∙ same))
+pub read_in_turn : (w v u : World) (unit : ℕ) (row : Workunit) (a : Agreement) (xs : List Instance) (k : Leaf) → v ≡ w → u ≡ v
+    → Some row ≡ workunit_at w unit → Some a ≡ agreement_at v unit → xs ≡ instances_at u unit
+    → k ≡ record { unit = row; rule = row.class_rule; agreement = a; before = xs; present = xs }
+    → IsReadAt w w unit (Some k)
+read_in_turn w v u unit row a xs k same next is agrees lists made =
+    subst (λ (l : Leaf). IsLeafOf w w unit l) (sym made)
+    (found (unit_at w unit) refl is (agrees ∙ ap (λ (x : World). agreement_at x unit) same)
+    (lists ∙ ap (λ (x : World). instances_at x unit) (next ∙ same)))
   where
     found : (o : Option UnitBook) → unit_at w unit ≡ o → Some row ≡ option_map (λ (b : UnitBook). b.unit) o → Some a ≡ option_map (agreement_of w) o
-        → before ≡ unwrap_or (option_map (λ (b : UnitBook). b.instances) o) []
-        → IsLeafOf w w unit (record { unit = row; rule = rule; agreement = a; before = before; present = present })
+        → xs ≡ unwrap_or (option_map (λ (b : UnitBook). b.instances) o) []
+        → IsLeafOf w w unit (record { unit = row; rule = row.class_rule; agreement = a; before = xs; present = xs })
     found None stands is agrees lists = absurd cc
     found (Some b) stands is agrees lists =
         let unit_is : b.unit ≡ row = cc in
         let agreed : agreement_of w b ≡ a = cc in
-        let whole : b ≡ record { unit = row; instances = before } =
-        ap (λ (r : Workunit). record { unit = r; instances = b.instances }) unit_is ∙ ap (λ (xs : List Instance). record { unit = row; instances = xs }) (sym lists) in
+        let whole : b ≡ record { unit = row; instances = xs } =
+        ap (λ (r : Workunit). record { unit = r; instances = b.instances }) unit_is ∙ ap (λ (ys : List Instance). record { unit = row; instances = ys }) (sym lists) in
         record {
           before = stands ∙ ap (λ (b : UnitBook). Some b) whole;
-          here = stands
-              ∙ ap (λ (b : UnitBook). Some b) (whole ∙ ap (λ (xs : List Instance). record { unit = row; instances = xs }) (sym copy)
-              ∙ ap (λ (r : ClassRule). record { unit = record row { class_rule = r }; instances = present }) (sym ruled));
+          here = stands ∙ ap (λ (b : UnitBook). Some b) whole;
           agreement = ap (λ (r : Workunit). agreement_by w.apps r.app) (sym unit_is) ∙ agreed;
         }
 

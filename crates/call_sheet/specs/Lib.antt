@@ -1,1 +1,2 @@
+pub mod Leaf
 pub mod Sheets

@@ -14,7 +14,7 @@ use Rattle.sched_book.specs.declared.instance.Status.TheVariants.{FailedTotal}
 use Rattle.sched_book.specs.declared.instance.UnitBook.{UnitBook}
 use Rattle.sched_book.specs.declared.rows.HostRow.{HostRow}
 use Rattle.sched_book.specs.declared.world.World.{World}
-use Rattle.call_sheet.specs.declared.leaf.Leaf.{Leaf}
+use Rattle.call_sheet.specs.Leaf.{Leaf}
 use Rattle.call_sheet.specs.declared.page.Page.{Page}
 
 -- the workunit of a leaf with its instances and its class rule: before the call, and now

@@ -11,7 +11,7 @@ ghost use Rattle.sched_book.specs.declared.delta.Edit.{Edit};
 ghost use Rattle.sched_book.specs.declared.delta.Edit.TheVariants as edit;
 ghost use Rattle.sched_book.specs.declared.world.World.{World};
 ghost use Rattle.call_sheet.specs.Sheets.{IsLeafAt, IsReadAt, HasPlace, AreAllOf};
-ghost use Rattle.call_sheet.specs.declared.leaf.Leaf.{Leaf};
+ghost use Rattle.call_sheet.specs.Leaf.{Leaf};
 
 use crate::leaf::Leaf;
 use sched_book::{
@@ -50,6 +50,11 @@ pub trait Draft: Units {
     /// The leaf of a workunit that was read.
     fn leaf(&self, unit: u32) -> Option<&Leaf>
         ensures { option_copied result ≡ kept self.now unit };
+
+    /// Keeps what is decided of a workunit now, if it was read, so that its leaf need not decide it each time.
+    fn decide(&mut self, unit: u32)
+        ensures reads { Self.reads self.old self.new }
+        ensures leaves { (n : ℕ) → kept self.new n ≡ kept self.old n };
 
     /// The places of the workunits that were read, in order.
     fn units(&self, alloc: Global) -> Result<Vec<u32>, Memory>

@@ -45,11 +45,36 @@ impl Page {
         self.leaves.get(&unit)
     }
 
+    /// Keeps what is decided of a workunit now, if it was read.
+    pub fn decide(&mut self, unit: u32)
+        ensures leaves { (n : ℕ) → get nat_cmp self.new.leaves n ≡ get nat_cmp self.old.leaves n }
+        ensures hosts { self.new.hosts ≡ self.old.hosts }
+        ensures settings { self.new.settings ≡ self.old.settings }
+        ensures edits { self.new.edits ≡ self.old.edits }
+    {
+        if let Some(leaf) = self.leaves.get_mut(&unit) {
+            leaf.decide();
+        }
+    }
+
     /// The places of the workunits that exist and were read, in order.
     pub fn units(&self, alloc: Global) -> Result<Vec<u32>, Memory>
         ensures { IfOk result (λ units. AreAllOf (get nat_cmp self.now.leaves) units.items) }
     {
         self.leaves.keys().copied().collect(alloc)
+    }
+
+    /// Keeps what is decided now of each workunit that was read.
+    #[tactic(auto, using(crate::proofs::Pages::page_steps))]
+    pub fn decide_all(&mut self, alloc: Global) -> Result<(), Memory>
+        ensures page { (w : World) → IsPageOf w self.old → IsPageOf w self.new }
+        ensures edits { self.new.edits ≡ self.old.edits }
+    {
+        let units = self.units(alloc)?;
+        for unit in &units {
+            self.decide(*unit);
+        }
+        Ok(())
     }
 
     /// Keeps the leaf of a workunit that was read.
@@ -93,7 +118,7 @@ impl Page {
     {
         match self.leaves.get_mut(&place.unit) {
             None => Err(Unavailable),
-            Some(leaf) => leaf.present.put(place.number, row),
+            Some(leaf) => leaf.put(place.number, row),
         }
     }
 
@@ -128,7 +153,7 @@ impl Page {
         match self.leaves.get_mut(&unit) {
             None => Err(Unavailable),
             Some(leaf) => {
-                leaf.rule = leaf.rule.after(class)?;
+                leaf.grant(class)?;
                 Ok(())
             }
         }

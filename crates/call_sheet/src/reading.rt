@@ -26,16 +26,8 @@ fn ask_leaf<D: Desk>(alloc: Global, desk: &mut D, unit: u32) -> Result<Option<Le
     let Some(agreement) = desk.agreement_of(alloc, unit)? else {
         return Err(Unavailable);
     };
-    let before = Instances::of(desk.instances_of(alloc, unit)?);
-    let present = before.copied()?;
-    let rule = copy_of(&row.class_rule)?;
-    Ok(Some(Leaf {
-        unit: row,
-        rule,
-        agreement,
-        before,
-        present,
-    }))
+    let instances = Instances::of(desk.instances_of(alloc, unit)?);
+    Ok(Some(Leaf::new(row, agreement, instances)?))
 }
 
 /// Reads a workunit onto the page, unless it is already there.

@@ -60,7 +60,7 @@ impl<'a, D: Desk> Units for Sheet<'a, D> {
         read_leaf(alloc, self.desk, self.page, unit)?;
         match self.page.leaf(unit) {
             None => Ok(None),
-            Some(leaf) => Ok(Some(leaf.agreement)),
+            Some(leaf) => Ok(Some(leaf.agreement())),
         }
     }
 
@@ -73,7 +73,7 @@ impl<'a, D: Desk> Units for Sheet<'a, D> {
         read_leaf(alloc, self.desk, self.page, unit)?;
         match self.page.leaf(unit) {
             None => Ok(None),
-            Some(leaf) => match leaf.present.as_slice().get(number as usize) {
+            Some(leaf) => match leaf.present().get(number as usize) {
                 None => Ok(None),
                 Some(row) => Ok(Some(copy_of(row)?)),
             },
@@ -84,7 +84,7 @@ impl<'a, D: Desk> Units for Sheet<'a, D> {
         read_leaf(alloc, self.desk, self.page, unit)?;
         match self.page.leaf(unit) {
             None => Ok(Listed::new(alloc)),
-            Some(leaf) => Ok(leaf.present.listed()?),
+            Some(leaf) => Ok(leaf.present_copied()?),
         }
     }
 
@@ -126,6 +126,10 @@ impl<'a, D: Desk> Draft for Sheet<'a, D> {
 
     fn leaf(&self, unit: u32) -> Option<&Leaf> {
         self.page.leaf(unit)
+    }
+
+    fn decide(&mut self, unit: u32) {
+        self.page.decide(unit);
     }
 
     fn units(&self, alloc: Global) -> Result<Vec<u32>, Memory> {

@@ -19,7 +19,7 @@ fn stood_at(leaf: Option<&Leaf>, place: Place) -> Option<Place>
 {
     match leaf {
         None => None,
-        Some(leaf) => match leaf.before.as_slice().get(place.number as usize) {
+        Some(leaf) => match leaf.before().get(place.number as usize) {
             None => None,
             Some(_) => Some(place),
         },

@@ -8,7 +8,7 @@ use Rattle.sched_book.specs.declared.delta.Edit.{Edit}
 use Rattle.sched_book.specs.declared.delta.Edit.TheVariants as edit
 use Rattle.sched_book.specs.declared.instance.Instance.{Instance}
 use Rattle.call_sheet.specs.Sheets.{instance_now}
-use Rattle.call_sheet.specs.declared.leaf.Leaf.{Leaf}
+use Rattle.call_sheet.specs.Leaf.{Leaf}
 use Rattle.lost_jobs.specs.Fated.{fated}
 use Rattle.lost_jobs.specs.declared.fates.Fate.{Fate}
 use Rattle.lost_jobs.specs.declared.fates.OpenJob.{OpenJob}

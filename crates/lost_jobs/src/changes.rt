@@ -32,7 +32,7 @@ fn change_on(leaf: Option<&Leaf>, fate: Fate) -> Result<Option<Edit>, Memory>
     let Some(leaf) = leaf else {
         return Ok(None);
     };
-    match leaf.present.as_slice().get(place.number as usize) {
+    match leaf.present().get(place.number as usize) {
         None => Ok(None),
         Some(instance) => Ok(Some(Edit::Instance {
             place,

@@ -50,13 +50,13 @@ fn open_job_on(leaf: Option<&Leaf>, number: u32) -> Result<Option<OpenJob>, Memo
     if !leaf.status_before().is_open() {
         return Ok(None);
     }
-    let owner = match leaf.before.as_slice().get(number as usize) {
+    let owner = match leaf.before().get(number as usize) {
         Some(instance) => instance.owner,
         None => None,
     };
     let deadline = owner.map_or(0, |owner| owner.deadline);
     Ok(Some(OpenJob {
-        unit: copy_of(&leaf.unit)?,
+        unit: copy_of(leaf.unit())?,
         deadline,
     }))
 }

@@ -27,9 +27,9 @@ fn is_missing_on(
     let Some(leaf) = leaf else {
         return Ok(false);
     };
-    match leaf.present.as_slice().get(number as usize) {
+    match leaf.present().get(number as usize) {
         Some(instance) if instance.is_held_by(host) => {
-            let name = instance_name(alloc, leaf.unit.name.as_str(), number)?;
+            let name = instance_name(alloc, leaf.unit().name.as_str(), number)?;
             Ok(!listed.has(&name))
         }
         _ => Ok(false),

@@ -12,7 +12,7 @@ use Rattle.sched_book.specs.declared.instance.UnitBook.{UnitBook}
 use Rattle.sched_book.specs.declared.rows.Agreement.{Agreement}
 use Rattle.sched_book.specs.declared.world.World.{World}
 use Rattle.call_sheet.specs.Sheets.{IsReadAt}
-use Rattle.call_sheet.specs.declared.leaf.Leaf.{Leaf}
+use Rattle.call_sheet.specs.Leaf.{Leaf}
 use Rattle.call_sheet.proofs.OnLeaves.{instances_now-is, status_before-is}
 use Rattle.quorum_credit.specs.Growing.{fresh_changes, growth_of, growth}
 use Rattle.quorum_credit.specs.Late.{late_in}

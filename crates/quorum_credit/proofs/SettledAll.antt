@@ -26,7 +26,7 @@ use Rattle.sched_book.proofs.Settling.{settlement_is_pointwise}
 use Rattle.quorum_credit.specs.Scores.{charges_in, merits_in, unit_charges, unit_merits}
 use Rattle.quorum_credit.specs.Settling.{TouchJust, with_grown_among, quota_by, with_quotas_by, AreHostsInLimits, AreUnitsInLimits, AreQuotasBy, IsSettlement}
 use Rattle.call_sheet.specs.Sheets.{IsLeafAt, AreAllOf, AreRising, is_among}
-use Rattle.call_sheet.specs.declared.leaf.Leaf.{Leaf}
+use Rattle.call_sheet.specs.Leaf.{Leaf}
 use Rattle.quorum_credit.specs.Growing.{all_growth}
 use Rattle.quorum_credit.specs.Scoring.{scores_of_units}
 use Rattle.quorum_credit.specs.Taken.{touches, AreTouched}

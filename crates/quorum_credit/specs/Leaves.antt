@@ -5,7 +5,7 @@ use Rattle.sched_book.specs.Count.{has_failed}
 use Rattle.sched_book.specs.declared.delta.Edit.{Edit}
 use Rattle.sched_book.specs.declared.instance.Instance.{Instance}
 use Rattle.call_sheet.specs.Sheets.{instances_now, status_before}
-use Rattle.call_sheet.specs.declared.leaf.Leaf.{Leaf}
+use Rattle.call_sheet.specs.Leaf.{Leaf}
 use Rattle.quorum_credit.specs.Growing.{fresh_changes}
 use Rattle.quorum_credit.specs.Late.{late_in}
 use Rattle.quorum_credit.specs.Scoring.{standings_in, scores_from}

@@ -5,6 +5,7 @@ ghost use Rattle.sched_book.specs.Trusted.{Trusted};
 ghost use Rattle.call_sheet.specs.Sheets.{AreRising};
 ghost use Rattle.quorum_credit.specs.Growing.{growth, all_growth};
 ghost use Rattle.quorum_credit.specs.Leaves.{growth_on};
+ghost use Rattle.quorum_credit.specs.Settled.{new_instances};
 ghost use Rattle.quorum_credit.specs.Settling.{with_grown_among};
 
 use crate::settlement::new_instances;
@@ -14,13 +15,20 @@ use sched_book::{Edit, Edits, Instance, Place, Unavailable};
 use std::alloc::Global;
 use texts::Listed;
 
+/// How many further instances the workunit of a leaf is to get.
+fn new_instances_on(leaf: &Leaf) -> usize
+    ensures { result ≡ new_instances leaf.now.agreement leaf.now.unit leaf.now.present }
+{
+    new_instances(leaf.decided_now().status, leaf.unit(), leaf.present())
+}
+
 /// Adds the instances that the workunit of a leaf is to get after those of others. Refused if these would be too many.
 #[tactic(auto, using(crate::proofs::FreshOnes::growth_steps))]
 fn push_growth(more: &mut Edits, unit: u32, leaf: &Leaf) -> Result<(), Unavailable>
     ensures { OnOk result (more.new ≡ more.old ++ growth_on unit (Some leaf.now)) }
 {
-    let instances = leaf.present.as_slice();
-    let count = new_instances(&leaf.agreement, &leaf.unit, instances);
+    let instances = leaf.present();
+    let count = new_instances_on(leaf);
     if count > MOST_INSTANCES - instances.len() {
         // Does not happen for workunits within limits: an open one has and needs at most `max_total_results`, which is
         // at most 100.
@@ -49,6 +57,7 @@ fn add_growth<S: Draft>(
     ensures answer { Trusted S.Units sheet.old sheet.new (OnOk result (more.new ≡ more.old ++ growth (S.world sheet.old) unit)) }
 {
     sheet.read(alloc, unit)?;
+    sheet.decide(unit);
     match sheet.leaf(unit) {
         None => Err(Unavailable),
         Some(leaf) => push_growth(more, unit, leaf),

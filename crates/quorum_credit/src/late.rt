@@ -22,7 +22,7 @@ fn late_on(leaf: Option<&Leaf>, number: u32) -> Result<Option<Instance>, Memory>
     let Some(leaf) = leaf else {
         return Ok(None);
     };
-    match leaf.present.as_slice().get(number as usize) {
+    match leaf.present().get(number as usize) {
         Some(instance) if instance.is_held() => {
             let mut row = copy_of(instance)?;
             row.lapse = Some(Lapse::Late);

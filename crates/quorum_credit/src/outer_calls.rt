@@ -5,7 +5,7 @@
 ghost use Rattle.std.specs.Prelude.{◌≡◌, ◌≤◌, ◌++◌, All, drop, length, map, IfOk, OnOk};
 ghost use Rattle.rpc_records.specs.Ranges.{IsReport};
 ghost use Rattle.rpc_records.specs.declared.request.Report.{Report};
-ghost use Rattle.sched_book.specs.Count.{agree, status};
+ghost use Rattle.sched_book.specs.Count.{agree, status, verdict_by};
 ghost use Rattle.sched_book.specs.Delta.{edited, EditsFit};
 ghost use Rattle.sched_book.specs.Reports.{first_reports, recorded};
 ghost use Rattle.sched_book.specs.Settle.{settled};
@@ -18,7 +18,7 @@ ghost use Rattle.quorum_credit.specs.Settling.{IsSettlement};
 ghost use Rattle.quorum_credit.specs.Taken.{AreTouched};
 
 use crate::reports::record_on;
-use crate::settlement::{canonical, new_instances};
+use crate::settlement::new_instances;
 use crate::settling::{lapse_places, settle_on};
 use arrayvec::ArrayVec;
 use call_sheet::{Page, Sheet, put_all};
@@ -71,12 +71,11 @@ pub struct Settled {
     pub verdicts: Verdicts,
 }
 
-/// The verdicts on a workunit's instances.
-fn verdicts_of(agreement: &Agreement, unit: &Workunit, instances: &[Instance]) -> Verdicts
+/// The verdicts on a workunit's instances, by the number of the canonical result.
+fn verdicts_by(agreement: &Agreement, instances: &[Instance], canonical: Option<usize>) -> Verdicts
     requires { length instances.now ≤ MOST_INSTANCES }
-    ensures { result ≡ verdicts agreement.now unit.now instances.now }
+    ensures { result ≡ map (verdict_by agreement.now instances.now canonical) instances.now }
 {
-    let canonical = canonical(agreement, unit, instances);
     let mut row = ArrayVec::new();
     for instance in instances {
         row.push(count::verdict_by(agreement, instances, canonical, instance));
@@ -91,10 +90,11 @@ pub fn settle(agreement: &Agreement, unit: &Workunit, instances: &[Instance]) ->
     ensures new_instances { result.new_instances ≡ new_instances agreement.now unit.now instances.now }
     ensures verdicts { result.verdicts ≡ verdicts agreement.now unit.now instances.now }
 {
+    let decided = count::decide(agreement, unit, instances);
     Settled {
-        status: count::status(agreement, unit, instances),
-        new_instances: new_instances(agreement, unit, instances),
-        verdicts: verdicts_of(agreement, unit, instances),
+        status: decided.status,
+        new_instances: new_instances(decided.status, unit, instances),
+        verdicts: verdicts_by(agreement, instances, decided.canonical),
     }
 }
 

@@ -73,7 +73,7 @@ fn reported_on(
         return Ok(None);
     };
     let failed = leaf.status_before().has_failed();
-    let instances = leaf.present.as_slice();
+    let instances = leaf.present();
     let Some(instance) = instances.get(number as usize) else {
         return Ok(None);
     };

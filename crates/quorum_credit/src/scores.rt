@@ -1,17 +1,16 @@
 //! What settlement counts for and against the hosts of instances, and the credit that they get from it.
 
-ghost use Rattle.std.specs.Prelude.{◌≡◌, ◌≤◌, ◌++◌, length, IfOk, OnOk};
-ghost use Rattle.sched_book.specs.Count.{is_invalid};
-ghost use Rattle.sched_book.specs.Limits.{most_instances};
+ghost use Rattle.std.specs.Prelude.{◌≡◌, ◌≤◌, ◌++◌, Some, map, IfOk, OnOk};
+ghost use Rattle.sched_book.specs.Count.{is_invalid, verdict_by};
 ghost use Rattle.sched_book.specs.Settle.{is_late};
 ghost use Rattle.sched_book.specs.Trusted.{Trusted};
+ghost use Rattle.quorum_credit.specs.Leaves.{scores_on};
 ghost use Rattle.quorum_credit.specs.Scores.{one_if_new, charges_between, credit_between};
-ghost use Rattle.quorum_credit.specs.Scoring.{owned_standing, standings_in, standing_of, score_of, scores_from, scores_at, scores_of_units};
+ghost use Rattle.quorum_credit.specs.Scoring.{owned_standing, standing_of, score_of, scores_from, scores_at, scores_of_units};
 ghost use Rattle.quorum_credit.specs.declared.scores.Score.{Score};
 
-use crate::settlement::canonical;
-use call_sheet::Draft;
-use sched_book::{Agreement, Instance, Lapse, Owner, Unavailable, Verdict, Workunit, count};
+use call_sheet::{Draft, Leaf};
+use sched_book::{Agreement, Instance, Lapse, Owner, Unavailable, Verdict, count};
 use std::alloc::Global;
 use texts::{Listed, Memory};
 
@@ -69,17 +68,15 @@ fn owned_standing(verdict: Option<Verdict>, instance: &Instance) -> OwnedStandin
     }
 }
 
-/// The standings of the instances of a workunit.
-fn standings_in(
+/// The standings of the instances of a workunit, by the number of the canonical result.
+fn standings_by(
     alloc: Global,
     agreement: &Agreement,
-    unit: &Workunit,
+    canonical: Option<usize>,
     instances: &[Instance],
 ) -> Result<Vec<OwnedStanding>, Memory>
-    requires { length instances.now ≤ most_instances }
-    ensures { IfOk result (λ rows. rows.items ≡ standings_in agreement.now unit.now instances.now) }
+    ensures { IfOk result (λ rows. rows.items ≡ map (λ x. owned_standing (verdict_by agreement.now instances.now canonical x) x) instances.now) }
 {
-    let canonical = canonical(agreement, unit, instances);
     instances
         .iter()
         .map(|instance| {
@@ -182,6 +179,16 @@ fn push_scores(
     Ok(())
 }
 
+/// Adds what is new of the instances of a leaf since the call came after the other scores.
+fn push_scores_on(alloc: Global, scores: &mut Listed<Score>, leaf: &Leaf) -> Result<(), Memory>
+    ensures { OnOk result (scores.new ≡ scores.old ++ scores_on (Some leaf.now)) }
+{
+    let agreement = leaf.agreement();
+    let old = standings_by(alloc, &agreement, leaf.decided_before().canonical, leaf.before())?;
+    let new = standings_by(alloc, &agreement, leaf.decided_now().canonical, leaf.present())?;
+    push_scores(scores, leaf.unit().credit, old.as_slice(), new.as_slice())
+}
+
 /// Adds what is new of the instances of the workunit at a place after the other scores.
 #[tactic(auto, using(crate::proofs::OnLeaves::scores_steps))]
 fn add_scores<S: Draft>(
@@ -198,9 +205,7 @@ fn add_scores<S: Draft>(
     let Some(leaf) = sheet.leaf(unit) else {
         return Ok(());
     };
-    let old = standings_in(alloc, &leaf.agreement, &leaf.unit, leaf.before.as_slice())?;
-    let new = standings_in(alloc, &leaf.agreement, &leaf.unit, leaf.present.as_slice())?;
-    push_scores(scores, leaf.unit.credit, old.as_slice(), new.as_slice())?;
+    push_scores_on(alloc, scores, leaf)?;
     Ok(())
 }
 

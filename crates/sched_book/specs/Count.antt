@@ -6,6 +6,7 @@ use Rattle.std.specs.Prelude.{ℕ, ◌+◌, ◌-◌, ◌/◌, max, Bool, true, f
 use Rattle.std.specs.List.{prefix_len}
 use Rattle.std.specs.Str.{bytes_eq}
 use Rattle.sched_book.specs.WholeNumbers.{whole_number, are_within}
+use Rattle.sched_book.specs.declared.count.Decided.{Decided}
 use Rattle.sched_book.specs.declared.rows.Agreement.{Agreement}
 use Rattle.sched_book.specs.declared.rows.Agreement.TheVariants.{Exact, Within}
 use Rattle.sched_book.specs.declared.rows.Workunit.{Workunit}
@@ -119,13 +120,21 @@ want u successes = max u.target_nresults (if nat_le u.min_quorum successes then 
 abbrev pub need : Workunit → List Instance → ℕ
 need u xs = want u (length (good xs)) - live xs - length (good xs)
 
-abbrev pub status : Agreement → Workunit → List Instance → Status
-status a u xs =
-    if is_some (canonical a u xs) then Done
+-- the status of a workunit that has this canonical result, or none
+abbrev pub status_with : Option ℕ → Workunit → List Instance → Status
+status_with c u xs =
+    if is_some c then Done
     else (if nat_lt u.max_error_results (errors xs) then FailedErrors
     else (if nat_lt u.max_success_results (length (good xs)) then FailedSuccess
     else (if nat_lt u.max_total_results (length xs + need u xs) then FailedTotal
     else Open)))
+
+abbrev pub status : Agreement → Workunit → List Instance → Status
+status a u xs = status_with (canonical a u xs) u xs
+
+-- what is decided of a workunit: its canonical result, and its status
+abbrev pub decided : Agreement → Workunit → List Instance → Decided
+decided a u xs = record { canonical = canonical a u xs; status = status a u xs }
 
 abbrev pub is_open : Status → Bool
 is_open Open = true

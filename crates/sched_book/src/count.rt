@@ -5,7 +5,7 @@
 ghost use Rattle.std.specs.Prelude.{◌≡◌, ◌<◌, ◌≤◌, ◌^◌, ◌+◌, length, take, drop, nat_le};
 ghost use Rattle.std.specs.List.{prefix_len};
 ghost use Rattle.arrayvec.specs.ArrayVec.{array_vec_len};
-ghost use Rattle.sched_book.specs.Count.{agree, output_of, place_of, put_by, good, errors, live, canonical, want, need, status, verdict_by, verdict, is_valid};
+ghost use Rattle.sched_book.specs.Count.{agree, output_of, place_of, put_by, good, errors, live, canonical, want, need, status_with, status, decided, verdict_by, verdict, is_valid};
 ghost use Rattle.sched_book.specs.Places.{agreement_by, book_status};
 
 use crate::ballots::first_leader_among;
@@ -175,12 +175,20 @@ pub fn need(unit: &Workunit, instances: &[Instance]) -> usize
         .saturating_sub(successes)
 }
 
-/// The status of a workunit.
-pub fn status(agreement: &Agreement, unit: &Workunit, instances: &[Instance]) -> Status
+/// What is decided of a workunit from its instances.
+#[derive(Clone, Copy, Debug, PartialEq, Eq)]
+pub struct Decided {
+    /// The number of the canonical result, if there is one.
+    pub canonical: Option<usize>,
+    pub status: Status,
+}
+
+/// The status of a workunit that has this canonical result, or none.
+fn status_with(canonical: Option<usize>, unit: &Workunit, instances: &[Instance]) -> Status
     requires { length instances.now ≤ MOST_INSTANCES }
-    ensures { result ≡ status agreement.now unit.now instances.now }
+    ensures { result ≡ status_with canonical unit.now instances.now }
 {
-    if canonical(agreement, unit, instances).is_some() {
+    if canonical.is_some() {
         return Status::Done;
     }
     if (unit.max_error_results as usize) < error_count(instances) {
@@ -193,6 +201,26 @@ pub fn status(agreement: &Agreement, unit: &Workunit, instances: &[Instance]) ->
         return Status::FailedTotal;
     }
     Status::Open
+}
+
+/// Decides a workunit: its canonical result and its status. Each pair of good reports is compared once or twice.
+pub fn decide(agreement: &Agreement, unit: &Workunit, instances: &[Instance]) -> Decided
+    requires { length instances.now ≤ MOST_INSTANCES }
+    ensures { result ≡ decided agreement.now unit.now instances.now }
+{
+    let canonical = canonical(agreement, unit, instances);
+    Decided {
+        canonical,
+        status: status_with(canonical, unit, instances),
+    }
+}
+
+/// The status of a workunit.
+pub fn status(agreement: &Agreement, unit: &Workunit, instances: &[Instance]) -> Status
+    requires { length instances.now ≤ MOST_INSTANCES }
+    ensures { result ≡ status agreement.now unit.now instances.now }
+{
+    decide(agreement, unit, instances).status
 }
 
 /// The verdict on one of the workunit's instances, by the number of the canonical result.

@@ -15,7 +15,7 @@ use Rattle.sched_book.specs.declared.rows.Version.{Version}
 use Rattle.sched_book.specs.declared.world.World.{World}
 use Rattle.job_choice.specs.declared.granted.Granted.{Granted}
 use Rattle.call_sheet.specs.Sheets.{instance_now}
-use Rattle.call_sheet.specs.declared.leaf.Leaf.{Leaf}
+use Rattle.call_sheet.specs.Leaf.{Leaf}
 use Rattle.quorum_credit.specs.Limited.{FitWithin}
 use Rattle.quorum_credit.specs.Settling.{AreUnitsInLimits}
 use Rattle.sched_machine.specs.declared.jobs.Sending.{Sending}

@@ -43,7 +43,7 @@ impl Sending {
 fn deadline_on(leaf: &Leaf, number: u32) -> u64
     ensures { result ≡ unwrap_or (option_map (λ (x : Instance). deadline_of x.owner) (instance_now (Some leaf.now) number)) 0 }
 {
-    match leaf.present.as_slice().get(number as usize) {
+    match leaf.present().get(number as usize) {
         None => 0,
         Some(instance) => match &instance.owner {
             None => 0,
@@ -70,7 +70,7 @@ fn job_on(
     let Some(version) = version else {
         return Ok(None);
     };
-    let unit = &leaf.unit;
+    let unit = leaf.unit();
     Ok(Some(Job {
         app_name: unit.app.clone()?,
         estimate: seconds_at(unit.rsc_fpops_est, host.p_fpops),

@@ -25,14 +25,14 @@ fn given_on(
     let Some(leaf) = leaf else {
         return Ok(None);
     };
-    let Some(instance) = leaf.present.as_slice().get(number as usize) else {
+    let Some(instance) = leaf.present().get(number as usize) else {
         return Ok(None);
     };
     let mut row = copy_of(instance)?;
     row.owner = Some(Owner {
         host,
         sent: now,
-        deadline: now.seconds() + u64::from(leaf.unit.delay_bound),
+        deadline: now.seconds() + u64::from(leaf.unit().delay_bound),
     });
     Ok(Some(row))
 }

@@ -32,7 +32,7 @@ fn still_holds(leaf: Option<&Leaf>, host: u32, number: u32) -> bool
 {
     match leaf {
         None => true,
-        Some(leaf) => match leaf.present.as_slice().get(number as usize) {
+        Some(leaf) => match leaf.present().get(number as usize) {
             None => false,
             Some(instance) => instance.is_held_by(host),
         },

@@ -16,7 +16,7 @@ use Rattle.sched_book.specs.declared.rows.App.{App}
 use Rattle.sched_book.specs.declared.rows.ClassRule.{ClassRule}
 use Rattle.sched_book.specs.declared.rows.HostRow.{HostRow}
 use Rattle.sched_book.specs.declared.world.World.{World}
-use Rattle.call_sheet.specs.declared.leaf.Leaf.{Leaf}
+use Rattle.call_sheet.specs.Leaf.{Leaf}
 use Rattle.call_sheet.specs.declared.page.Page.{Page}
 use Rattle.call_sheet.specs.Sheets.{book_before, book_now, IsLeafOf, IsLeafAt, IsHostAt, IsPageOf, AreAllOf, is_among}
 use Rattle.table_meaning.specs.Worlds.{unit_row, mark_row, host_row, instance_row, app_place}

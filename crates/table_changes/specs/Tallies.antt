@@ -6,7 +6,7 @@ use Rattle.sched_book.specs.Count.{verdict, is_valid}
 use Rattle.sched_book.specs.Places.{is_owned_by, is_held_by, held_by, host_credit}
 use Rattle.sched_book.specs.declared.instance.UnitBook.{UnitBook}
 use Rattle.sched_book.specs.declared.world.World.{World}
-use Rattle.call_sheet.specs.declared.leaf.Leaf.{Leaf}
+use Rattle.call_sheet.specs.Leaf.{Leaf}
 use Rattle.call_sheet.specs.Sheets.{book_before, book_now}
 use Rattle.table_worlds.specs.declared.totals.Total.{Total}
 use Rattle.table_changes.specs.declared.tallies.Tallies.{Tallies}

@@ -37,11 +37,11 @@ fn changed_instance(
         → IfOk result (IsChange (row_in w (key.Instance place)) (row_in v (key.Instance place))) }
 {
     let number = place.number as usize;
-    let Some(instance) = leaf.present.as_slice().get(number) else {
+    let Some(instance) = leaf.present().get(number) else {
         return Ok(None);
     };
     let row = instance_row(place, instance, statuses.present)?;
-    let Some(before) = leaf.before.as_slice().get(number) else {
+    let Some(before) = leaf.before().get(number) else {
         return Ok(Some(RowChange::insert(StoredRow::Instance(row))));
     };
     let other = instance_row(place, before, statuses.before)?;
@@ -67,7 +67,7 @@ fn push_instances_of(
         before: read.status_before(),
         present: present_status(read),
     };
-    let count = u32::try_from(read.present.as_slice().len()).map_err(|_| Unavailable)?;
+    let count = u32::try_from(read.present().len()).map_err(|_| Unavailable)?;
     for number in 0..count {
         rows.push_some(changed_instance(read, statuses, Place { unit, number })?)?;
     }

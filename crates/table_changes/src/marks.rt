@@ -34,10 +34,10 @@ fn changed_mark(unit: u32, leaf: Option<&Leaf>) -> Result<Option<RowChange>, Una
     let Some(leaf) = leaf else {
         return Ok(None);
     };
-    if same_rule(&leaf.unit.class_rule, &leaf.rule) {
+    if same_rule(&leaf.unit().class_rule, leaf.rule()) {
         return Ok(None);
     }
-    let row = mark_row(unit, &leaf.rule)?;
+    let row = mark_row(unit, leaf.rule())?;
     Ok(Some(RowChange::update(StoredRow::UnitMark(row))))
 }
 

@@ -1,17 +1,16 @@
 //! What each host holds and its credit, counted over the workunits that a call touched.
 
-ghost use Rattle.std.specs.Prelude.{◌≡◌, ◌==◌, ◌≤◌, ℕ, if◌then◌else◌, length, IfOk, OnOk};
+ghost use Rattle.std.specs.Prelude.{◌≡◌, ◌==◌, ℕ, if◌then◌else◌, IfOk, OnOk};
 ghost use Rattle.std.specs.BTreeMap.{get};
 ghost use Rattle.std.specs.Option.{option_copied};
 ghost use Rattle.std.specs.Ordering.{nat_cmp};
-ghost use Rattle.sched_book.specs.Count.{verdict, is_valid};
+ghost use Rattle.sched_book.specs.Count.{verdict_by, is_valid};
 ghost use Rattle.call_sheet.specs.Sheets.{book_before, book_now};
 ghost use Rattle.table_worlds.specs.Totals.{more, with_instance, with_instances};
 ghost use Rattle.table_changes.specs.Tallies.{tally, held_on, credit_on, AreTallies};
 
 use call_sheet::{Leaf, Page};
-use sched_book::count::{canonical, is_valid, verdict_by};
-use sched_book::limits::MOST_INSTANCES;
+use sched_book::count::{is_valid, verdict_by};
 use sched_book::{Agreement, Instance, Unavailable, Workunit};
 use std::alloc::Global;
 use std::collections::BTreeMap;
@@ -70,18 +69,17 @@ fn earned(unit: &Workunit, valid: bool) -> u64
     if valid { u64::from(unit.credit) } else { 0 }
 }
 
-/// Counts the instances of a workunit.
+/// Counts the instances of a workunit, by the number of the canonical result.
 fn count_instances(
     totals: &mut BTreeMap<u32, Total>,
     agreement: &Agreement,
     unit: &Workunit,
+    canonical: Option<usize>,
     instances: &[Instance],
 ) -> Result<(), Unavailable>
-    requires { length instances.now ≤ MOST_INSTANCES }
     ensures { OnOk result ((host : ℕ) → tally totals.new host
-        ≡ with_instances (λ x. is_valid (verdict agreement.now unit.now instances.now x)) unit.now.credit instances.now host (tally totals.old host)) }
+        ≡ with_instances (λ x. is_valid (verdict_by agreement.now instances.now canonical x)) unit.now.credit instances.now host (tally totals.old host)) }
 {
-    let canonical = canonical(agreement, unit, instances);
     for instance in instances {
         let valid = is_valid(verdict_by(agreement, instances, canonical, instance));
         count_instance(totals, instance, earned(unit, valid))?;
@@ -99,17 +97,20 @@ fn count_leaf(tallies: &mut Tallies, leaf: Option<&Leaf>) -> Result<(), Unavaila
     let Some(leaf) = leaf else {
         return Ok(());
     };
+    let agreement = leaf.agreement();
     count_instances(
         &mut tallies.before,
-        &leaf.agreement,
-        &leaf.unit,
-        leaf.before.as_slice(),
+        &agreement,
+        leaf.unit(),
+        leaf.decided_before().canonical,
+        leaf.before(),
     )?;
     count_instances(
         &mut tallies.present,
-        &leaf.agreement,
-        &leaf.unit,
-        leaf.present.as_slice(),
+        &agreement,
+        leaf.unit(),
+        leaf.decided_now().canonical,
+        leaf.present(),
     )
 }
 

@@ -14,7 +14,6 @@ ghost use Rattle.table_changes.specs.Added.{is_unit_among, AreAdded};
 
 use crate::applications::known_app;
 use call_sheet::{Leaf, Page};
-use sched_book::count::status;
 use sched_book::{Desk, Status, Unavailable};
 use std::alloc::Global;
 use table_meaning::rows::{RowChange, StoredRow};
@@ -25,7 +24,7 @@ use texts::Listed;
 pub(crate) fn present_status(leaf: &Leaf) -> Status
     ensures { result ≡ spec.status leaf.now.agreement leaf.now.unit leaf.now.present }
 {
-    status(&leaf.agreement, &leaf.unit, leaf.present.as_slice())
+    leaf.decided_now().status
 }
 
 /// The row of the workunit at a place, if its status is not as before.
@@ -47,8 +46,8 @@ fn changed_unit<D: Desk>(
     if status == leaf.status_before() {
         return Ok(None);
     }
-    let app = known_app(alloc, desk, leaf.unit.app.as_str())?;
-    let row = unit_row(unit, app.place, &leaf.unit, status)?;
+    let app = known_app(alloc, desk, leaf.unit().app.as_str())?;
+    let row = unit_row(unit, app.place, leaf.unit(), status)?;
     Ok(Some(RowChange::update(StoredRow::Unit(row))))
 }
 

@@ -14,7 +14,7 @@ use Rattle.sched_book.specs.declared.instance.Place.{Place}
 use Rattle.sched_book.specs.declared.instance.UnitBook.{UnitBook}
 use Rattle.sched_book.specs.declared.world.World.{World}
 use Rattle.call_sheet.specs.Sheets.{IsReadAt, book_before, book_now}
-use Rattle.call_sheet.specs.declared.leaf.Leaf.{Leaf}
+use Rattle.call_sheet.specs.Leaf.{Leaf}
 use Rattle.quorum_credit.specs.Limited.{IsLimited}
 use Rattle.quorum_credit.specs.Settling.{AreUnitsInLimits}
 use Rattle.quorum_credit.proofs.FitReports.{done_fits, fit_more}

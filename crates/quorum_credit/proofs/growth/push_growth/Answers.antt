@@ -8,7 +8,7 @@ use Rattle.quorum_credit.proofs.growth.push_growth.Goals as goal
 pub loop-number-preserved : goal.loop-number-preserved
 loop-number-preserved c =
     let place : Place = record { unit = c.args.unit; number = c.loop-number.number } in
-    fresh_step c.loop-number.more c.push.new.self _ c.args.unit c.loop-number.number (length c.as_slice-instances.result.now + c.new_instances-count.result)
+    fresh_step c.loop-number.more c.push.new.self _ c.args.unit c.loop-number.number (length c.present-instances.result.now + c.new_instances_on-count.result)
     c.loop-number-test.true
     (subst (λ (x : Instance). c.push.new.self ≡ c.loop-number.more ++ edit.Instance place x ∷ []) c.unsent.ensures c.in_ok-push.ensures.ok)
     c.loop-number.invariant
