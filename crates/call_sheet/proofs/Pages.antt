@@ -215,9 +215,10 @@ read_in_turn w v u unit row a xs k same next is agrees lists made =
         let agreed : agreement_of w b ≡ a = cc in
         let whole : b ≡ record { unit = row; instances = xs } =
         ap (λ (r : Workunit). record { unit = r; instances = b.instances }) unit_is ∙ ap (λ (ys : List Instance). record { unit = row; instances = ys }) (sym lists) in
+        let here : unit_at w unit ≡ Some (record { unit = row; instances = xs }) = stands ∙ ap (λ (b : UnitBook). Some b) whole in
         record {
-          before = stands ∙ ap (λ (b : UnitBook). Some b) whole;
-          here = stands ∙ ap (λ (b : UnitBook). Some b) whole;
+          before = here;
+          here = here;
           agreement = ap (λ (r : Workunit). agreement_by w.apps r.app) (sym unit_is) ∙ agreed;
         }
 

@@ -111,6 +111,10 @@ abbrev pub status_before : Option Leaf → Status
 status_before None = FailedTotal
 status_before (Some k) = status k.agreement k.unit k.before
 
+abbrev pub status_now : Option Leaf → Status
+status_now None = FailedTotal
+status_now (Some k) = status k.agreement k.unit k.present
+
 -- a place, if there was an instance before the call
 abbrev pub existing_on : Option Leaf → Place → Option Place
 existing_on k p = option_map (λ x. p) (instance_before k p.number)

@@ -1,12 +1,13 @@
 -- A leaf says the same of lost jobs as the worlds before the call and now.
 use Rattle.std.proofs.Common.{◌≡◌, ℕ, Bool, true, false, cond, List, [], Option, Some, None, sym, refl, ap, ap₂, ◌∙◌}
-use Rattle.std.specs.Prelude.{◌&&◌, not, option_map, option_and_then, unwrap_or}
+use Rattle.std.specs.Prelude.{◌&&◌, ◌||◌, not, option_map, option_and_then, unwrap_or}
 use Rattle.std.specs.Str.{bytes_eq}
-use Rattle.sched_book.specs.Count.{is_open}
+use Rattle.sched_book.specs.Count.{is_open, has_failed}
 use Rattle.sched_book.specs.Fits.{version_for, unit_fits, fits, estimate}
-use Rattle.sched_book.specs.Lost.{deadline_after}
+use Rattle.sched_book.specs.Lost.{deadline_after, is_aborted}
 use Rattle.sched_book.specs.Names.{instance_name}
-use Rattle.sched_book.specs.Places.{unit_at, status_at, is_held_by, name_at, deadline_of}
+use Rattle.sched_book.specs.Places.{option_any, unit_at, status_at, is_held_by, name_at, deadline_of, place_named}
+use Rattle.sched_book.specs.Reports.{awaits_report}
 use Rattle.sched_book.specs.Step.{deadline_at}
 use Rattle.sched_book.specs.declared.delta.Edit.TheVariants as edit
 use Rattle.sched_book.specs.declared.instance.Instance.{Instance}
@@ -17,17 +18,18 @@ use Rattle.sched_book.specs.declared.rows.HostRow.{HostRow}
 use Rattle.sched_book.specs.declared.rows.Workunit.{Workunit}
 use Rattle.sched_book.specs.declared.world.World.{World}
 use Rattle.sched_book.proofs.Recording.{passes-is}
-use Rattle.call_sheet.specs.Sheets.{IsReadAt}
+use Rattle.call_sheet.specs.Sheets.{IsReadAt, instance_now}
 use Rattle.call_sheet.specs.Leaf.{Leaf}
-use Rattle.call_sheet.proofs.OnLeaves.{instance_before-is, instance_now-is, status_before-is}
+use Rattle.call_sheet.proofs.OnLeaves.{instance_before-is, instance_now-is, status_before-is, status_now-is}
 use Rattle.texts.specs.SeenSet.{has_seen}
 use Rattle.texts.specs.declared.seen_set.SeenSet.{SeenSet}
 use Rattle.lost_jobs.specs.Fated.{fated, fate_change}
 use Rattle.lost_jobs.specs.Fates.{resent_to}
 use Rattle.lost_jobs.specs.Holding.{is_missing}
-use Rattle.lost_jobs.specs.Leaves.{name_on, is_missing_on, open_job_on, change_on}
+use Rattle.lost_jobs.specs.Leaves.{name_on, is_missing_on, open_job_on, is_aborted_on, change_on}
 use Rattle.lost_jobs.specs.declared.fates.Fate.{Fate}
 use Rattle.lost_jobs.specs.declared.fates.OpenJob.{OpenJob}
+use Rattle.lost_jobs.proofs.Standing.{aborted-is}
 
 abbrev named_by : ℕ → Option UnitBook → List ℕ
 named_by number o = unwrap_or (option_map (λ (b : UnitBook). instance_name b.unit.name number) o) []
@@ -53,6 +55,15 @@ change-is entry present f o read =
     ap (option_map (λ x. edit.Instance f.place (fated f.resent x))) (instance_now-is entry present f.place o read)
 
 pub ruleset change_steps = (change-is)
+
+-- whether the client may forget a name
+pub aborted_on-is : (entry present : World) (host : ℕ) (name : List ℕ) (p : Place) (o : Option Leaf)
+    → present ≡ record entry { units = present.units; hosts = present.hosts } → IsReadAt entry present p.unit o
+    → Some p ≡ place_named present name → is_aborted_on o host p.number ≡ is_aborted present host name
+aborted_on-is entry present host name p o rest read named =
+    let awaits = option_any (awaits_report host) (instance_now o p.number) in
+    ap (λ (s : Status). not awaits || has_failed s) (status_now-is entry present p.unit o rest read)
+    ∙ aborted-is present host name p (instance_now o p.number) awaits named (instance_now-is entry present p o read) refl
 
 -- a job is sent again if its workunit is open and it fits the host
 module _ (w : World) (h : HostRow) (now : ℕ) (p : Place) where

@@ -1,13 +1,14 @@
 -- Words. What the leaf of a workunit says of its jobs.
-use Rattle.std.specs.Prelude.{ℕ, Bool, not, ◌&&◌, if◌then◌else◌, List, [], Option, Some, None, option_map, unwrap_or, slice_get}
+use Rattle.std.specs.Prelude.{ℕ, Bool, not, ◌&&◌, ◌||◌, if◌then◌else◌, List, [], Option, Some, None, option_map, unwrap_or, slice_get}
 use Rattle.std.specs.Str.{bytes_eq}
-use Rattle.sched_book.specs.Count.{is_open, status}
+use Rattle.sched_book.specs.Count.{is_open, has_failed, status}
 use Rattle.sched_book.specs.Names.{instance_name}
+use Rattle.sched_book.specs.Reports.{awaits_report}
 use Rattle.sched_book.specs.Places.{option_any, is_held_by, deadline_of}
 use Rattle.sched_book.specs.declared.delta.Edit.{Edit}
 use Rattle.sched_book.specs.declared.delta.Edit.TheVariants as edit
 use Rattle.sched_book.specs.declared.instance.Instance.{Instance}
-use Rattle.call_sheet.specs.Sheets.{instance_now}
+use Rattle.call_sheet.specs.Sheets.{instance_now, status_now}
 use Rattle.call_sheet.specs.Leaf.{Leaf}
 use Rattle.lost_jobs.specs.Fated.{fated}
 use Rattle.lost_jobs.specs.declared.fates.Fate.{Fate}
@@ -31,6 +32,10 @@ open_job_on (Some k) number =
     if is_open (status k.agreement k.unit k.before)
     then Some (record { unit = k.unit; deadline = unwrap_or (option_map (λ (x : Instance). deadline_of x.owner) (slice_get k.before number)) 0 })
     else None
+
+-- the client of the host may forget the instance of a number: it awaits no report of the host, or its workunit has failed
+abbrev pub is_aborted_on : Option Leaf → ℕ → ℕ → Bool
+is_aborted_on k host number = not (option_any (awaits_report host) (instance_now k number)) || has_failed (status_now k)
 
 -- what a fate changes of the instance as it is now; nothing if there is no instance
 abbrev pub change_on : Option Leaf → Fate → Option Edit

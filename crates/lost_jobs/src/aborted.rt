@@ -1,50 +1,67 @@
 //! The names that a client may forget.
 
 ghost use Rattle.std.specs.Prelude.{◌≡◌, IfOk};
-ghost use Rattle.sched_book.specs.Trusted.{Trusted};
+ghost use Rattle.std.specs.Option.{option_copied};
 ghost use Rattle.sched_book.specs.Lost.{is_aborted, aborts};
+ghost use Rattle.sched_book.specs.Trusted.{Trusted};
+ghost use Rattle.lost_jobs.specs.Leaves.{is_aborted_on};
 
+use call_sheet::{Draft, Leaf};
 use rpc_records::Request;
-use sched_book::{Unavailable, Units, first_of_each, place_named, status_at};
+use sched_book::{Unavailable, first_of_each, place_named};
 use std::alloc::Global;
 use texts::{Listed, Text};
 
-/// Whether the client of the host may forget this name: no instance of the name awaits a report of the host, or its
-/// workunit has failed.
-fn is_aborted<U: Units>(
+/// Whether the client of the host may forget the instance of this number on a leaf: it awaits no report of the host, or
+/// its workunit has failed.
+fn is_aborted_on(leaf: Option<&Leaf>, host: u32, number: u32) -> bool
+    ensures { result ≡ is_aborted_on (option_copied leaf.entry) host number }
+{
+    let Some(leaf) = leaf else {
+        return true;
+    };
+    match leaf.present().get(number as usize) {
+        Some(instance) if instance.awaits_report_of(host) => {
+            leaf.decided_now().status.has_failed()
+        }
+        _ => true,
+    }
+}
+
+/// Whether the client of the host may forget this name.
+fn is_aborted<S: Draft>(
     alloc: Global,
-    units: &mut U,
+    sheet: &mut S,
     host: u32,
     name: &str,
 ) -> Result<bool, Unavailable>
-    ensures reads { U.reads units.old units.new }
-    ensures answer { Trusted U.Units units.old units.new (
-        IfOk result (λ aborted. aborted ≡ is_aborted (U.world units.old) host name.now)) }
+    ensures reads { S.reads sheet.old sheet.new }
+    ensures answer { Trusted S.Units sheet.old sheet.new (
+        IfOk result (λ aborted. aborted ≡ is_aborted (S.world sheet.old) host name.now)) }
 {
-    let Some(place) = place_named(alloc, units, name)? else {
+    let Some(place) = place_named(alloc, sheet, name)? else {
         return Ok(true);
     };
-    let Some(instance) = units.instance(alloc, place.unit, place.number)? else {
-        return Ok(true);
-    };
-    if !instance.awaits_report_of(host) {
-        return Ok(true);
-    }
-    Ok(status_at(alloc, units, place.unit)?.has_failed())
+    sheet.read(alloc, place.unit)?;
+    Ok(is_aborted_on(sheet.leaf(place.unit), host, place.number))
 }
 
-/// The names in the client's list that it may forget, each once, in their order.
+/// The names in the client's list that it may forget, each once, in their order, on the sheet of its call.
 ///
 /// A client may forget the name of no instance of its host, of one that was reported, and of one of a failed workunit.
-pub fn aborts<U: Units>(
+///
+/// # Errors
+///
+/// [`Unavailable`] if there is no memory or the desk is unavailable.
+pub fn aborts_on<S: Draft>(
     alloc: Global,
-    units: &mut U,
+    sheet: &mut S,
     host: u32,
     request: &Request,
 ) -> Result<Listed<Text>, Unavailable>
-    ensures reads { U.reads units.old units.new }
-    ensures answer { Trusted U.Units units.old units.new (
-        IfOk result (λ names. names ≡ aborts (U.world units.old) host request.now.other_results)) }
+    ensures reads { S.reads sheet.old sheet.new }
+    ensures answer { Trusted S.Units sheet.old sheet.new (
+        IfOk result (λ names. names ≡ aborts (S.world sheet.old) host request.now.other_results)) }
 {
     let Some(names) = &request.other_results else {
         return Ok(Listed::new(alloc));
@@ -52,7 +69,7 @@ pub fn aborts<U: Units>(
     let firsts = first_of_each(alloc, names.as_slice())?;
     let mut aborted = Listed::new(alloc);
     for &name in firsts.as_slice() {
-        if is_aborted(alloc, units, host, name.as_str())? {
+        if is_aborted(alloc, sheet, host, name.as_str())? {
             aborted.push(name.clone()?)?;
         }
     }

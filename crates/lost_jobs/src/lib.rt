@@ -8,8 +8,8 @@ pub mod laws;
 mod missing;
 mod outer_calls;
 
-pub use aborted::aborts;
+pub use aborted::aborts_on;
 pub use changes::put_fates;
 pub use fates::{Fate, fates_on, version_on};
 pub use missing::lost_on;
-pub use outer_calls::{lost, resend_or_drop};
+pub use outer_calls::{aborts, lost, resend_or_drop};

@@ -1,9 +1,10 @@
 //! Calls that the program does not make. They are for a caller that has a desk and no sheet: tests, or another
-//! scheduler. They open a sheet for the steps that the program runs, [`lost_on`] and [`fates_on`].
+//! scheduler. [`lost`] and [`resend_or_drop`] open a sheet for the steps that the program runs, [`lost_on`] and
+//! [`fates_on`]; [`aborts`] needs no desk.
 
 ghost use Rattle.std.specs.Prelude.{◌≡◌, map, IfOk};
 ghost use Rattle.sched_book.specs.Delta.{edited};
-ghost use Rattle.sched_book.specs.Lost.{lost};
+ghost use Rattle.sched_book.specs.Lost.{lost, is_aborted, aborts};
 ghost use Rattle.sched_book.specs.Trusted.{Trusted};
 ghost use Rattle.lost_jobs.specs.Fates.{fate};
 ghost use Rattle.lost_jobs.specs.Holding.{HoldsNoMore};
@@ -13,9 +14,11 @@ use crate::fates::{Fate, fates_on};
 use crate::missing::lost_on;
 use call_sheet::{Draft, Page, Sheet, put_all};
 use rpc_records::Request;
-use sched_book::{Desk, Edits, HostRow, Moment, Place, Unavailable};
+use sched_book::{
+    Desk, Edits, HostRow, Moment, Place, Unavailable, Units, first_of_each, place_named, status_at,
+};
 use std::alloc::Global;
-use texts::Listed;
+use texts::{Listed, Text};
 
 /// The jobs of the host that its client lost, by place: what the host still holds after edits and the client does not
 /// list. There are none if lost jobs are not sent again, or if the client sent no list. The edits must leave the host
@@ -67,4 +70,54 @@ pub fn resend_or_drop<D: Desk>(
         page: &mut page,
     };
     fates_on(alloc, &mut sheet, host, lost, now)
+}
+
+/// Whether the client of the host may forget this name: no instance of the name awaits a report of the host, or its
+/// workunit has failed.
+fn is_aborted_in<U: Units>(
+    alloc: Global,
+    units: &mut U,
+    host: u32,
+    name: &str,
+) -> Result<bool, Unavailable>
+    ensures reads { U.reads units.old units.new }
+    ensures answer { Trusted U.Units units.old units.new (
+        IfOk result (λ aborted. aborted ≡ is_aborted (U.world units.old) host name.now)) }
+{
+    let Some(place) = place_named(alloc, units, name)? else {
+        return Ok(true);
+    };
+    let Some(instance) = units.instance(alloc, place.unit, place.number)? else {
+        return Ok(true);
+    };
+    if !instance.awaits_report_of(host) {
+        return Ok(true);
+    }
+    Ok(status_at(alloc, units, place.unit)?.has_failed())
+}
+
+/// The names in the client's list that it may forget, each once, in their order.
+///
+/// A client may forget the name of no instance of its host, of one that was reported, and of one of a failed workunit.
+pub fn aborts<U: Units>(
+    alloc: Global,
+    units: &mut U,
+    host: u32,
+    request: &Request,
+) -> Result<Listed<Text>, Unavailable>
+    ensures reads { U.reads units.old units.new }
+    ensures answer { Trusted U.Units units.old units.new (
+        IfOk result (λ names. names ≡ aborts (U.world units.old) host request.now.other_results)) }
+{
+    let Some(names) = &request.other_results else {
+        return Ok(Listed::new(alloc));
+    };
+    let firsts = first_of_each(alloc, names.as_slice())?;
+    let mut aborted = Listed::new(alloc);
+    for &name in firsts.as_slice() {
+        if is_aborted_in(alloc, units, host, name.as_str())? {
+            aborted.push(name.clone()?)?;
+        }
+    }
+    Ok(aborted)
 }

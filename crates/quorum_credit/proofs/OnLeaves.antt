@@ -13,7 +13,7 @@ use Rattle.sched_book.specs.declared.rows.Agreement.{Agreement}
 use Rattle.sched_book.specs.declared.world.World.{World}
 use Rattle.call_sheet.specs.Sheets.{IsReadAt}
 use Rattle.call_sheet.specs.Leaf.{Leaf}
-use Rattle.call_sheet.proofs.OnLeaves.{instances_now-is, status_before-is}
+use Rattle.call_sheet.proofs.OnLeaves.{agreed, instances_now-is, status_before-is}
 use Rattle.quorum_credit.specs.Growing.{fresh_changes, growth_of, growth}
 use Rattle.quorum_credit.specs.Late.{late_in}
 use Rattle.quorum_credit.specs.Leaves.{reported_on, late_on, growth_on, scores_on}
@@ -31,11 +31,6 @@ reported-is host r entry present p o read =
 pub late-is : (entry present : World) (p : Place) (o : Option Leaf) → IsReadAt entry present p.unit o
     → late_on o p.number ≡ late_in (instances_at present p.unit) p.number
 late-is entry present p o read = ap (λ (xs : List Instance). late_in xs p.number) (instances_now-is entry present p.unit o read)
-
--- the agreement of a workunit is as it was, because the applications are
-agreed : (entry present : World) (k : Leaf) → present ≡ record entry { units = present.units; hosts = present.hosts }
-    → agreement_by entry.apps k.unit.app ≡ k.agreement → agreement_by present.apps k.unit.app ≡ k.agreement
-agreed entry present k rest agreement = ap (λ (v : World). agreement_by v.apps k.unit.app) rest ∙ agreement
 
 pub growth-is : (entry present : World) (unit : ℕ) (o : Option Leaf) → present ≡ record entry { units = present.units; hosts = present.hosts }
     → IsReadAt entry present unit o → growth_on unit o ≡ growth present unit

@@ -18,7 +18,7 @@ use crate::settlement::{SettledCall, settle_call};
 use crate::step_error::StepError;
 use call_sheet::{Draft, Leaf};
 use job_choice::seconds_at;
-use lost_jobs::aborts;
+use lost_jobs::aborts_on;
 use quorum_credit::Score;
 use rpc_records::Request;
 use sched_book::{Caller, HostRow, Moment, Place, Unavailable};
@@ -154,7 +154,7 @@ pub(crate) fn prepare<S: Draft>(
     let call = enter(alloc, sheet, caller, request)?;
     let held = sheet.held_before(alloc, call.number)?;
     let settled = settle_call(alloc, sheet, &call, held.as_slice(), request, now)?;
-    let aborted = aborts(alloc, sheet, call.number, request)?;
+    let aborted = aborts_on(alloc, sheet, call.number, request)?;
     let wish = wish_of(
         alloc,
         sheet,

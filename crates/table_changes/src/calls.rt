@@ -73,7 +73,7 @@ fn put_onto<D: Desk>(
     put_all(alloc, &mut sheet, edits.as_slice())
 }
 
-/// The page of a call that started from the desk's world and makes these edits.
+/// The page of a call that started from the desk's world and makes these edits. Each of its workunits is decided.
 fn page_of<D: Desk>(alloc: Global, desk: &mut D, edits: &Edits) -> Result<Page, Unavailable>
     ensures reads { D.reads desk.old desk.new }
     ensures page { Trusted D.Units desk.old desk.new (IfOk result (IsPageOf (D.world desk.old))) }
@@ -82,6 +82,7 @@ fn page_of<D: Desk>(alloc: Global, desk: &mut D, edits: &Edits) -> Result<Page, 
     let settings = desk.settings(alloc)?;
     let mut page = Page::new(alloc, settings);
     put_onto(alloc, desk, &mut page, edits)?;
+    page.decide_all(alloc)?;
     Ok(page)
 }
 

@@ -1,23 +1,24 @@
-use Rattle.std.proofs.Common.{Some, true, sym, ap, ◌∙◌, rules}
-use Rattle.sched_book.specs.Count.{has_failed}
-use Rattle.sched_book.specs.Places.{instance_at, status_at}
-use Rattle.lost_jobs.proofs.Standing.{aborted-is}
+use Rattle.std.proofs.Common.{sym, ap, ◌∙◌}
+use Rattle.sched_book.specs.Lost.{is_aborted}
+use Rattle.sched_book.specs.Places.{place_named}
+use Rattle.lost_jobs.specs.Leaves.{is_aborted_on}
+use Rattle.lost_jobs.proofs.OnLeaves.{aborted_on-is}
 use Rattle.lost_jobs.proofs.aborted.is_aborted.Goals as goal
 
--- the three calls read one world
+-- the leaf is read in the world in which the name was looked up
 pub returns-clause-answer : goal.returns-clause-answer
 returns-clause-answer g c = λ honest kept.
-    let u = g.met.U.Units in
+    let u = g.met.S.Units in
+    let draft = g.met.S.Draft in
+    let host = c.args.host in
+    let name = c.args.name.now in
     let place = c.in-Some.place in
-    let honest_2 = u.stays_honest _ _ c.status_at.ensures.reads honest in
-    let honest_1 = u.stays_honest _ _ c.instance.ensures.reads honest_2 in
+    let after = c.place_named.new.units in
+    let honest_1 = u.stays_honest _ _ c.read.ensures.reads honest in
     let kept_1 = u.stays_kept _ _ c.place_named.ensures.reads honest_1 kept in
-    let kept_2 = u.stays_kept _ _ c.instance.ensures.reads honest_2 kept_1 in
-    let same_1 = u.stays_same _ _ c.place_named.ensures.reads honest_1 kept in
-    let same_2 = u.stays_same _ _ c.instance.ensures.reads honest_2 kept_1 ∙ same_1 in
-    c.has_failed.ensures
-    ∙ ap has_failed (c.in_ok-status_at.ensures.answer honest kept_2 ∙ ap (λ w. status_at w place.unit) same_2)
-    ∙ aborted-is (g.U.Units.world c.args.units.now) c.args.host c.args.name.now place (Some c.in-Some-2.instance) true
-    (sym c.in-Some.is ∙ c.in_ok-place.ensures.answer honest_1 kept)
-    (sym c.in-Some-2.is ∙ c.in_ok-instance.ensures.answer honest_2 kept_1 ∙ ap (λ w. instance_at w place) same_1)
-    (search rules)
+    let same = u.stays_same _ _ c.place_named.ensures.reads honest_1 kept in
+    c.is_aborted_on.ensures
+    ∙ ap (λ o. is_aborted_on o host place.number) c.leaf.ensures
+    ∙ aborted_on-is (g.S.Draft.entry after) (g.S.Units.world after) host name place _ (draft.rest_stays _ kept_1) (c.in_ok-read.ensures.answer honest kept_1)
+    (sym c.in-Some.is ∙ c.in_ok-place.ensures.answer honest_1 kept ∙ sym (ap (λ w. place_named w name) same))
+    ∙ ap (λ w. is_aborted w host name) same

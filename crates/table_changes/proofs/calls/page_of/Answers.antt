@@ -9,4 +9,4 @@ returns-clause-page g c = λ honest kept.
     let well = d.stays_kept _ _ c.settings.ensures.reads before kept in
     let same = d.stays_same _ _ c.settings.ensures.reads before kept in
     let empty = c.new-page.ensures.page (g.D.Units.world c.settings.new.self) (c.in_ok-settings.ensures.answer before kept ∙ ap (λ w. w.settings) (sym same)) in
-    subst (λ w. IsPageOf w c.put_onto.new.page) same (c.put_onto.ensures.page honest well empty)
+    c.in_ok-decide_all.ensures.page (g.D.Units.world c.args.desk.now) (subst (λ w. IsPageOf w c.put_onto.new.page) same (c.put_onto.ensures.page honest well empty))

@@ -21,14 +21,14 @@ pub returns-in_default : goal.returns-in_default
 returns-in_default c = λ w v apps leaf old new.
     let k = c.args.leaf.now in
     none_is_change _ _ (instance_gone w v c.args.place.unit c.args.place.number k apps leaf
-    (got c.as_slice.result.now k.present c.args.place.number c.get.result c.get.ensures.lookup c.as_slice.ensures.value ∙ ap option_copied c.in_default.is))
+    (got c.present.result.now k.present c.args.place.number c.get.result c.get.ensures.lookup c.present.ensures.value ∙ ap option_copied c.in_default.is))
 
 pub returns-in_default-get : goal.returns-in_default-get
 returns-in_default-get c = λ w v apps leaf old new.
     let k = c.args.leaf.now in
     let number = c.args.place.number in
     instance_changed w v c.args.place.unit number k c.in-Some.instance.now c.args.statuses.present c.insert.result apps leaf
-    (got c.as_slice.result.now k.present number c.get.result c.get.ensures.lookup c.as_slice.ensures.value ∙ ap option_copied c.in-Some.is)
+    (got c.present.result.now k.present number c.get.result c.get.ensures.lookup c.present.ensures.value ∙ ap option_copied c.in-Some.is)
     new (λ u b told. c.insert.ensures ∙ ap stored.Instance (c.in_ok-row.ensures u b told))
 
 pub returns-then-eq : goal.returns-then-eq
@@ -38,8 +38,8 @@ returns-then-eq c = λ w v apps leaf old new.
     let same : c.in_ok-row.row ≡ c.in_ok-other.other = (instance_same c.in_ok-row.row c.in_ok-other.other).0 (sym c.eq.ensures ∙ c.if-eq.true) in
     instance_stays w v c.args.place.unit number k c.in-Some-get.before.now c.in-Some.instance.now c.args.statuses.before c.args.statuses.present
     (stored.Instance c.in_ok-row.row) (stored.Instance c.in_ok-other.other) apps leaf
-    (got c.as_slice-2.result.now k.before number c.get-2.result c.get-2.ensures.lookup c.as_slice-2.ensures.value ∙ ap option_copied c.in-Some-get.is)
-    (got c.as_slice.result.now k.present number c.get.result c.get.ensures.lookup c.as_slice.ensures.value ∙ ap option_copied c.in-Some.is)
+    (got c.before.result.now k.before number c.get-2.result c.get-2.ensures.lookup c.before.ensures.value ∙ ap option_copied c.in-Some-get.is)
+    (got c.present.result.now k.present number c.get.result c.get.ensures.lookup c.present.ensures.value ∙ ap option_copied c.in-Some.is)
     old new (λ u b told. ap stored.Instance (c.in_ok-row.ensures u b told)) (λ u b told. ap stored.Instance (c.in_ok-other.ensures u b told)) (ap stored.Instance same)
 
 pub returns : goal.returns
@@ -47,5 +47,5 @@ returns c = λ w v apps leaf old new.
     let k = c.args.leaf.now in
     let number = c.args.place.number in
     instance_changed w v c.args.place.unit number k c.in-Some.instance.now c.args.statuses.present c.update.result apps leaf
-    (got c.as_slice.result.now k.present number c.get.result c.get.ensures.lookup c.as_slice.ensures.value ∙ ap option_copied c.in-Some.is)
+    (got c.present.result.now k.present number c.get.result c.get.ensures.lookup c.present.ensures.value ∙ ap option_copied c.in-Some.is)
     new (λ u b told. c.update.ensures ∙ ap stored.Instance (c.in_ok-row.ensures u b told))

@@ -1,7 +1,7 @@
 use Rattle.std.proofs.Common.{◌≡◌, ◌++◌, drop, map}
 use Rattle.std.specs.Prelude.{filter}
 use Rattle.sched_book.specs.Lost.{is_aborted, aborts}
-use Rattle.lost_jobs.proofs.aborted.aborts.Given as goal
+use Rattle.lost_jobs.proofs.outer_calls.aborts.Given as goal
 
 -- the names so far, and those among the names that are left
 abbrev pub invariant-loop-name : goal.invariant-loop-name
