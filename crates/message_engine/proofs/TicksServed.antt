@@ -1,5 +1,5 @@
 -- A tick is served by its step and its commit.
-use Rattle.std.proofs.Common.{◌≡◌, ℕ, ◌≤◌, List, sym, refl, subst}
+use Rattle.std.proofs.Common.{◌≡◌, ℕ, ◌≤◌, sym, refl, subst}
 use Rattle.std.specs.Prelude.{Result, Ok, Err, IfOk, OnOk, ⊤}
 use Rattle.sched_book.specs.Delta.{applied}
 use Rattle.sched_book.specs.Limits.{last_moment}

@@ -4,7 +4,7 @@ use Rattle.std.specs.Prelude.{option_map, unwrap_or}
 use Rattle.rpc_records.specs.declared.request.Report.{Report}
 use Rattle.sched_book.specs.Count.{has_failed}
 use Rattle.sched_book.specs.Desk.{instances_at}
-use Rattle.sched_book.specs.Places.{unit_at, status_at, agreement_by, agreement_of}
+use Rattle.sched_book.specs.Places.{unit_at, status_at, agreement_of}
 use Rattle.sched_book.specs.declared.instance.Instance.{Instance}
 use Rattle.sched_book.specs.declared.instance.Place.{Place}
 use Rattle.sched_book.specs.declared.instance.Status.{Status}

@@ -1,5 +1,5 @@
 -- Words. The steps from the world with its changes to the settled one. They look only at workunits that the changes touch.
-use Rattle.std.specs.Prelude.{◌≡◌, ℕ, ◌≤◌, ◌++◌, Bool, true, false, if◌then◌else◌, List, length, drop, map, Some, is_some, IsTrue}
+use Rattle.std.specs.Prelude.{◌≡◌, ℕ, ◌≤◌, ◌++◌, false, if◌then◌else◌, List, length, drop, map, Some, is_some, IsTrue}
 use Rattle.std.specs.List.{enumerate_from}
 use Rattle.sched_book.specs.Classes.{imported}
 use Rattle.sched_book.specs.Delta.{edited, EditsFit}

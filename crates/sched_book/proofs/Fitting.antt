@@ -7,7 +7,7 @@ use borrow.Author.Tests.{ltb-false}
 use Rattle.sched_book.specs.Classes.{with_class}
 use Rattle.sched_book.specs.Settle.{fresh}
 use Rattle.sched_book.specs.Imports.{new_unit, has_app, with_rows}
-use Rattle.sched_book.specs.Limits.{most_accounts, most_apps, most_versions, most_workunits, most_hosts, most_instances, IsBounded, IsUnitInLimits}
+use Rattle.sched_book.specs.Limits.{most_hosts, most_instances, IsBounded, IsUnitInLimits}
 use Rattle.sched_book.specs.Reports.{modify_at, modify_nth}
 use Rattle.sched_book.specs.Delta.{set_at, set_nth, with_instance, edited_one, EditFits, edited, EditsFit, RowsFit, applied}
 use Rattle.sched_book.specs.Laws.{FittingKeepsBounds}

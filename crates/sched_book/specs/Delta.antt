@@ -4,7 +4,7 @@ use Rattle.sched_book.specs.Classes.{with_class}
 use Rattle.sched_book.specs.Places.{nth, unit_at}
 use Rattle.sched_book.specs.Reports.{modify_nth}
 use Rattle.sched_book.specs.Imports.{new_unit, has_app, with_rows}
-use Rattle.sched_book.specs.Limits.{most_accounts, most_apps, most_versions, most_workunits, most_instances, IsAccountInLimits, IsAppInLimits, IsVersionInLimits, IsUnitInLimits, IsHostInLimits, IsInstanceInLimits}
+use Rattle.sched_book.specs.Limits.{most_accounts, most_apps, most_versions, most_workunits, most_instances, IsAccountInLimits, IsAppInLimits, IsUnitInLimits, IsHostInLimits, IsInstanceInLimits}
 use Rattle.sched_book.specs.Sound.{IsBare, HasOwnerAmong, IsSoundVersion}
 use Rattle.sched_book.specs.declared.delta.Delta.{Delta}
 use Rattle.sched_book.specs.declared.delta.Delta.TheVariants as delta

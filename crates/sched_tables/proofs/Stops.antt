@@ -1,5 +1,5 @@
 -- What a stop leaves of a commit: what it could leave before, or the whole of it.
-use Rattle.std.proofs.Common.{◌≡◌, ◌⊎◌, IsTrue, List, ap, ◌∙◌, inl, inr, arith}
+use Rattle.std.proofs.Common.{◌≡◌, ◌⊎◌, IsTrue, ap, ◌∙◌, inl, inr, arith}
 use Rattle.sqlite.specs.Effect.{Database}
 use Rattle.sqlite.specs.State.{State, HasCleanDisk, Survives}
 use Rattle.sqlite_trees.specs.Tree.{Trees}

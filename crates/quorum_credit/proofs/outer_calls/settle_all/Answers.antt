@@ -1,4 +1,4 @@
-use Rattle.std.proofs.Common.{◌≡◌, sym, ap, ◌∙◌, ◌++◌, subst}
+use Rattle.std.proofs.Common.{sym, ap, ◌∙◌, ◌++◌, subst}
 use Rattle.quorum_credit.specs.Settling.{IsSettlement}
 use Rattle.quorum_credit.proofs.SettledAll.{joined_settle, joined_fit}
 use Rattle.quorum_credit.proofs.outer_calls.settle_all.Given
