@@ -184,8 +184,18 @@ fn push_scores_on(alloc: Global, scores: &mut Listed<Score>, leaf: &Leaf) -> Res
     ensures { OnOk result (scores.new ≡ scores.old ++ scores_on (Some leaf.now)) }
 {
     let agreement = leaf.agreement();
-    let old = standings_by(alloc, &agreement, leaf.decided_before().canonical, leaf.before())?;
-    let new = standings_by(alloc, &agreement, leaf.decided_now().canonical, leaf.present())?;
+    let old = standings_by(
+        alloc,
+        &agreement,
+        leaf.decided_before().canonical,
+        leaf.before(),
+    )?;
+    let new = standings_by(
+        alloc,
+        &agreement,
+        leaf.decided_now().canonical,
+        leaf.present(),
+    )?;
     push_scores(scores, leaf.unit().credit, old.as_slice(), new.as_slice())
 }
 
