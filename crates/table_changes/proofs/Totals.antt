@@ -3,9 +3,12 @@ use Rattle.std.proofs.Common.{◌≡◌, ℕ, ◌+◌, ◌<◌, List, [], ◌∷
 use Rattle.std.specs.Prelude.{sum_by}
 use Rattle.std.proofs.lemmas.List.{take_more}
 use Rattle.std.proofs.lemmas.List.Sums.{sum_by-cons, sum_by-append}
-use Rattle.sched_book.specs.Count.{verdict, is_valid}
+use Rattle.sched_book.specs.Count.{decided, verdict_by, is_valid}
+use Rattle.sched_book.specs.declared.count.Decided.{Decided}
 use Rattle.sched_book.specs.declared.instance.Instance.{Instance}
 use Rattle.sched_book.specs.declared.instance.UnitBook.{UnitBook}
+use Rattle.sched_book.specs.declared.rows.Agreement.{Agreement}
+use Rattle.sched_book.specs.declared.rows.Workunit.{Workunit}
 use Rattle.call_sheet.specs.Leaf.{Leaf}
 use Rattle.table_worlds.specs.declared.totals.Total.{Total}
 use Rattle.table_worlds.specs.Totals.{more, with_instances}
@@ -27,11 +30,15 @@ total_next book kept units i unit host t within at is =
     ap (λ (s : Total). more s (held_on book host (kept unit)) (credit_on book host (kept unit))) is
     ∙ same_total _ _ _ _ (one_next (λ u. held_on book host (kept u)) units i unit within at) (one_next (λ u. credit_on book host (kept u)) units i unit within at)
 
--- what is counted for a leaf, once its instances were counted
-pub leaf_counted : (book : Leaf → UnitBook) (k : Leaf) (o : Option Leaf) (xs : List Instance) (host : ℕ) (t after : Total) → o ≡ Some k → xs ≡ (book k).instances
-    → after ≡ with_instances (λ x. is_valid (verdict k.agreement k.unit xs x)) k.unit.credit xs host t
+-- what is counted for a leaf, once its instances were counted by what is decided of them
+pub leaf_counted : (book : Leaf → UnitBook) (k : Leaf) (o : Option Leaf) (a : Agreement) (u : Workunit) (d : Decided) (xs : List Instance) (host : ℕ) (t after : Total)
+    → o ≡ Some k → a ≡ k.agreement → u ≡ k.unit → xs ≡ (book k).instances → d ≡ decided k.agreement k.unit (book k).instances
+    → after ≡ with_instances (λ x. is_valid (verdict_by a xs d.canonical x)) u.credit xs host t
     → after ≡ more t (held_on book host o) (credit_on book host o)
-leaf_counted book k o xs host t after is all counted =
+leaf_counted book k o a u d xs host t after is agreed same all decides counted =
     counted
-    ∙ ap (λ ys. with_instances (λ x. is_valid (verdict k.agreement k.unit ys x)) k.unit.credit ys host t) all
+    ∙ ap (λ (b : Agreement). with_instances (λ x. is_valid (verdict_by b xs d.canonical x)) u.credit xs host t) agreed
+    ∙ ap (λ (v : Workunit). with_instances (λ x. is_valid (verdict_by k.agreement xs d.canonical x)) v.credit xs host t) same
+    ∙ ap (λ ys. with_instances (λ x. is_valid (verdict_by k.agreement ys d.canonical x)) k.unit.credit ys host t) all
+    ∙ ap (λ (e : Decided). with_instances (λ x. is_valid (verdict_by k.agreement (book k).instances e.canonical x)) k.unit.credit (book k).instances host t) decides
     ∙ ap (λ l. more t (held_on book host l) (credit_on book host l)) (sym is)

@@ -38,7 +38,7 @@ returns-then-eq c = λ w v apps leaf old new.
     let same : c.in_ok-row.row ≡ c.in_ok-other.other = (instance_same c.in_ok-row.row c.in_ok-other.other).0 (sym c.eq.ensures ∙ c.if-eq.true) in
     instance_stays w v c.args.place.unit number k c.in-Some-get.before.now c.in-Some.instance.now c.args.statuses.before c.args.statuses.present
     (stored.Instance c.in_ok-row.row) (stored.Instance c.in_ok-other.other) apps leaf
-    (got c.before.result.now k.before number c.get-2.result c.get-2.ensures.lookup c.before.ensures.value ∙ ap option_copied c.in-Some-get.is)
+    (got c.before-2.result.now k.before number c.get-2.result c.get-2.ensures.lookup c.before-2.ensures.value ∙ ap option_copied c.in-Some-get.is)
     (got c.present.result.now k.present number c.get.result c.get.ensures.lookup c.present.ensures.value ∙ ap option_copied c.in-Some.is)
     old new (λ u b told. ap stored.Instance (c.in_ok-row.ensures u b told)) (λ u b told. ap stored.Instance (c.in_ok-other.ensures u b told)) (ap stored.Instance same)
 

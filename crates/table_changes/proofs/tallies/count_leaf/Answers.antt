@@ -10,11 +10,13 @@ use Rattle.table_changes.proofs.tallies.count_leaf.Goals as goal
 pub returns-clause-before : goal.returns-clause-before
 returns-clause-before c =
     done_anyhow _ c.count_instances-2.result (λ host.
-    leaf_counted book_before c.in-Some.leaf.now (option_copied c.args.leaf) c.before.result.now host (tally c.args.tallies.now.before host) (tally c.count_instances.new.totals host)
-    (ap option_copied c.in-Some.is) c.before.ensures.value (c.in_ok-count_instances.ensures host))
+    leaf_counted book_before c.in-Some.leaf.now (option_copied c.args.leaf) c.agreement-agreement.result c.unit.result.now c.decided_before.result c.before-2.result.now
+    host (tally c.args.tallies.now.before host) (tally c.count_instances.new.totals host)
+    (ap option_copied c.in-Some.is) c.agreement-agreement.ensures c.unit.ensures c.before-2.ensures.value c.decided_before.ensures (c.in_ok-count_instances.ensures host))
 
 pub returns-clause-present : goal.returns-clause-present
 returns-clause-present c =
     on_ok_weaker c.count_instances-2.result (λ counted host.
-    leaf_counted book_now c.in-Some.leaf.now (option_copied c.args.leaf) c.present.result.now host (tally c.args.tallies.now.present host) (tally c.count_instances-2.new.totals host)
-    (ap option_copied c.in-Some.is) c.present.ensures.value (counted host)) c.count_instances-2.ensures
+    leaf_counted book_now c.in-Some.leaf.now (option_copied c.args.leaf) c.agreement-agreement.result c.unit-2.result.now c.decided_now.result c.present.result.now
+    host (tally c.args.tallies.now.present host) (tally c.count_instances-2.new.totals host)
+    (ap option_copied c.in-Some.is) c.agreement-agreement.ensures c.unit-2.ensures c.present.ensures.value c.decided_now.ensures (counted host)) c.count_instances-2.ensures
