@@ -1,4 +1,4 @@
--- Words. A workunit on a page.
+-- Rule. A workunit on a page.
 use Rattle.std.specs.Prelude.{List}
 use Rattle.sched_book.specs.declared.instance.Instance.{Instance}
 use Rattle.sched_book.specs.declared.rows.Agreement.{Agreement}
