@@ -1,5 +1,6 @@
-use Rattle.std.proofs.Common.{rules, ap, subst, ◌∙◌}
+use Rattle.std.proofs.Common.{rules, sym, ap, subst, ◌∙◌}
 use Rattle.std.specs.Option.{option_copied}
+use Rattle.sched_book.specs.declared.rows.Workunit.{Workunit}
 use Rattle.call_sheet.specs.Sheets.{IsLeafAt}
 use Rattle.table_meaning.specs.Worlds.{app_place}
 use Rattle.table_meaning.specs.declared.rows.StoredRow.TheVariants as stored
@@ -12,8 +13,10 @@ returns-clause-row g c = λ honest kept after apps at.
     let k = c.in-Some.leaf.now in
     unit_changed w after c.args.unit c.in_ok-app.app.place k c.present_status-status.result c.update.result apps
     (subst (λ o. IsLeafAt w after c.args.unit (option_copied o)) c.in-Some.is at)
-    (c.in_ok-app.ensures.place honest kept ∙ ap (app_place w) c.as_str.ensures)
-    c.present_status-status.ensures (λ u b rule of at told. c.update.ensures ∙ ap stored.Unit (c.in_ok-row.ensures u b rule of at told))
+    (c.in_ok-app.ensures.place honest kept ∙ ap (app_place w) c.as_str.ensures ∙ ap (λ (u : Workunit). app_place w u.app) c.unit.ensures)
+    c.present_status-status.ensures (λ u b rule of at told. c.update.ensures ∙ ap stored.Unit (c.in_ok-row.ensures u b rule
+    (of ∙ ap (λ (v : Workunit). record v { class_rule = rule }) (sym c.unit-2.ensures))
+    (at ∙ ap (λ (v : Workunit). app_place u v.app) (sym c.unit-2.ensures)) told))
 
 pub returns-in_default-clause-row : goal.returns-in_default-clause-row
 returns-in_default-clause-row g c = λ honest kept after apps at.
