@@ -33,11 +33,8 @@ LIMITS = f"2,100,100,100,100,{DELAY},1,1000000,1000000,5000"
 
 def create(program: str, folder: str) -> str:
     """Creates tables with enough accounts and workunits, and returns their path."""
-    settings, tables = os.path.join(folder, "worst.toml"), os.path.join(folder, "worst.db")
-    with open(settings, "w") as file:
-        file.writelines(f"{name} = {json.dumps(value)}\n" for name, value in SETTINGS.items())
-    printed = ordered(program, "create", "--settings", settings, "--tables", tables)
-    wants(printed, "created\n", "new tables")
+    tables = os.path.join(folder, "worst.db")
+    serve_life.create(program, tables, SETTINGS)
     users = [f"user{user},User {user}" for user in range(1, HOSTS + FRESH + 1)]
     units = [f"unit-{unit},fold,{LIMITS}" for unit in range(1, MOST_JOBS + 1)]
     imports = {
@@ -46,11 +43,8 @@ def create(program: str, folder: str) -> str:
         "versions": ["app,platform,version_num", "fold,x86_64-pc-linux-gnu,1"],
         "workunits": [",".join(KINDS["workunits"][0]), *units],
     }
-    for kind, lines in imports.items():
-        path = os.path.join(folder, f"{kind}.csv")
-        with open(path, "w") as file:
-            file.write("\n".join([*lines, ""]))
-        ordered(program, "import", "--tables", tables, "--kind", kind, "--batch", "b1", "--file", path)
+    texts = {kind: "\n".join([*lines, ""]) for kind, lines in imports.items()}
+    serve_life.import_texts(program, tables, texts)
     connection = sqlite3.connect(tables)
     connection.execute("PRAGMA wal_checkpoint(TRUNCATE)")  # the database file alone is copied
     connection.close()
