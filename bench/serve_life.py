@@ -96,9 +96,10 @@ def import_users(service: plain_tables.Service, hosts: int) -> None:
     import_rows(service, "accounts", [f"user{user},User {user}" for user in range(1, user_of(hosts) + 1)])
 
 
-def host_rows(host: int) -> list[plain_tables.TableRow]:
-    """Returns the rows that the first call of a host leaves. It asked for nothing."""
-    user, cpid = user_of(host), f"host{host}"
+def host_rows(host: int, user: int | None = None) -> list[plain_tables.TableRow]:
+    """Returns the rows that the first call of a host leaves. It asked for nothing. Each user has ten hosts,
+    if the user is not named."""
+    user, cpid = user_of(host) if user is None else user, f"host{host}"
     body = text(record_of(request(user, cpid, 1)))
     reply = {
         "end_word": "enough",
@@ -461,8 +462,8 @@ def same_rows(ours: str, theirs: str) -> None:
 class Recorder:
     """The connection of tables, which records the statements that are run over it, with their values."""
 
-    def __init__(self, path: str, folder: str) -> None:
-        self.tables = plain_tables.Tables(copied(path, folder), synchronous="OFF")
+    def __init__(self, tables: plain_tables.Tables) -> None:
+        self.tables = tables
         self.ran: list[Ran] = []
         self.connection, self.tables.connection = self.tables.connection, self  # type: ignore[assignment]
 
@@ -471,19 +472,35 @@ class Recorder:
         self.ran.append((statement, values))
         return self.connection.execute(statement, values)
 
-    def ran_by(self, bodies: list[bytes]) -> list[list[Ran]]:
-        """Returns the statements of each of these calls."""
-        service, now = plain_tables.Service(self.tables), int(time.time())
-        each: list[list[Ran]] = []
-        for body in bodies:
-            self.ran = []
-            try:
-                service.scheduler(body, now)
-            except Refused:
-                pass
-            each.append(self.ran)
+    def taken(self) -> list[Ran]:
+        """Returns the statements that were run since the last time."""
+        ran, self.ran = self.ran, []
+        return ran
+
+    def close(self) -> None:
+        """Closes the connection."""
         self.connection.close()
-        return each
+
+
+def ran_by(path: str, folder: str, bodies: list[bytes]) -> list[list[Ran]]:
+    """Returns the statements of each of these calls, over a copy of tables."""
+    recorder = Recorder(plain_tables.Tables(copied(path, folder), synchronous="OFF"))
+    service, now = plain_tables.Service(recorder.tables), int(time.time())
+    each: list[list[Ran]] = []
+    for body in bodies:
+        with contextlib.suppress(Refused):
+            service.scheduler(body, now)
+        each.append(recorder.taken())
+    recorder.close()
+    return each
+
+
+def run_bare(connection: sqlite3.Connection, ran: list[Ran]) -> float:
+    """Runs statements. Returns the processor seconds."""
+    begin = time.process_time()
+    for statement, values in ran:
+        connection.execute(statement, values).fetchall()
+    return time.process_time() - begin
 
 
 class Race:
@@ -500,7 +517,7 @@ class Race:
         twins: Sequence[Sequence[str]] = ((),),
     ) -> None:
         self.program, self.path, self.folder, self.bodies, self.twins = program, path, folder, bodies, twins
-        self.ran, self.bare_seconds = Recorder(path, folder).ran_by(bodies), 0.0
+        self.ran, self.bare_seconds = ran_by(path, folder, bodies), 0.0
 
     def begin(self) -> Self:
         """Copies the tables, and starts the servers."""
@@ -529,11 +546,7 @@ class Race:
                         f"an answer differs\nthe call: {body!r}\nthe program: {one!r}\n"
                         f"the twin: {other!r}"
                     )
-        begin = time.process_time()
-        for call in ran:
-            for statement, values in call:
-                self.connection.execute(statement, values).fetchall()
-        self.bare_seconds += time.process_time() - begin
+        self.bare_seconds += sum(run_bare(self.connection, call) for call in ran)
         self.at += count
         return self
 
@@ -928,11 +941,7 @@ def profile(program: str, folder: str) -> None:
         )
         counts.append(counted(found))
     own, whole, calls = (after - before for before, after in zip(*counts))
-    twin = sum(
-        statement.startswith("SELECT")
-        for ran in Recorder(path, folder).ran_by(bodies)
-        for statement, _ in ran
-    )
+    twin = sum(statement.startswith("SELECT") for ran in ran_by(path, folder, bodies) for statement, _ in ran)
     looked = calls["sqlite::connection::Connection::query_near"]
     print(f"profile: the program runs {looked} look-ups in these calls, the twin {twin}")
     print(f"profile: {own.total() // len(bodies)} instructions per call; their percentages:")

@@ -21,6 +21,11 @@ from served import wants
 SCHEDULER = "POST /scheduler HTTP/1.1"
 OPERATOR = {"x-operator-key": KEY}
 DAY = 86400
+# the names of the jobs that hosts hold, with their deadlines
+HELD = (
+    "SELECT unit.name || '_' || num, deadline FROM instance JOIN unit ON unit.id = unit_id "
+    "WHERE host_id IS NOT NULL AND outcome IS NULL AND lapse = 0"
+)
 
 
 @dataclass(frozen=True)
@@ -117,6 +122,7 @@ class Twinned:
     def open_twin(self) -> None:
         """Opens the tables of the twin."""
         self.tables = plain_tables.Tables(self.theirs, synchronous="OFF")
+        self.deadlines.known = dict(self.tables.connection.execute(HELD))
         self.twin = plain_tables.Service(self.tables)
 
     def end(self) -> None:
