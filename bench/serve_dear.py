@@ -29,7 +29,7 @@ from played import Options, begun, ended, exchange_timed, limit_time
 from serve_life import CREDIT, DELAY, FPOPS, HOUR, Recorder, copied, request
 from serve_worst import FRESH, MOST_JOBS, MOST_REPORTS, SETTINGS
 from served import wants
-from twinned import DAY, TICK, Message, Twinned, call_of, import_of
+from twinned import TICK, Message, Twinned, call_of, import_of
 
 MOST_BODY, MOST_IMPORT, MOST_NAMES = 262_144, 1_048_576, 1024
 INSTANCES = 100  # of a large workunit
@@ -471,7 +471,8 @@ def statement(program: str, tables: str, folder: str) -> None:
     run = begun(program, copied(tables, folder, "ours.db"))
     message = f"GET /hosts/{SMALL.busy_host} HTTP/1.1\r\nx-operator-key: {serve_life.KEY}\r\n\r\n".encode()
     (answer, start, end), seconds = exchange_timed(run, message)
-    wants(answer.count(b"\n"), MANY_RESULTS + 8, "the lines of a statement and its head")
+    lines = answer.partition(b"\r\n\r\n")[2].count(b"\n")
+    wants(lines, MANY_RESULTS + 2, "the lines of a statement")
     what = f"a statement of a host with {MANY_RESULTS} results"
     rows = MANY_RESULTS * (OWN_FIELDS + 2) + 1
     tell(Took(what, rows, seconds * 1e3, None, (end - start) * 1e3))
@@ -535,7 +536,6 @@ def dear(options: Options, folder: str) -> None:
     """Measures the dearest messages."""
     limit_time("dear", 5400)
     large, late, small = (os.path.join(folder, f"{name}.db") for name in ("large", "late", "small"))
-    day = int(time.time()) // DAY
     make_large(options.program, large)
     make_late(large, late)
     make_small(options.program, small)
@@ -549,5 +549,3 @@ def dear(options: Options, folder: str) -> None:
     statement(options.program, small, folder)
     refused(options.program, small, folder)
     GOALS.tell()
-    if int(time.time()) // DAY != day:
-        print("dear: midnight came during the run")
