@@ -9,6 +9,7 @@ end all rows must be equal too.
 """
 import atexit
 import contextlib
+import itertools
 import json
 import os
 import random
@@ -443,18 +444,14 @@ def moments_in(bodies: list[bytes], answers: list[Answered], seen: set[bytes]) -
 
 
 def same_rows(ours: str, theirs: str) -> None:
-    """Ends the run if two files of tables have different rows."""
+    """Ends the run if two files of tables have different rows. It prints the first difference."""
     files = [sqlite3.connect(path) for path in (ours, theirs)]
     for table, (columns, keys) in plain_tables.COLUMNS.items():
         order = ", ".join(columns.split(", ")[:keys])
-        one, other = (
-            file.execute(f"SELECT {columns} FROM {table} ORDER BY {order}").fetchall() for file in files
-        )
-        if one != other:
-            raise SystemExit(
-                f"{table}: rows of the program {set(one) - set(other)!r}, "
-                f"of the twin {set(other) - set(one)!r}"
-            )
+        rows = (file.execute(f"SELECT {columns} FROM {table} ORDER BY {order}") for file in files)
+        for one, other in itertools.zip_longest(*rows):
+            if one != other:
+                raise SystemExit(f"{table}: a row of the program {one!r}, of the twin {other!r}")
     for file in files:
         file.close()
 
