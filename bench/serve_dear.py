@@ -225,9 +225,12 @@ def small_calls(program: str, tables: str, folder: str, figures: Figures) -> Non
         wants(len(reply["results"]), ASKED, what)
         figures.tell_call(took)
     host, user = SMALL.loser, SMALL.user_of(SMALL.loser)
-    what = f"a host has lost {MOST_JOBS} jobs"
-    took, reply = group.ask(what, MOST_JOBS * small + 1, host, user, other_results=[])
-    wants(len(reply["results"]), MOST_JOBS, what)
+    own, rows = [f"unit-{unit}_0" for unit in SMALL.lost], MOST_JOBS * small + 1
+    took, reply = group.ask(f"a host lists its {MOST_JOBS} jobs", rows, host, user, other_results=own)
+    wants(reply["results"], [], took.what)
+    figures.tell_call(took)
+    took, reply = group.ask(f"a host has lost {MOST_JOBS} jobs", rows, host, user, other_results=[])
+    wants(len(reply["results"]), MOST_JOBS, took.what)
     figures.tell_call(took)
     host, user = SMALL.second, SMALL.user_of(SMALL.second)
     what = f"{MOST_REPORTS} reports, each of which decides its workunit"
