@@ -53,7 +53,8 @@ NEVER = 50  # the outputs of one workunit of fifty never agree
 MARKED = 10  # one workunit of ten keeps to a class
 FAULTY = 20  # one host of twenty reports mostly errors
 WINDOWS = 4  # one host of four has the other platform
-GONE, FORGETS, STALE, AGAIN = 0.003, 0.003, 0.01, 0.5  # chances at a call
+FORGETS, STALE, AGAIN = 0.003, 0.01, 0.5  # chances at a call
+GONE = 0.03  # and, divided by the workunits for each host, that it never calls again
 HURRY, WAIT = 0.02, 5.0  # the pace of hosts with a job that is due soon, and of those that found no work
 MOST_LOG = 16 * 2**20  # the log stays below this, in bytes
 MOST_GROWTH = 16 * 1024  # the memory of a server grows by less after its opening, in kilobytes
@@ -165,7 +166,7 @@ class Whole(Life):
         self.latest_short = 0  # the latest deadline of a short job
         self.step, self.log, self.stills = Step(), 0, list[float]()
         # the hosts with the times of their next calls; a time is the number of a call
-        self.period, self.host = options.hosts, Host(1)
+        self.period, self.host, self.gone = options.hosts, Host(1), GONE * options.hosts / self.units
         self.turns = [
             (self.pick.random() * self.units, number, Host(number)) for number in range(1, options.hosts + 1)
         ]
@@ -215,7 +216,7 @@ class Whole(Life):
                 host.jobs = []
             asked = self.pick.choice([0, *[1] * 8, HOUR + 1])
             self.call(host, asked, kept=0.15, lost=0.1, silent=0.05)
-        if self.pick.random() < GONE:
+        if self.pick.random() < self.gone:
             self.seen["hosts that went away"] += 1
             return
         gap = self.period * self.pick.expovariate(1) * host.pace(self.pick.random())
