@@ -29,8 +29,9 @@ DEADLINE = re.compile(rb'"report_deadline":(\d+)')
 
 @dataclass
 class Options:
-    """What the command line says. `calls` is how many calls the case `row` makes, and the last three say how
-    large the project of the case `whole` is, and what decides its calls."""
+    """What the command line says. `calls` is how many calls the case `row` makes. The next three say how large
+    the project of the case `whole` is, and what decides its calls. `part` divides the sizes of the case
+    `dear`."""
 
     program: str
     reference: str | None
@@ -38,6 +39,7 @@ class Options:
     workunits: int
     hosts: int
     seed: int
+    part: int
 
     def programs(self) -> list[str]:
         """Returns the program, and the reference if there is one."""

@@ -19,24 +19,11 @@ from typing import Any
 
 import plain_tables
 import serve_life
-from dear_tables import (
-    INSTANCES,
-    LARGE_HOSTS,
-    LATE,
-    LATE_EACH,
-    LIMITS,
-    MANY_HOSTS,
-    MANY_RESULTS,
-    SHAPES,
-    SMALL,
-    make_large,
-    make_late,
-    make_small,
-)
+from dear_tables import EACH, INSTANCES, LIMITS, Large, Sizes, Small
 from plain_formats import KINDS
 from played import Options, begun, ended, exchange_timed, limit_time
 from serve_life import CREDIT, DELAY, HOUR, Recorder, copied, request
-from serve_worst import FRESH, MOST_JOBS, MOST_REPORTS
+from serve_worst import FRESH
 from served import wants
 from twinned import TICK, Message, Twinned, call_of, import_of
 
@@ -108,10 +95,10 @@ class Figures:
         goal = f"a call takes at most {MOST_RATIO:.0f} times a fresh one for each hundred rows"
         self.check(goal, took.what, took.ours <= most)
 
-    def tell_tick(self, took: Took) -> None:
-        """Prints what a tick took, and checks its goals."""
+    def tell_tick(self, took: Took, late: int) -> None:
+        """Prints what a tick took that found late jobs, and checks its goals."""
         self.tell_other(took)
-        each = took.ours * 1000 / LATE
+        each = took.ours * 1000 / late
         print(f"dear: that is {each:.0f} microseconds for each late instance", flush=True)
         goal = f"a tick takes at most {MOST_LATE:.0f} microseconds an instance"
         self.check(goal, took.what, each <= MOST_LATE)
@@ -166,77 +153,76 @@ def report_of(name: str, output: str) -> dict[str, Any]:
     return {"name": name, "exit_status": 0, "output": output}
 
 
-def large_calls(program: str, tables: str, folder: str, figures: Figures) -> None:
+def large_calls(program: str, large: Large, tables: str, folder: str, figures: Figures) -> None:
     """Measures calls about large workunits."""
-    each = OWN_ROWS + INSTANCES
+    each, jobs = OWN_ROWS + INSTANCES, large.sizes.jobs
     group = Group(program, tables, folder)
-    took = [group.fresh(LARGE_HOSTS + number) for number in range(1, FRESH + 1)]
+    took = [group.fresh(large.hosts + number) for number in range(1, FRESH + 1)]
     figures.fresh = statistics.median(one.ours for one in took)
     print(f"dear: a fresh host's call, without a job: {figures.fresh:.2f} milliseconds", flush=True)
-    for shape in SHAPES:
+    for shape in large.shapes:
         (name,) = shape.names(1)
         what = f"a report that differs from {INSTANCES - 1} others, {shape.what}"
         results = [report_of(name, shape.output(shape.holder))]
         one, _ = group.ask(what, each + 1, shape.holder, shape.holder, results=results)
         figures.tell_call(one)
     group.end()
-    for shape in SHAPES:
+    for shape in large.shapes:
         group, host = Group(program, tables, folder), shape.holder
-        group.fresh(LARGE_HOSTS + 1)
-        count = min(shape.count, MOST_REPORTS)
-        results = [report_of(name, shape.output(host)) for name in shape.names(count)]
-        what = f"{count} such reports in one call, {shape.what}"
-        one, reply = group.ask(what, each * count + 1, host, host, results=results)
-        wants(len(reply["result_ack"]), count, what)
+        group.fresh(large.hosts + 1)
+        names = shape.names(large.sizes.reports)
+        results = [report_of(name, shape.output(host)) for name in names]
+        what = f"{len(names)} such reports in one call, {shape.what}"
+        one, reply = group.ask(what, each * len(names) + 1, host, host, results=results)
+        wants(reply["result_ack"], names, what)
         figures.tell_call(one)
         group.end()
-    shape = SHAPES[0]
-    own, others = shape.names(MOST_JOBS), shape.names(MOST_NAMES - MOST_JOBS, 0)
-    for what, listed in (
-        (f"a host lists {MOST_NAMES} names, {MOST_JOBS} of them its jobs of such workunits", own + others),
-        (f"a host has lost {MOST_JOBS} jobs of such workunits", []),
-    ):
+    shape = large.shapes[0]
+    own, others = shape.names(jobs), shape.names(MOST_NAMES - jobs, 0)
+    listed = f"a host lists {len(own + others)} names, {jobs} of them its jobs of such workunits"
+    cases = {listed: own + others, f"a host has lost {jobs} jobs of such workunits": list[str]()}
+    for what, names in cases.items():
         group = Group(program, tables, folder)
-        group.fresh(LARGE_HOSTS + 1)
-        one, _ = group.ask(what, each * MOST_JOBS + 1, shape.holder, shape.holder, other_results=listed)
+        group.fresh(large.hosts + 1)
+        one, _ = group.ask(what, each * jobs + 1, shape.holder, shape.holder, other_results=names)
         figures.tell_call(one)
         group.end()
 
 
-def late_tick(program: str, tables: str, folder: str, figures: Figures, what: str, rows: int) -> None:
+def late_tick(
+    program: str, tables: str, folder: str, figures: Figures, late: int, what: str, rows: int
+) -> None:
     """Measures a tick that finds late jobs."""
     group = Group(program, tables, folder)
-    took, content = group.send(f"a tick with {LATE} late jobs of {what}", rows, TICK)
-    wants(json.loads(content), {"lapsed": LATE}, "a tick")
-    figures.tell_tick(took)
+    took, content = group.send(f"a tick with {late} late jobs of {what}", rows, TICK)
+    wants(json.loads(content), {"lapsed": late}, "a tick")
+    figures.tell_tick(took, late)
     group.end()
 
 
-def small_calls(program: str, tables: str, folder: str, figures: Figures) -> None:
+def small_calls(program: str, small: Small, tables: str, folder: str, figures: Figures) -> None:
     """Measures calls about small workunits."""
-    small = OWN_ROWS + 2
-    group = Group(program, tables, folder)
-    users = itertools.count(SMALL.user_of(SMALL.second) + 1)
-    group.fresh(next(users))
-    host, user = SMALL.many[0], SMALL.user_of(SMALL.many[0])
+    group, each = Group(program, tables, folder), OWN_ROWS + 2
+    group.fresh(next(small.free_users()))
+    host, user = small.many[0], small.user_of(small.many[0])
     for when in ("", ", once more"):
-        what = f"a user with {MANY_HOSTS} hosts asks for {ASKED} jobs{when}"
-        took, reply = group.ask(what, ASKED * small + 1, host, user, work_req_seconds=ASKED * HOUR)
+        what = f"a user with {len(small.many)} hosts asks for {ASKED} jobs{when}"
+        took, reply = group.ask(what, ASKED * each + 1, host, user, work_req_seconds=ASKED * HOUR)
         wants(len(reply["results"]), ASKED, what)
         figures.tell_call(took)
-    host, user = SMALL.loser, SMALL.user_of(SMALL.loser)
-    own, rows = [f"unit-{unit}_0" for unit in SMALL.lost], MOST_JOBS * small + 1
-    took, reply = group.ask(f"a host lists its {MOST_JOBS} jobs", rows, host, user, other_results=own)
+    host, user, jobs = small.loser, small.user_of(small.loser), len(small.lost)
+    own, rows = [f"unit-{unit}_0" for unit in small.lost], jobs * each + 1
+    took, reply = group.ask(f"a host lists its {jobs} jobs", rows, host, user, other_results=own)
     wants(reply["results"], [], took.what)
     figures.tell_call(took)
-    took, reply = group.ask(f"a host has lost {MOST_JOBS} jobs", rows, host, user, other_results=[])
-    wants(len(reply["results"]), MOST_JOBS, took.what)
+    took, reply = group.ask(f"a host has lost {jobs} jobs", rows, host, user, other_results=[])
+    wants(len(reply["results"]), jobs, took.what)
     figures.tell_call(took)
-    host, user = SMALL.second, SMALL.user_of(SMALL.second)
-    what = f"{MOST_REPORTS} reports, each of which decides its workunit"
-    results = [report_of(f"unit-{unit}_1", "42") for unit in SMALL.agreed]
-    took, reply = group.ask(what, MOST_REPORTS * (small + 1) + 1, host, user, results=results)
-    wants(reply["host_total_credit"], MOST_REPORTS * CREDIT, what)
+    host, user, reports = small.second, small.user_of(small.second), len(small.agreed)
+    what = f"{reports} reports, each of which decides its workunit"
+    results = [report_of(f"unit-{unit}_1", "42") for unit in small.agreed]
+    took, reply = group.ask(what, reports * (each + 1) + 1, host, user, results=results)
+    wants(reply["host_total_credit"], reports * CREDIT, what)
     figures.tell_call(took)
     group.end()
 
@@ -263,11 +249,11 @@ def import_text(rows: Iterator[str]) -> tuple[str, int]:
     return text + "\n" * (MOST_IMPORT - len(text)), len(lines) - 1
 
 
-def imports(program: str, tables: str, folder: str, figures: Figures) -> None:
+def imports(program: str, small: Small, tables: str, folder: str, figures: Figures) -> None:
     """Measures imports, and the first fresh call after each."""
     shortest = (f"{name},d,2,2,0,2,0,1,1,0,0,0" for name in shortest_names())
     usual = (f"further-{number},dock,2,2,3,8,6,{LIMITS}" for number in itertools.count(1))
-    users = itertools.count(SMALL.user_of(SMALL.second) + 1)
+    users = small.free_users()
     for which, rows in (("usual", usual), ("the shortest", shortest)):
         group = Group(program, tables, folder)
         group.fresh(next(users))
@@ -284,15 +270,15 @@ def imports(program: str, tables: str, folder: str, figures: Figures) -> None:
 # ---- Statements, and bodies
 
 
-def statement(program: str, tables: str, folder: str, figures: Figures) -> None:
+def statement(program: str, small: Small, tables: str, folder: str, figures: Figures) -> None:
     """Measures a statement. The twin has none."""
     run = begun(program, copied(tables, folder, "ours.db"))
-    message = f"GET /hosts/{SMALL.busy_host} HTTP/1.1\r\nx-operator-key: {serve_life.KEY}\r\n\r\n".encode()
+    message = f"GET /hosts/{small.busy_host} HTTP/1.1\r\nx-operator-key: {serve_life.KEY}\r\n\r\n".encode()
     (answer, start, end), seconds = exchange_timed(run, message)
     lines = answer.partition(b"\r\n\r\n")[2].count(b"\n")
-    wants(lines, MANY_RESULTS + 2, "the lines of a statement")
-    what = f"a statement of a host with {MANY_RESULTS} results"
-    rows = MANY_RESULTS * (OWN_ROWS + 2) + 1
+    results = small.sizes.results
+    wants(lines, results + 2, "the lines of a statement")
+    what, rows = f"a statement of a host with {results} results", results * (OWN_ROWS + 2) + 1
     figures.tell_other(Took(what, rows, seconds * 1e3, None, (end - start) * 1e3))
     ended(run)
 
@@ -353,19 +339,23 @@ def refused(program: str, tables: str, folder: str, figures: Figures) -> None:
 
 def dear(options: Options, folder: str) -> None:
     """Measures the dearest messages."""
-    limit_time("dear", 5400)
-    large, late, small = (os.path.join(folder, f"{name}.db") for name in ("large", "late", "small"))
-    make_large(options.program, large)
-    make_late(large, late)
-    make_small(options.program, small)
-    program, figures = options.program, Figures()
-    large_calls(program, large, folder, figures)
-    small_calls(program, small, folder, figures)
-    rows = LATE // LATE_EACH * (OWN_ROWS + INSTANCES) + LATE_EACH
-    late_tick(program, late, folder, figures, "large workunits", rows)
-    rows = LATE * (OWN_ROWS + 2) + len(SMALL.late_hosts)
-    late_tick(program, small, folder, figures, "small workunits", rows)
-    imports(program, small, folder, figures)
-    statement(program, small, folder, figures)
-    refused(program, small, folder, figures)
+    limit_time("dear", 7200)
+    large_path, late_path, small_path = (
+        os.path.join(folder, f"{name}.db") for name in ("large", "late", "small")
+    )
+    program, figures, sizes = options.program, Figures(), Sizes().part(options.part)
+    large, small = Large(sizes), Small(sizes)
+    large.make(program, large_path)
+    large.make_late(large_path, late_path)
+    small.make(program, small_path)
+    large_calls(program, large, large_path, folder, figures)
+    small_calls(program, small, small_path, folder, figures)
+    units, late = large.late_units(), len(small.late)
+    rows = units * (OWN_ROWS + INSTANCES) + EACH
+    late_tick(program, late_path, folder, figures, units * EACH, "large workunits", rows)
+    rows = late * (OWN_ROWS + 2) + len(small.late_hosts)
+    late_tick(program, small_path, folder, figures, late, "small workunits", rows)
+    imports(program, small, small_path, folder, figures)
+    statement(program, small, small_path, folder, figures)
+    refused(program, small_path, folder, figures)
     figures.tell_goals()

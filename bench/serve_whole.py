@@ -433,7 +433,7 @@ def live_on(life: Whole, folder: str, project: str, settings: plain.Settings) ->
 def whole(options: Options, folder: str) -> None:
     """Plays the whole life of a project, and begins its next file."""
     units, hosts = options.workunits, options.hosts
-    limit_time("whole", 900 + units // 5)
+    limit_time("whole", 3600 + units // 5)
     wants(hosts >= LEAST_HOSTS and units >= hosts, True, f"{LEAST_HOSTS} hosts, and as many workunits")
     settings = serve_life.SETTINGS | {"daily_result_quota": max(8, 4 * units // hosts)}
     project, theirs = os.path.join(folder, "project"), os.path.join(folder, "twin.db")
