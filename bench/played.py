@@ -29,8 +29,8 @@ DEADLINE = re.compile(rb'"report_deadline":(\d+)')
 
 @dataclass
 class Options:
-    """What the command line says. `calls` is how many calls the case `row` makes. The next three say how large
-    the project of the case `whole` is, and what decides its calls. `part` divides the sizes of the case
+    """What the command line says. `calls` is how many calls the case `row` makes. The next three say how
+    large the project of the case `whole` is, and what decides its calls. `part` divides the sizes of the case
     `dear`."""
 
     program: str
