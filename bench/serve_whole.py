@@ -42,6 +42,7 @@ STEPS = 20  # how many lines are printed
 # what happens how often: the number of workunits divided by this is the number of calls between two of them
 RESTARTS, COPIES, TICKS, LOOKS = 2, 20, 40, 400
 LEAST_COPIES, LEAST_TICKS = 500, 400  # but at least so many: a tick waits until deadlines have passed
+CALLS_EACH = 5  # at least so many calls of each host come between two restarts
 FIRST, FURTHER_PART = (
     10,
     100,
@@ -329,7 +330,7 @@ class Whole(Life):
                     self.restart(int(time.time()) + DELAY + 1)
             if self.every(COPIES, LEAST_COPIES):
                 self.both.same_first_row(self.copy(is_checked=True), COUNTED, "what a copy has")
-            if self.every(RESTARTS):
+            if self.every(RESTARTS, CALLS_EACH * self.period):
                 self.restart(self.began + DELAY)
 
     def tell(self, number: int) -> None:
