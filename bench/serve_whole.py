@@ -43,10 +43,7 @@ STEPS = 20  # how many lines are printed
 RESTARTS, COPIES, TICKS, LOOKS = 2, 20, 40, 400
 LEAST_COPIES, LEAST_TICKS = 500, 400  # but at least so many: a tick waits until deadlines have passed
 CALLS_EACH = 5  # at least so many calls of each host come between two restarts
-FIRST, FURTHER_PART = (
-    10,
-    100,
-)  # the part of the workunits that is imported at first, and each time that few wait
+FIRST, MORE = 10, 100  # a tenth of the workunits is imported at first, and a hundredth when few wait
 BATCH = 10_000  # how many workunits an import has at most
 LEAST_HOSTS = 200  # each user has ten, and a workunit may need instances of eight users
 SHORT, SHORTS = 1, 20  # the delay bound, in seconds, of one workunit of twenty
@@ -305,8 +302,8 @@ class Whole(Life):
         """Measures, and imports more workunits if few wait."""
         self.measure()
         (self.decided,) = self.both.first_row(DECIDED)
-        if self.imported < self.units and self.both.first_row(WAITING)[0] < self.units // FURTHER_PART:
-            self.import_more(FURTHER_PART)
+        if self.imported < self.units and self.both.first_row(WAITING)[0] < self.units // MORE:
+            self.import_more(MORE)
 
     def live(self) -> None:
         """Lives until every workunit is decided, and prints a line for each step."""
