@@ -343,7 +343,7 @@ class Whole(Life):
         reset_peak(self.both.run)
 
     def tell_all(self) -> None:
-        """Prints what happened in all, and checks what must be bounded."""
+        """Prints what happened in all."""
         ends = self.both.first_row
         kinds = [ends(f"SELECT count(*) FROM unit WHERE status = {kind}")[0] for kind in range(len(NAMES))]
         seen = ", ".join(f"{many} {what}" for what, many in sorted(self.seen.items()))
@@ -357,6 +357,9 @@ class Whole(Life):
             f"milliseconds, at most {stills[-1]:.0f}"
         )
         print(f"whole: the digest is {self.both.digest.hexdigest()[:16]}", flush=True)
+
+    def check_bounds(self) -> None:
+        """Ends the run if the log or the memory grew too much."""
         wants(self.log < MOST_LOG, True, f"that the log stays below {MOST_LOG} bytes")
         wants(self.growth < MOST_GROWTH, True, f"that the memory grows by less than {MOST_GROWTH} kB")
 
@@ -454,3 +457,4 @@ def whole(options: Options, folder: str) -> None:
     life.end()
     print("whole: all rows are the twin's", flush=True)
     live_on(life, folder, project, settings)
+    life.check_bounds()
