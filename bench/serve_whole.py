@@ -33,8 +33,8 @@ import serve_life
 from plain_formats import FURTHER, KINDS
 from played import Options, limit_time, reset_peak
 from serve_life import CREDIT, DELAY, FPOPS, HOUR, Client, Life, Reply
-from served import ordered, peak, wants
-from twinned import TICK, Twinned, call_of, import_of
+from served import memory_of, ordered, peak, wants
+from twinned import TICK, Message, Twinned, call_of, import_of
 
 TOP = Path(__file__).resolve().parent.parent
 PYTHON = "/usr/bin/python3"  # Debian's: the tools need its packages
@@ -55,7 +55,7 @@ FORGETS, STALE, AGAIN = 0.003, 0.01, 0.5  # chances at a call
 GONE = 0.03  # and, divided by the workunits for each host, that it never calls again
 HURRY, WAIT = 0.02, 5.0  # the pace of hosts with a job that is due soon, and of those that found no work
 MOST_LOG = 16 * 2**20  # the log stays below this, in bytes
-MOST_GROWTH = 16 * 1024  # the memory of a server grows by less after its opening, in kilobytes
+MOST_GROWTH = 16 * 1024  # the memory of a server grows by less in its calls, in kilobytes
 # application, min_quorum, target_nresults, max_error_results, max_total_results, max_success_results
 LIMITS = [
     "dock,1,1,2,4,3",
@@ -160,7 +160,10 @@ class Whole(Life):
     def __init__(self, options: Options, both: Twinned, folder: str) -> None:
         self.pick, self.seen = random.Random(options.seed), Counter()
         self.units, self.both, self.folder = options.workunits, both, folder
-        self.calls = self.imported = self.decided = self.growth = self.open_peak = 0
+        self.calls = self.imported = self.decided = 0
+        self.growth = (
+            self.opened
+        ) = self.open_peak = self.order_peak = 0  # of the server's memory, in kilobytes
         self.latest_short = 0  # the latest deadline of a short job
         self.step, self.log, self.stills = Step(), 0, list[float]()
         # the hosts with the times of their next calls; a time is the number of a call
@@ -222,20 +225,35 @@ class Whole(Life):
 
     # ---- What the operator does
 
+    def order(self, message: Message) -> Reply:
+        """Sends an import or a tick, and returns its answer. The memory that it leaves does not count as
+        growth by calls."""
+        self.measure()
+        heard, run = self.both.send(message), self.both.run
+        reached = peak(run.server)
+        self.step.peak, self.order_peak = max(self.step.peak, reached), max(self.order_peak, reached)
+        reset_peak(run)
+        self.opened = max(self.opened, memory_of(run.server, "VmRSS"))
+        reply = heard.reply()
+        if reply is None:
+            raise SystemExit(f"refused: {message!r}: {heard.content()!r}")
+        return reply
+
     def import_more(self, part: int) -> None:
         """Imports the next part of the workunits."""
         last = min(self.units, self.imported + -(-self.units // part))
         while self.imported < last:
             first, self.imported = self.imported + 1, min(last, self.imported + BATCH)
-            heard = self.both.send(import_of("workunits", f"b{first}", workunits_text(first, self.imported)))
-            wants(json.loads(heard.content())["rows"], self.imported - first + 1, "the rows of an import")
+            text = workunits_text(first, self.imported)
+            reply = self.order(import_of("workunits", f"b{first}", text))
+            wants(reply["rows"], self.imported - first + 1, "the rows of an import")
             self.seen["imports of workunits"] += 1
 
     def tick(self) -> None:
         """Waits until the deadlines of all short jobs have passed, and sends a tick."""
         time.sleep(max(0.0, self.latest_short + 1.01 - time.time()))
         self.seen["ticks"] += 1
-        self.seen["jobs late at ticks"] += json.loads(self.both.send(TICK).content())["lapsed"]
+        self.seen["jobs late at ticks"] += self.order(TICK)["lapsed"]
 
     def copy(self, is_checked: bool) -> str:
         """Takes a copy of the program's tables, by the tool, and returns its path. The program opens it, too,
@@ -352,10 +370,11 @@ class Whole(Life):
         stills = sorted(self.stills) or [0.0]
         print(
             f"whole: all answers are the twin's; the log reaches {self.log / 1e6:.1f} MB; the memory grows "
-            f"by at most {self.growth / 1024:.1f} MB after an opening, whose peak is "
-            f"{self.open_peak / 1024:.1f}; a copy stops serving for {stills[len(stills) // 2]:.0f} "
-            f"milliseconds, at most {stills[-1]:.0f}"
+            f"by at most {self.growth / 1024:.1f} MB in calls; its peak is {self.open_peak / 1024:.1f} MB in an "
+            f"opening, and {self.order_peak / 1024:.1f} in an import or a tick"
         )
+        middle, longest = stills[len(stills) // 2], stills[-1]
+        print(f"whole: a copy stops serving for {middle:.0f} milliseconds, at most {longest:.0f}")
         print(f"whole: the digest is {self.both.digest.hexdigest()[:16]}", flush=True)
 
     def check_bounds(self) -> None:
