@@ -370,8 +370,8 @@ class Whole(Life):
         stills = sorted(self.stills) or [0.0]
         print(
             f"whole: all answers are the twin's; the log reaches {self.log / 1e6:.1f} MB; the memory grows "
-            f"by at most {self.growth / 1024:.1f} MB in calls; its peak is {self.open_peak / 1024:.1f} MB in an "
-            f"opening, and {self.order_peak / 1024:.1f} in an import or a tick"
+            f"by at most {self.growth / 1024:.1f} MB in calls; its peak is {self.open_peak / 1024:.1f} MB in "
+            f"an opening, and {self.order_peak / 1024:.1f} in an import or a tick"
         )
         middle, longest = stills[len(stills) // 2], stills[-1]
         print(f"whole: a copy stops serving for {middle:.0f} milliseconds, at most {longest:.0f}")
