@@ -172,11 +172,13 @@ def same(agreement: str, one: Instance, other: Instance) -> bool:
 
 def canonical(agreement: str, unit: Unit, good: list[Instance]) -> Instance | None:
     """Returns the canonical result: the first report with enough votes in the shortest front that has one."""
-    enough = unit.min_quorum // 2 + 1
-    for size in range(unit.min_quorum, len(good) + 1):
-        for one in good[:size]:
-            if sum(same(agreement, one, other) for other in good[:size]) >= enough:
-                return one
+    enough, votes = unit.min_quorum // 2 + 1, list[int]()
+    for size, last in enumerate(good, 1):
+        near = [same(agreement, one, last) for one in good[:size]]  # the last agrees with itself
+        votes = [many + vote for many, vote in zip([*votes, 0], near)]
+        votes[-1] = sum(near)
+        if size >= unit.min_quorum and max(votes) >= enough:
+            return next(one for one, many in zip(good, votes) if many >= enough)
     return None
 
 

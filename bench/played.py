@@ -18,22 +18,28 @@ from types import FrameType
 from typing import Any, NoReturn
 
 import serve_life
+from serve_life import Answered
 from served import free_port, processor_seconds, started, wants
 
 OPENING = 900  # how many seconds an opening may take
 ANSWER = 120  # how many seconds an answer may take
 MOST_COUNT = 1_000_000  # how many connections a server takes
 DEADLINE = re.compile(rb'"report_deadline":(\d+)')
-Answered = tuple[bytes, float, float]  # an answer, and the seconds before and after the call
 
 
 @dataclass
 class Options:
-    """What the command line says. `calls` is how many calls the case `row` makes."""
+    """What the command line says. `calls` is how many calls the case `row` makes. The next three say how
+    large the project of the case `whole` is, and what decides its calls. `part` divides the sizes of the case
+    `dear`."""
 
     program: str
     reference: str | None
     calls: int
+    workunits: int
+    hosts: int
+    seed: int
+    part: int
 
     def programs(self) -> list[str]:
         """Returns the program, and the reference if there is one."""
@@ -84,6 +90,12 @@ def ended(run: serve_life.Run) -> None:
     fine, coarse = processor_seconds(run.server), stat_seconds(run.server)
     wants(abs(fine - coarse) <= 0.05 + coarse / 100, True, f"that {fine} and {coarse} seconds agree")
     run.end()
+
+
+def reset_peak(run: serve_life.Run) -> None:
+    """Resets the peak memory of a server."""
+    with open(f"/proc/{run.server.pid}/clear_refs", "w") as file:
+        file.write("5")
 
 
 def message_of(body: bytes) -> bytes:

@@ -12,10 +12,11 @@ from played import (
     exchange,
     limit_time,
     message_of,
+    reset_peak,
     same_answers,
     wait_until_idle,
 )
-from serve_life import LEAST, MOST, SIZES, Life, copied, made
+from serve_life import LEAST, MOST, SIZES, Life, Reply, copied, made
 from served import peak, processor_seconds, wants
 
 ROUNDS = 10
@@ -154,12 +155,6 @@ def compare(options: Options, folder: str) -> None:
 # ---- The case row
 
 
-def reset_peak(run: serve_life.Run) -> None:
-    """Resets the peak memory of a server."""
-    with open(f"/proc/{run.server.pid}/clear_refs", "w") as file:
-        file.write("5")
-
-
 class Row(Played):
     """Calls in a row. After each hundred the size of the log is read."""
 
@@ -170,7 +165,7 @@ class Row(Played):
         # after each tenth: its processor seconds, the peak memory and the largest log so far
         self.windows: list[tuple[float, int, int]] = []
 
-    def send(self, body: bytes) -> dict | None:
+    def send(self, body: bytes) -> Reply | None:
         """Makes one more call. After each tenth of all it measures the server."""
         reply = super().send(body)
         self.made += 1

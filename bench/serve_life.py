@@ -9,6 +9,7 @@ end all rows must be equal too.
 """
 import atexit
 import contextlib
+import itertools
 import json
 import os
 import random
@@ -23,11 +24,13 @@ import tempfile
 import time
 import zlib
 from collections import Counter
+from collections.abc import Mapping, Sequence
+from typing import Any, Self
 
 import plain
 import plain_tables
 import project
-from plain_formats import Refused, record_of, text
+from plain_formats import KINDS, Refused, record_of, text
 from served import free_port, memory_of, ordered, peak, processor_seconds, started, wants
 
 TWIN = os.path.join(os.path.dirname(os.path.abspath(__file__)), "plain_tables.py")
@@ -50,22 +53,27 @@ FPOPS, HOUR, DELAY, CREDIT = 10**9, 3600, 604_800, 5000
 HEAD = b"POST /scheduler HTTP/1.1\r\nhost: 127.0.0.1\r\nx-moment: %010d\r\ncontent-length: %d\r\n\r\n%b"
 TICK = f"POST /tick HTTP/1.1\r\nx-operator-key: {KEY}\r\n\r\n".encode()
 MADE = tempfile.TemporaryDirectory()  # the large tables, which several cases use
+Reply = dict[str, Any]
+Answered = tuple[bytes, float, float]  # an answer, and the seconds before and after the call
+Ran = tuple[str, Sequence[Any]]  # a statement that was run, and its values
+Rates = tuple[float, float]  # calls per second by the clock, and of the server's processor time
 
 
 # ---- Tables of a project
 
 
-def hosts_of(units):
-    """Returns how many hosts there are for a number of workunits: half as many, less 1 in 100 still to come."""
+def hosts_of(units: int) -> int:
+    """Returns how many hosts there are for a number of workunits: half as many, less 1 in 100 still to
+    come."""
     return units // 2 - units // 200
 
 
-def user_of(host):
+def user_of(host: int) -> int:
     """Returns the user of a host. Each user has ten hosts."""
     return (host - 1) // 10 + 1
 
 
-def request(user, cpid, seqno, **more):
+def request(user: int, cpid: str, seqno: int, **more: Any) -> bytes:
     """Returns the body of a call."""
     fields = {
         "authenticator": f"user{user}",
@@ -77,21 +85,22 @@ def request(user, cpid, seqno, **more):
     return json.dumps(fields, separators=(",", ":")).encode()
 
 
-def import_rows(service, kind, rows):
+def import_rows(service: plain_tables.Service, kind: str, rows: list[str]) -> None:
     """Imports rows, ten thousand in a batch."""
-    header = ",".join(plain_tables.KINDS[kind][0])
+    header = ",".join(KINDS[kind][0])
     for first in range(0, len(rows), 10_000):
         service.imported(kind, f"b{first}", "\n".join([header, *rows[first : first + 10_000], ""]))
 
 
-def import_users(service, hosts):
+def import_users(service: plain_tables.Service, hosts: int) -> None:
     """Imports the users of a number of hosts."""
     import_rows(service, "accounts", [f"user{user},User {user}" for user in range(1, user_of(hosts) + 1)])
 
 
-def host_rows(host):
-    """Returns the rows that the first call of a host leaves. It asked for nothing."""
-    user, cpid = user_of(host), f"host{host}"
+def host_rows(host: int, user: int | None = None) -> list[plain_tables.TableRow]:
+    """Returns the rows that the first call of a host leaves. It asked for nothing. Each user has ten hosts,
+    if the user is not named."""
+    user, cpid = user_of(host) if user is None else user, f"host{host}"
     body = text(record_of(request(user, cpid, 1)))
     reply = {
         "end_word": "enough",
@@ -120,22 +129,30 @@ def host_rows(host):
     return [("host", row), ("kept4", (host, 0, 1, body, text(reply)))]
 
 
-def settings_file():
+def settings_file(settings: Mapping[str, Any] = SETTINGS) -> str:
     """Writes a file of settings and returns its path."""
     path = os.path.join(MADE.name, "settings.toml")
     with open(path, "w") as file:
-        file.writelines(f"{name} = {json.dumps(value)}\n" for name, value in SETTINGS.items())
+        file.writelines(f"{name} = {json.dumps(value)}\n" for name, value in settings.items())
     return path
 
 
-def create(program, path):
+def create(program: str, path: str, settings: Mapping[str, Any] = SETTINGS) -> None:
     """Creates new tables in a file with the program."""
-    wants(
-        ordered(program, "create", "--settings", settings_file(), "--tables", path), "created\n", "new tables"
-    )
+    output = ordered(program, "create", "--settings", settings_file(settings), "--tables", path)
+    wants(output, "created\n", "new tables")
 
 
-def made(program, units):
+def import_texts(program: str, path: str, texts: Mapping[str, str]) -> None:
+    """Imports a text of each kind into the tables of a file, by the command of the program."""
+    file = os.path.join(MADE.name, "import.csv")
+    for kind, lines in texts.items():
+        with open(file, "w") as imported:
+            imported.write(lines)
+        ordered(program, "import", "--tables", path, "--kind", kind, "--batch", "b1", "--file", file)
+
+
+def made(program: str, units: int) -> str:
     """Makes tables with a number of workunits, none of which was given out, and with hosts that called once.
     Returns their path."""
     path = os.path.join(MADE.name, f"{zlib.crc32(os.path.realpath(program).encode())}.{units}.db")
@@ -161,7 +178,7 @@ def made(program, units):
     return path
 
 
-def made_past(program):
+def made_past(program: str) -> str:
     """Makes the largest tables with a past, and returns their path. Host 1 has PAST earlier results, of
     workunits that it and others have done. Others have done PAST more. PAST further workunits are open: host
     11 had one instance of each, and the other one waits. All given jobs were reported, and their deadlines
@@ -174,8 +191,8 @@ def made_past(program):
     connection = sqlite3.connect(path, isolation_level=None)
     connection.execute("BEGIN")
     given = (
-        "UPDATE instance SET host_id = ?, sent = ?, deadline = ?, outcome = 1, output = '42', place = ?, queued = 0 "
-        "WHERE unit_id = ? AND num = ?"
+        "UPDATE instance SET host_id = ?, sent = ?, deadline = ?, outcome = 1, output = '42', place = ?, "
+        "queued = 0 WHERE unit_id = ? AND num = ?"
     )
     for unit in range(1, 3 * PAST + 1):
         sent = 1_600_000_000 + unit
@@ -192,7 +209,7 @@ def made_past(program):
     return path
 
 
-def made_former(hosts, folder):
+def made_former(hosts: int, folder: str) -> str:
     """Makes tables of the first schema with a number of hosts that called once, and returns their path."""
     newest, path = (os.path.join(folder, f"{name}{hosts}.db") for name in ("newest", "former"))
     plain_tables.create(newest, SETTINGS)
@@ -204,7 +221,7 @@ def made_former(hosts, folder):
     return path
 
 
-def copied(path, folder, name="copy.db"):
+def copied(path: str, folder: str, name: str = "copy.db") -> str:
     """Makes a fresh copy of tables, which is on the disk, and returns its path."""
     copy = os.path.join(folder, name)
     for name in (copy, f"{copy}-wal"):
@@ -222,13 +239,14 @@ def copied(path, folder, name="copy.db"):
 class Client:
     """A host, as its own software sees it."""
 
-    def __init__(self, user, cpid, seqno=0):
+    def __init__(self, user: int, cpid: str, seqno: int = 0) -> None:
         self.user, self.cpid, self.seqno = user, cpid, seqno
-        self.jobs = []  # the names of what it has
-        self.unheard = None  # the call whose reply was lost
+        self.jobs: list[str] = []  # the names of what it has
+        self.unheard: bytes | None = None  # the call whose reply was lost
+        self.facts: Reply = {}  # what else its calls say
 
 
-def standing(host):
+def standing(host: int) -> Client:
     """Returns the client of a host that called once."""
     return Client(user_of(host), f"host{host}", 1)
 
@@ -236,21 +254,30 @@ def standing(host):
 class Life:
     """Calls of clients, answered as they are made, over a copy of the tables; and counts of what happened."""
 
-    def __init__(self, path, folder):
+    def __init__(self, path: str, folder: str) -> None:
         self.pick = random.Random(1)
         self.tables = plain_tables.Tables(copied(path, folder), once=True, synchronous="OFF")
         self.service, self.now = plain_tables.Service(self.tables), int(time.time())
-        self.bodies, self.seen = [], Counter()
+        self.bodies: list[bytes] = []
+        self.seen: Counter[str] = Counter()
 
-    def send(self, body):
+    def send(self, body: bytes) -> Reply | None:
         """Makes one more call. Returns its reply, or None if it is refused."""
         self.bodies.append(body)
         try:
-            return json.loads(self.service.scheduler(body, self.now))
+            reply: Reply = json.loads(self.service.scheduler(body, self.now))
         except Refused:
             return None
+        return reply
 
-    def report(self, name):
+    def answered(self, body: bytes) -> Reply:
+        """Makes one more call, which must not be refused. Returns its reply."""
+        reply = self.send(body)
+        if reply is None:
+            raise SystemExit(f"a call is refused: {body!r}")
+        return reply
+
+    def report(self, name: str) -> Reply:
         """Returns what a client reports of a finished job: mostly what others report of its workunit."""
         chance, unit = self.pick.random(), int(name.split("_")[0].removeprefix("unit-"))
         if chance < 0.03:
@@ -261,28 +288,30 @@ class Life:
             "output": str(unit * 37 % 1000 + (50 if chance < 0.06 else 0)),
         }
 
-    def call(self, client, asked, kept=0.0, lost=0.0, silent=0.0):
-        """Makes a fresh call that asks for a number of seconds. The chances are to keep a job, to lose the reply,
-        to list no results."""
+    def call(
+        self, client: Client, asked: int, kept: float = 0.0, lost: float = 0.0, silent: float = 0.0
+    ) -> None:
+        """Makes a fresh call that asks for a number of seconds. The chances are to keep a job, to lose the
+        reply, to list no results."""
         client.seqno += 1
         done = [name for name in client.jobs if self.pick.random() >= kept]
-        more = (
-            {}
-            if self.pick.random() < silent
-            else {"other_results": [name for name in client.jobs if name not in done]}
+        is_silent = self.pick.random() < silent
+        more: Reply = (
+            {} if is_silent else {"other_results": [name for name in client.jobs if name not in done]}
         )
         results = [self.report(name) for name in done]
+        more |= client.facts
         body = request(
             client.user, client.cpid, client.seqno, work_req_seconds=asked, results=results, **more
         )
-        reply = self.send(body)
+        reply = self.answered(body)
         self.seen["fresh calls"] += 1
         self.seen["reports"] += len(done)
         self.seen["jobs sent again"] += sum(job["resent"] for job in reply["results"])
         self.seen["jobs given"] += sum(not job["resent"] for job in reply["results"])
         self.take(client, body, reply, lost)
 
-    def take(self, client, body, reply, lost):
+    def take(self, client: Client, body: bytes, reply: Reply, lost: float) -> None:
         """Takes a reply as the client does: it forgets jobs and has new ones, or it never hears the reply."""
         client.unheard = body if self.pick.random() < lost else None
         self.seen["replies lost"] += client.unheard is not None
@@ -291,8 +320,9 @@ class Life:
             had = [name for name in client.jobs if name not in gone]
             client.jobs = had + [job["name"] for job in reply["results"] if job["name"] not in had]
 
-    def mixed(self, units, count):
-        """Makes a number of calls of a project's life. All hosts of some users call, about 36 times per user."""
+    def mixed(self, units: int, count: int) -> Self:
+        """Makes a number of calls of a project's life. All hosts of some users call, about 36 times per
+        user."""
         users, active = user_of(hosts_of(units)), max(5, count // 36)
         clients = [
             standing(10 * (number * users // active) + one)
@@ -307,7 +337,7 @@ class Life:
                 self.seen["new hosts"] += 1
             if client.unheard is not None and self.pick.random() < 0.5:
                 self.seen["repeats"] += 1
-                self.take(client, client.unheard, self.send(client.unheard), 0.1)
+                self.take(client, client.unheard, self.answered(client.unheard), 0.1)
             elif client.seqno > 4 and self.pick.random() < 0.01:
                 self.seen["stale calls"] += 1
                 self.send(request(client.user, client.cpid, client.seqno - 4, work_req_seconds=7))
@@ -316,7 +346,7 @@ class Life:
                 self.call(client, asked, kept=0.15, lost=0.1, silent=0.05)
         return self
 
-    def ended(self):
+    def ended(self) -> Self:
         """Counts the workunits that are done, and closes the copy."""
         self.seen["workunits done"] = self.tables.connection.execute(
             "SELECT count(*) FROM unit WHERE status = 1"
@@ -331,13 +361,14 @@ class Life:
 class Run:
     """What one server did: its answers, each with the times before and after it, and what they took."""
 
-    def __init__(self, server, port, begin):
+    def __init__(self, server: subprocess.Popen[Any], port: int, begin: float) -> None:
         self.server, self.port, self.open_seconds = server, port, time.perf_counter() - begin
-        self.open_stays, self.open_peak, self.end_peak = memory_of(server, "VmRSS"), peak(server), None
-        self.answers, self.seconds, self.server_seconds, self.client_seconds = [], 0, 0, 0
+        self.open_stays, self.open_peak, self.end_peak = memory_of(server, "VmRSS"), peak(server), 0
+        self.answers: list[Answered] = []
+        self.seconds = self.server_seconds = self.client_seconds = 0.0
         atexit.register(self.end)  # also if the run ends early
 
-    def send(self, messages):
+    def send(self, messages: list[bytes]) -> Self:
         """Sends messages, each over a connection of its own, one after the other."""
         address, answers = ("127.0.0.1", self.port), self.answers
         before, own, begin = processor_seconds(self.server), time.process_time(), time.perf_counter()
@@ -356,40 +387,42 @@ class Run:
         self.end_peak = peak(self.server)
         return self
 
-    def end(self):
+    def end(self) -> Self:
         """Kills the server. What it answered is in the file."""
         self.server.kill()
         self.server.wait()
         return self
 
-    def end_by_itself(self):
+    def end_by_itself(self) -> None:
         """Makes the last connection that a server serves, and waits for its end."""
         with socket.socket() as connection:
             connection.connect(("127.0.0.1", self.port))
         self.server.wait()
 
 
-def run_ours(program, tables, count=1_000_000, before=()):
-    """Starts the program over tables, for a number of connections, under the command `before` if it is given."""
+def run_ours(program: str, tables: str, count: int = 1_000_000, before: Sequence[str] = ()) -> Run:
+    """Starts the program over tables, for a number of connections, under the command `before` if it is
+    given."""
     begin, port = time.perf_counter(), free_port()
     return Run(started(program, tables, port, count, before, seconds=3600), port, begin)
 
 
-def run_twin(tables, *options):
+def run_twin(tables: str, *options: str) -> Run:
     """Starts plain_tables.py over tables."""
     begin = time.perf_counter()
     server = subprocess.Popen(
         [sys.executable, TWIN, *options, tables, "0"], stdout=subprocess.PIPE, text=True
     )
+    assert server.stdout is not None
     return Run(server, int(server.stdout.readline()), begin)
 
 
-def messages_of(bodies, moments):
+def messages_of(bodies: list[bytes], moments: list[int]) -> list[bytes]:
     """Returns the messages of calls, each with the second at which the twin acts on it."""
     return [HEAD % (moment, len(body), body) for body, moment in zip(bodies, moments)]
 
 
-def moments_in(bodies, answers, seen):
+def moments_in(bodies: list[bytes], answers: list[Answered], seen: set[bytes]) -> list[int]:
     """Returns the second at which the program acted on each call: the one in which a new job was sent, else
     the one in which the call was made. A call that was seen before is a repeat, which gets an earlier
     reply."""
@@ -410,18 +443,15 @@ def moments_in(bodies, answers, seen):
     return moments
 
 
-def same_rows(ours, theirs):
-    """Ends the run if two files of tables have different rows."""
+def same_rows(ours: str, theirs: str) -> None:
+    """Ends the run if two files of tables have different rows. It prints the first difference."""
     files = [sqlite3.connect(path) for path in (ours, theirs)]
     for table, (columns, keys) in plain_tables.COLUMNS.items():
         order = ", ".join(columns.split(", ")[:keys])
-        one, other = (
-            file.execute(f"SELECT {columns} FROM {table} ORDER BY {order}").fetchall() for file in files
-        )
-        if one != other:
-            raise SystemExit(
-                f"{table}: rows of the program {set(one) - set(other)!r}, of the twin {set(other) - set(one)!r}"
-            )
+        rows = (file.execute(f"SELECT {columns} FROM {table} ORDER BY {order}") for file in files)
+        for one, other in itertools.zip_longest(*rows):
+            if one != other:
+                raise SystemExit(f"{table}: a row of the program {one!r}, of the twin {other!r}")
     for file in files:
         file.close()
 
@@ -429,27 +459,45 @@ def same_rows(ours, theirs):
 class Recorder:
     """The connection of tables, which records the statements that are run over it, with their values."""
 
-    def __init__(self, path, folder):
-        self.tables = plain_tables.Tables(copied(path, folder), synchronous="OFF")
-        self.connection, self.ran, self.tables.connection = self.tables.connection, [], self
+    def __init__(self, tables: plain_tables.Tables) -> None:
+        self.tables = tables
+        self.ran: list[Ran] = []
+        self.connection, self.tables.connection = self.tables.connection, self  # type: ignore[assignment]
 
-    def execute(self, statement, values=()):
+    def execute(self, statement: str, values: Sequence[Any] = ()) -> sqlite3.Cursor:
         """Runs a statement."""
         self.ran.append((statement, values))
         return self.connection.execute(statement, values)
 
-    def ran_by(self, bodies):
-        """Returns the statements of each of these calls."""
-        service, now, each = plain_tables.Service(self.tables), int(time.time()), []
-        for body in bodies:
-            self.ran = []
-            try:
-                service.scheduler(body, now)
-            except Refused:
-                pass
-            each.append(self.ran)
+    def taken(self) -> list[Ran]:
+        """Returns the statements that were run since the last time."""
+        ran, self.ran = self.ran, []
+        return ran
+
+    def close(self) -> None:
+        """Closes the connection."""
         self.connection.close()
-        return each
+
+
+def ran_by(path: str, folder: str, bodies: list[bytes]) -> list[list[Ran]]:
+    """Returns the statements of each of these calls, over a copy of tables."""
+    recorder = Recorder(plain_tables.Tables(copied(path, folder), synchronous="OFF"))
+    service, now = plain_tables.Service(recorder.tables), int(time.time())
+    each: list[list[Ran]] = []
+    for body in bodies:
+        with contextlib.suppress(Refused):
+            service.scheduler(body, now)
+        each.append(recorder.taken())
+    recorder.close()
+    return each
+
+
+def run_bare(connection: sqlite3.Connection, ran: list[Ran]) -> float:
+    """Runs statements. Returns the processor seconds."""
+    begin = time.process_time()
+    for statement, values in ran:
+        connection.execute(statement, values).fetchall()
+    return time.process_time() - begin
 
 
 class Race:
@@ -457,27 +505,30 @@ class Race:
     All have the same calls, over fresh copies of the same tables. The servers must answer the same, and leave
     the same rows."""
 
-    def __init__(self, program, path, folder, bodies, twins=((),)):
+    def __init__(
+        self,
+        program: str,
+        path: str,
+        folder: str,
+        bodies: list[bytes],
+        twins: Sequence[Sequence[str]] = ((),),
+    ) -> None:
         self.program, self.path, self.folder, self.bodies, self.twins = program, path, folder, bodies, twins
-        self.ran, self.bare_seconds = Recorder(path, folder).ran_by(bodies), 0
+        self.ran, self.bare_seconds = ran_by(path, folder, bodies), 0.0
 
-    def begin(self):
+    def begin(self) -> Self:
         """Copies the tables, and starts the servers."""
         name = os.path.basename(self.path)
         ours, bare, *theirs = (
             copied(self.path, self.folder, f"{number}.{name}") for number in range(len(self.twins) + 2)
         )
-        self.copies, self.connection, self.at, self.seen = (
-            [ours, *theirs],
-            plain_tables.Tables(bare).connection,
-            0,
-            set(),
-        )
+        self.copies, self.connection, self.at = [ours, *theirs], plain_tables.Tables(bare).connection, 0
+        self.seen: set[bytes] = set()
         twins = (run_twin(copy, *options) for copy, options in zip(theirs, self.twins))
         self.runs = [run_ours(self.program, ours), *twins]
         return self
 
-    def go(self, count):
+    def go(self, count: int) -> Self:
         """Makes `count` more calls, to one server after the other."""
         bodies, ran, (ours, *others) = self.bodies[self.at :][:count], self.ran[self.at :][:count], self.runs
         ours.send(messages_of(bodies, [0] * count))
@@ -489,17 +540,14 @@ class Race:
             ):
                 if one != other:
                     raise SystemExit(
-                        f"an answer differs\nthe call: {body!r}\nthe program: {one!r}\nthe twin: {other!r}"
+                        f"an answer differs\nthe call: {body!r}\nthe program: {one!r}\n"
+                        f"the twin: {other!r}"
                     )
-        begin = time.process_time()
-        for call in ran:
-            for statement, values in call:
-                self.connection.execute(statement, values).fetchall()
-        self.bare_seconds += time.process_time() - begin
+        self.bare_seconds += sum(run_bare(self.connection, call) for call in ran)
         self.at += count
         return self
 
-    def end(self):
+    def end(self) -> list[Run]:
         """Stops the servers, compares their rows, and returns what the servers did."""
         self.connection.close()
         for run in self.runs:
@@ -512,21 +560,22 @@ class Race:
 # ---- The cases
 
 
-def rates_of(runs):
+def rates_of(runs: Sequence[Run]) -> Rates:
     """Returns the calls per second of some runs: by the clock, and by the server's processor time."""
     count = sum(len(run.answers) for run in runs)
     return count / sum(run.seconds for run in runs), count / sum(run.server_seconds for run in runs)
 
 
-def ratio_text(ours, theirs):
+def ratio_text(ours: Rates, theirs: Rates) -> str:
     """Returns the text that says how the first rates of calls compare with the others."""
     return (
         f"{ours[0] / theirs[0]:.2f} times as many calls a second ({ours[0]:.0f} and {theirs[0]:.0f}), "
-        f"{ours[1] / theirs[1]:.2f} times as many per second of the server's processor time ({ours[1]:.0f} and {theirs[1]:.0f})"
+        f"{ours[1] / theirs[1]:.2f} times as many per second of the server's processor time "
+        f"({ours[1]:.0f} and {theirs[1]:.0f})"
     )
 
 
-def memory_text(run):
+def memory_text(run: Run) -> str:
     """Returns the text that says a run's memory."""
     return (
         f"peak memory {run.open_peak / 1024:.0f} MB then, of which {run.open_stays / 1024:.0f} MB stay, and "
@@ -534,7 +583,7 @@ def memory_text(run):
     )
 
 
-def rows_read(path):
+def rows_read(path: str) -> float:
     """Returns the seconds in which the module `sqlite3` reads all rows of a file."""
     connection, begin = sqlite3.connect(path), time.perf_counter()
     for table, (columns, _) in plain_tables.COLUMNS.items():
@@ -543,7 +592,7 @@ def rows_read(path):
     return time.perf_counter() - begin
 
 
-def print_life(units, lived, race, runs, rates):
+def print_life(units: int, lived: Life, race: Race, runs: list[list[Run]], rates: dict[int, Rates]) -> None:
     """Prints what the calls took over tables of one size."""
     ours, theirs, once = zip(*runs)
     calls = sum(len(run.answers) for run in ours)
@@ -560,29 +609,35 @@ def print_life(units, lived, race, runs, rates):
         + (" in each" if units == LEAST else "")
     )
     print(
-        f"life: all answers and rows are the twin's; the program answers {ratio_text(rates[units], rates_of(theirs))}"
+        "life: all answers and rows are the twin's; the program answers "
+        f"{ratio_text(rates[units], rates_of(theirs))}"
     )
     print(
-        f"life: compared with the twin that runs no statement twice in a call {ratio_text(rates[units], rates_of(once))}"
+        "life: compared with the twin that runs no statement twice in a call "
+        f"{ratio_text(rates[units], rates_of(once))}"
     )
     print(
-        f"life: a call takes {1 / rates[units][1] / bare:.2f} times the processor time that its statements alone take by the "
-        f"module sqlite3 ({1e6 / rates[units][1]:.0f} and {bare * 1e6:.0f} microseconds); the client takes {client * 1e6:.0f}"
+        f"life: a call takes {1 / rates[units][1] / bare:.2f} times the processor time that its statements "
+        f"alone take by the module sqlite3 ({1e6 / rates[units][1]:.0f} and {bare * 1e6:.0f} microseconds); "
+        f"the client takes {client * 1e6:.0f}"
     )
     opened, read = min(run.open_seconds for run in ours), rows_read(race.path)
     print(
-        f"life: the tables are opened in {opened / read:.1f} times the time in which the module sqlite3 reads all rows "
-        f"({opened:.2f} and {read:.2f} seconds), {memory_text(ours[-1])}; of the twin {theirs[-1].end_peak / 1024:.0f} MB; "
-        f"the file has {os.path.getsize(race.path) / 1e6:.1f} MB",
+        f"life: the tables are opened in {opened / read:.1f} times the time in which the module sqlite3 "
+        f"reads all rows ({opened:.2f} and {read:.2f} seconds), {memory_text(ours[-1])}; of the twin "
+        f"{theirs[-1].end_peak / 1024:.0f} MB; the file has {os.path.getsize(race.path) / 1e6:.1f} MB",
         flush=True,
     )
 
 
-def life(program, folder):
+def life(program: str, folder: str) -> None:
     """Measures calls that ask, report and now and then lose a reply, over small and large tables. The sizes
     and the servers take turns, round by round. A round uses up the smallest project, so it begins anew with
     each."""
-    lives, races, runs, rates = {}, {}, {}, {}
+    lives: dict[int, Life] = {}
+    races: dict[int, Race] = {}
+    runs: dict[int, list[list[Run]]] = {}
+    rates: dict[int, Rates] = {}
     for units, count in SIZES.items():
         path = made(program, units)
         lives[units] = Life(path, folder).mixed(units, count * (1 if units == LEAST else ROUNDS)).ended()
@@ -598,12 +653,13 @@ def life(program, folder):
     for units in SIZES:
         print_life(units, lives[units], races[units], runs[units], rates)
     print(
-        f"life: at {MOST} workunits beside {LEAST} the program answers {ratio_text(rates[MOST], rates[LEAST])}"
+        f"life: at {MOST} workunits beside {LEAST} the program answers "
+        f"{ratio_text(rates[MOST], rates[LEAST])}"
     )
 
 
-# Runs a command, and prints its status, its seconds and its peak memory in kilobytes. It is a process of its own, since a
-# process that is forked from a large one counts as large.
+# Runs a command, and prints its status, its seconds and its peak memory in kilobytes. It is a process of its
+# own, since a process that is forked from a large one counts as large.
 PEAK = """
 import resource, subprocess, sys, time
 begin = time.perf_counter()
@@ -612,33 +668,34 @@ print(done.returncode, time.perf_counter() - begin, resource.getrusage(resource.
 """
 
 
-def taken_by(status, *args):
+def taken_by(status: int, *args: str) -> tuple[float, int]:
     """Returns the seconds, and the peak memory in kilobytes, of a command. It must end with this status."""
     ended, seconds, kilobytes = ordered(sys.executable, "-c", PEAK, *args).split()
     wants(int(ended), status, f"the status of {args}")
     return float(seconds), int(kilobytes)
 
 
-def bare_opening(program, path):
+def bare_opening(program: str, path: str) -> tuple[float, int]:
     """Returns what the library's own opening of a file takes. It runs `create`, which is refused since the
     file has tables: that opens the file and reads no row."""
     return taken_by(1, program, "create", "--settings", settings_file(), "--tables", path)
 
 
-def opening(program, folder):
+def opening(program: str, folder: str) -> None:
     """Measures an opening's time and peak memory, compared with the library's own opening of the file."""
     for units in SIZES:
         path = copied(made(program, units), folder)
         bare, ours = bare_opening(program, path), run_ours(program, path, count=1)
         ours.end()
         print(
-            f"opening: {units} workunits in {ours.open_seconds:.2f} seconds, with a peak of {ours.open_peak / 1024:.0f} MB; of "
-            f"the library alone {bare[0]:.2f} seconds ({ours.open_seconds / bare[0]:.1f} times) and {bare[1] / 1024:.0f} MB "
+            f"opening: {units} workunits in {ours.open_seconds:.2f} seconds, with a peak of "
+            f"{ours.open_peak / 1024:.0f} MB; of the library alone {bare[0]:.2f} seconds "
+            f"({ours.open_seconds / bare[0]:.1f} times) and {bare[1] / 1024:.0f} MB "
             f"({ours.open_peak / bare[1]:.1f} times)"
         )
 
 
-def schema_in(path):
+def schema_in(path: str) -> list[plain_tables.Row]:
     """Returns a file's tables and indexes in the order of their creation, each statement on one line."""
     with contextlib.closing(sqlite3.connect(path)) as base:
         rows = base.execute(
@@ -647,20 +704,20 @@ def schema_in(path):
     return [(*row[:3], " ".join(row[3].split())) for row in rows]
 
 
-def kept_before(path):
+def kept_before(path: str) -> list[plain_tables.Row]:
     """Returns the rows of the table in which the first schema keeps calls."""
     with contextlib.closing(sqlite3.connect(path)) as base:
         return base.execute("SELECT * FROM kept ORDER BY host_id").fetchall()
 
 
-def is_whole(path):
+def is_whole(path: str) -> None:
     """Ends the run if SQLite finds a fault in a file."""
     with contextlib.closing(sqlite3.connect(path)) as base:
         wants(base.execute("PRAGMA integrity_check").fetchall(), [("ok",)], "the check of the file by SQLite")
         wants(base.execute("PRAGMA foreign_key_check").fetchall(), [], "the rows that refer to none")
 
 
-def upgrade(program, folder):
+def upgrade(program: str, folder: str) -> None:
     """Measures an upgrade of tables of the first schema, compared with the same by the module `sqlite3` and
     with the library's own opening of the file. It also checks what the upgraded tables hold."""
     new = os.path.join(folder, "new.db")
@@ -693,14 +750,15 @@ def upgrade(program, folder):
         )
         is_whole(ours)
         print(
-            f"upgrade: {hosts} hosts in {one[0]:.2f} seconds with a peak of {one[1] / 1024:.0f} MB; the module sqlite3 takes "
-            f"{other[0]:.2f} seconds ({one[0] / other[0]:.1f} times) and {other[1] / 1024:.0f} MB, the library's own opening of "
-            f"the file {bare[0]:.2f} seconds ({one[0] / bare[0]:.1f} times) and {bare[1] / 1024:.0f} MB; all rows are those of "
-            f"the twin, and the schema is that of new tables"
+            f"upgrade: {hosts} hosts in {one[0]:.2f} seconds with a peak of {one[1] / 1024:.0f} MB; the "
+            f"module sqlite3 takes {other[0]:.2f} seconds ({one[0] / other[0]:.1f} times) and "
+            f"{other[1] / 1024:.0f} MB, the library's own opening of the file {bare[0]:.2f} seconds "
+            f"({one[0] / bare[0]:.1f} times) and {bare[1] / 1024:.0f} MB; all rows are those of the twin, "
+            "and the schema is that of new tables"
         )
 
 
-def tick_seconds(program, path, folder):
+def tick_seconds(program: str, path: str, folder: str) -> list[float]:
     """Returns the median seconds of a tick at which nothing is late, by the program and by the twin."""
     runs = run_ours(program, copied(path, folder, "ours.db")), run_twin(copied(path, folder, "twin.db"))
     for _ in range(25):
@@ -712,24 +770,25 @@ def tick_seconds(program, path, folder):
     return [statistics.median(end - start for _, start, end in run.answers) for run in runs]
 
 
-def ticks(program, folder):
+def ticks(program: str, folder: str) -> None:
     """Measures ticks at which nothing is late."""
     few, many, past = (
         tick_seconds(program, path, folder)
         for path in (made(program, LEAST), made(program, MOST), made_past(program))
     )
     print(
-        f"ticks: if nothing was ever given out, a tick at {MOST} workunits takes {many[0] / few[0]:.1f} times as long as at "
-        f"{LEAST} ({many[0] * 1e3:.2f} and {few[0] * 1e3:.2f} milliseconds; of the twin {many[1] * 1e3:.2f})"
+        f"ticks: if nothing was ever given out, a tick at {MOST} workunits takes {many[0] / few[0]:.1f} "
+        f"times as long as at {LEAST} ({many[0] * 1e3:.2f} and {few[0] * 1e3:.2f} milliseconds; of the twin "
+        f"{many[1] * 1e3:.2f})"
     )
     print(
-        f"ticks: with {5 * PAST} results that were reported in time and whose deadlines are past, {past[0] / many[0]:.0f} "
-        f"times that ({past[0] * 1e3:.0f} milliseconds), {past[0] / past[1]:.1f} times as long as of the twin "
-        f"({past[1] * 1e3:.0f})"
+        f"ticks: with {5 * PAST} results that were reported in time and whose deadlines are past, "
+        f"{past[0] / many[0]:.0f} times that ({past[0] * 1e3:.0f} milliseconds), {past[0] / past[1]:.1f} "
+        f"times as long as of the twin ({past[1] * 1e3:.0f})"
     )
 
 
-def past(program, folder):
+def past(program: str, folder: str) -> None:
     """Measures calls of hosts and users with a long past."""
     path, rounds = made_past(program), 7
     whose = {
@@ -744,7 +803,7 @@ def past(program, folder):
             lived.call(client, 1)
     lived.ended()
     ours, theirs = Race(program, path, folder, lived.bodies).begin().go(len(lived.bodies)).end()
-    fresh = None
+    fresh = 0.0
     for number, what in enumerate(whose):
         # the first round gives each client its first job; after it each call reports a job and gets one
         one, other = (
@@ -754,13 +813,13 @@ def past(program, folder):
         fresh = fresh or one
         print(
             f"past: a call of {what}, that reports a job and gets one, takes {one * 1e3:.1f} milliseconds: "
-            f"{one / fresh:.1f} times as long as of the first, {one / other:.2f} times as long as of the twin "
-            f"({other * 1e3:.1f})"
+            f"{one / fresh:.1f} times as long as of the first, {one / other:.2f} times as long as of the "
+            f"twin ({other * 1e3:.1f})"
         )
     print(f"past: these tables are opened in {ours.open_seconds:.1f} seconds, {memory_text(ours)}")
 
 
-def kind_of(text):
+def kind_of(text: str) -> str:
     """Returns the kind of a statement that was run."""
     kinds = {
         **plain_tables.LOOK_UPS,
@@ -773,10 +832,10 @@ def kind_of(text):
     return text.split(" ")[0]
 
 
-def statements(program, folder):
+def statements(program: str, folder: str) -> None:
     """Prints how many statements of each kind one call runs."""
 
-    def call(service, host, seqno, asked, **more):
+    def call(service: plain_tables.Service, host: int, seqno: int, asked: int, **more: Any) -> None:
         client = standing(host)
         service.scheduler(
             request(client.user, client.cpid, seqno, work_req_seconds=asked, **more), 1_000_000_000
@@ -789,29 +848,30 @@ def statements(program, folder):
         call(service, 1, 2, HOUR + 1)
         call(service, 11, 2, 1)
         call(service, 11, 3, 0, results=[{"name": "unit-1_1", "exit_status": 0, "output": "42"}])
-        ran = []
+        ran: list[str] = []
         tables.connection.set_trace_callback(ran.append)
         report = {"name": "unit-1_0", "exit_status": 0, "output": "42"}
         call(service, 1, 3, HOUR + 1, results=[report], other_results=[])
         tables.connection.close()
         counts.append(Counter(map(kind_of, ran)))
     print(
-        "statements: of a call that reports a job, by which its quorum comes about, has lost one and gets one; counted in"
+        "statements: of a call that reports a job, by which its quorum is reached, has lost one and gets one;"
     )
-    print("the twin, which does those of the program; and in the twin where none is run twice in a call")
+    print("in the twin, which does those of the program; and in the twin where none is run twice in a call")
     for kind, many in [*counts[0].items(), ("in all", counts[0].total())]:
         print(f"  {kind:30} {many:4} {counts[1].get(kind, counts[1].total()):4}")
 
 
-def twins(_program, folder):
+def twins(_program: str, folder: str) -> None:
     """Compares the answers of plain_tables.py and plain.py, for the lines of a project and for the stored
     run."""
     with open(os.path.join(os.path.dirname(TWIN), "..", "crates", "bsched", "stdin"), "rb") as file:
         stored = file.read().splitlines()
-    for what, settings, lines in (
+    both: list[tuple[str, plain.Settings, list[bytes]]] = [
         ("a project's life", project.SETTINGS, project.lines(LINES)[0].splitlines()),
         ("the stored run", {}, stored),
-    ):
+    ]
+    for what, settings, lines in both:
         for once in (False, True):
             path = os.path.join(folder, f"{len(lines)}{once}.db")
             plain_tables.create(path, {**plain.SETTINGS, **settings, "operator_key": KEY})
@@ -822,17 +882,19 @@ def twins(_program, folder):
         print(f"twins: good, {len(lines)} answers of {what}")
 
 
-def under(before, program, path, folder, bodies):
+def under(before: Sequence[str], program: str, path: str, folder: str, bodies: list[bytes]) -> None:
     """Runs the program under a command, over a copy of tables with these calls, until it ends by itself."""
     # the probe that finds the listener counts as one connection, and so does the last one
     run = run_ours(program, copied(path, folder), len(bodies) + 2, before)
     run.send(messages_of(bodies, [0] * len(bodies))).end_by_itself()
 
 
-def counted(found):
+def counted(found: str) -> tuple[Counter[str], Counter[str], Counter[str]]:
     """Reads what callgrind wrote. Returns for each function its own instructions, those including what it
     calls, and how often it was called."""
-    names, own, whole, calls, function, called = {}, Counter(), Counter(), Counter(), None, None
+    names: dict[str, str] = {}
+    own, whole, calls = Counter[str](), Counter[str](), Counter[str]()
+    function = called = ""
     with open(found) as file:
         for line in file:
             if named := re.match(r"(c?fn)=\((\d+)\)(?: (.*))?", line):
@@ -850,7 +912,7 @@ def counted(found):
     return own, whole, calls
 
 
-def profile(program, folder):
+def profile(program: str, folder: str) -> None:
     """Prints the system calls and instructions of a short life, and how many look-ups it runs."""
     path, found = made(program, LEAST), os.path.join(folder, "found")
     bodies = Life(path, folder).mixed(LEAST, SIZES[LEAST]).ended().bodies
@@ -864,8 +926,9 @@ def profile(program, folder):
     if shutil.which("valgrind") is None:
         print("profile: valgrind: not installed, not run")
         return
-    lines = []
-    for some in ([], bodies):
+    counts = []
+    none: list[bytes] = []
+    for some in (none, bodies):
         under(
             ["valgrind", "-q", "--tool=callgrind", f"--callgrind-out-file={found}"],
             program,
@@ -873,18 +936,13 @@ def profile(program, folder):
             folder,
             some,
         )
-        lines.append(counted(found))
-    own, whole, calls = (after - before for before, after in zip(*lines))
-    twin = sum(
-        statement.startswith("SELECT")
-        for ran in Recorder(path, folder).ran_by(bodies)
-        for statement, _ in ran
-    )
-    print(
-        f"profile: the program runs {calls['sqlite::connection::Connection::query_near']} look-ups in these calls, the twin {twin}"
-    )
+        counts.append(counted(found))
+    own, whole, calls = (after - before for before, after in zip(*counts))
+    twin = sum(statement.startswith("SELECT") for ran in ran_by(path, folder, bodies) for statement, _ in ran)
+    looked = calls["sqlite::connection::Connection::query_near"]
+    print(f"profile: the program runs {looked} look-ups in these calls, the twin {twin}")
     print(f"profile: {own.total() // len(bodies)} instructions per call; their percentages:")
-    crates = Counter()
+    crates: Counter[str] = Counter()
     for function, many in own.items():
         crates[function.split("::")[0] if "::" in function else "libc"] += many
     stages = {"sqlite::connection::Connection::query_near": "look-ups", "table_rows::put::put_each": "puts"}

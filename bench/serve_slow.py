@@ -224,7 +224,9 @@ def slow_hosts(programs: list[str], folder: str) -> None:
     tell_ticks(ticks, before)
 
 
-def slow_front(programs: list[str], folder: str, name: str, what: str, make: Callable) -> None:
+def slow_front(
+    programs: list[str], folder: str, name: str, what: str, make: Callable[[sqlite3.Connection], None]
+) -> None:
     """Measures a user who had the first waiting workunits."""
     played = Slow(programs, changed(programs[0], name, make), folder)
     fresh, leading = played.calls_of(standing(hosts_of(MOST)), standing(1))

@@ -1,10 +1,10 @@
 """The case `worst` of `bench/serve`: the dearest calls that clients can bring about with reports.
 
-Each workunit has 100 instances, as many as it may have, and a quorum of two. 100 hosts of as many users get one
-instance of each, and all report outputs that differ, so that no two agree. The application compares outputs as
-whole numbers at most two apart: a pair costs more than under equality.
+Each workunit has 100 instances, as many as it may have, and a quorum of two. 100 hosts of as many users get
+one instance of each, and all report outputs that differ, so that no two agree. The application compares
+outputs as whole numbers at most two apart: a pair costs more than under equality. serve_dear.py has other
+dear messages.
 """
-import json
 import os
 import sqlite3
 import statistics
@@ -14,7 +14,7 @@ import serve_life
 from plain_formats import KINDS
 from played import Options, Played, begun, ended, limit_time
 from serve_life import DELAY
-from served import ordered, wants
+from served import wants
 
 HOSTS = 100  # of as many users, one for each instance of a workunit
 REPORTED = 10, 20, 50, 99  # how many reports a workunit has before the one that is timed
@@ -33,11 +33,8 @@ LIMITS = f"2,100,100,100,100,{DELAY},1,1000000,1000000,5000"
 
 def create(program: str, folder: str) -> str:
     """Creates tables with enough accounts and workunits, and returns their path."""
-    settings, tables = os.path.join(folder, "worst.toml"), os.path.join(folder, "worst.db")
-    with open(settings, "w") as file:
-        file.writelines(f"{name} = {json.dumps(value)}\n" for name, value in SETTINGS.items())
-    printed = ordered(program, "create", "--settings", settings, "--tables", tables)
-    wants(printed, "created\n", "new tables")
+    tables = os.path.join(folder, "worst.db")
+    serve_life.create(program, tables, SETTINGS)
     users = [f"user{user},User {user}" for user in range(1, HOSTS + FRESH + 1)]
     units = [f"unit-{unit},fold,{LIMITS}" for unit in range(1, MOST_JOBS + 1)]
     imports = {
@@ -46,11 +43,8 @@ def create(program: str, folder: str) -> str:
         "versions": ["app,platform,version_num", "fold,x86_64-pc-linux-gnu,1"],
         "workunits": [",".join(KINDS["workunits"][0]), *units],
     }
-    for kind, lines in imports.items():
-        path = os.path.join(folder, f"{kind}.csv")
-        with open(path, "w") as file:
-            file.write("\n".join([*lines, ""]))
-        ordered(program, "import", "--tables", tables, "--kind", kind, "--batch", "b1", "--file", path)
+    texts = {kind: "\n".join([*lines, ""]) for kind, lines in imports.items()}
+    serve_life.import_texts(program, tables, texts)
     connection = sqlite3.connect(tables)
     connection.execute("PRAGMA wal_checkpoint(TRUNCATE)")  # the database file alone is copied
     connection.close()
@@ -82,7 +76,7 @@ class Worst(Played):
         wants(len(names), MOST_JOBS, f"how many jobs host {host} got")
         return names
 
-    def report(self, host: int, names: list[str]) -> list[float]:
+    def report_all(self, host: int, names: list[str]) -> list[float]:
         """Lets a host report an output of its own for each name. Returns the milliseconds."""
         took = [0.0] * len(self.runs)
         for first in range(0, len(names), MOST_REPORTS):
@@ -113,14 +107,15 @@ def worst(options: Options, folder: str) -> None:
     limit_time("worst", 1800)
     programs = options.programs()
     played = Worst(programs, create(programs[0], folder), folder)
-    names = [[], *(played.take_jobs(host) for host in range(1, HOSTS + 1))]
+    none: list[str] = []
+    names = [none, *(played.take_jobs(host) for host in range(1, HOSTS + 1))]
     reports = {}
     for host in range(1, HOSTS):
         if host - 1 in REPORTED:
-            reports[host - 1] = played.report(host, names[host][:1])
-            played.report(host, names[host][1:])
+            reports[host - 1] = played.report_all(host, names[host][:1])
+            played.report_all(host, names[host][1:])
         else:
-            last = played.report(host, names[host])
+            last = played.report_all(host, names[host])
     each = [played.ask(HOSTS + number, work_req_seconds=0)[1] for number in range(1, FRESH + 1)]
     fresh = [statistics.median(one) for one in zip(*each)]
     tell("a fresh host's call, without a job", fresh, fresh)
@@ -134,6 +129,6 @@ def worst(options: Options, folder: str) -> None:
     )
     _, took = played.ask(HOSTS, other_results=names[HOSTS])
     tell(f"a call that lists {MOST_JOBS} such jobs", took, fresh)
-    took = played.report(HOSTS, names[HOSTS][:1])
+    took = played.report_all(HOSTS, names[HOSTS][:1])
     tell(f"a further report of a workunit with {HOSTS - 1} reports that all differ", took, fresh)
     played.end()
