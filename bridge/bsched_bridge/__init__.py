@@ -9,7 +9,8 @@ application      the WSGI application: it makes the parts, and says what answers
 routes           the URLs, which Werkzeug compares
 scheduler_messages  a scheduler_request from its bytes to those of its reply
 request_parts    the parts of a request as it arrives: XML, and what programs wrote
-client_requests  what a client's XML says
+plain_requests   the elements of nearly all requests, without a parser
+client_requests  what a client's XML says (request_elements)
 exchange         one request and its answer: resends, whose host a client is, what it reads after a refusal
 hosts            the hosts that the bridge knows, and the numbers that their clients were told
 host_search      which host has a result, by bsched's statements

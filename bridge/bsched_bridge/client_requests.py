@@ -4,14 +4,15 @@ The elements become what the profile accepts, by the table in 'Writing a bridge'
 become whole numbers, and what is longer than the profile allows is cut. What programs wrote does not reach
 the XML parser (request_parts).
 
-Nearly all requests are short and have no comment, section or document type. Python's own parser reads
-these, without the elements that the bridge does not need. The others go to defusedxml's parser, piece by
-piece, which refuses entities and document types. Both give the same request.
+Nearly all requests are read by plain_requests, without a parser. Of the others most are short and have no
+comment, section or document type. Python's own parser reads these, without the elements that the bridge does
+not need. The rest goes to defusedxml's parser, piece by piece, which refuses entities and document types. All
+three give the same request.
 """
 from collections.abc import Iterable, Iterator
 from dataclasses import dataclass
 from decimal import Decimal, InvalidOperation
-from itertools import chain
+from itertools import chain, islice
 from xml.etree.ElementTree import Element, ParseError, TreeBuilder, XMLParser
 
 from defusedxml import DefusedXmlException  # type: ignore[import]
@@ -19,6 +20,8 @@ from defusedxml.ElementTree import DefusedXMLParser  # type: ignore[import]
 
 from .descriptions import described
 from .languages import Text, gettext_lazy, gettext_noop
+from .plain_requests import plain_elements
+from .request_elements import OUTPUT, RequestElements, ResultElements, Texts
 from .request_parts import MOST_OUTPUT, Parts, RequestFault
 from .words import cut_to_bytes, is_word
 
@@ -45,6 +48,7 @@ UNUSED = [
     )
 ]
 MOST_NUMBER, NO_NUMBER = 10**18, Decimal("nan")
+MOST_DIGITS = 18
 MOST_SECONDS = 10**9
 MOST_PLATFORMS = 7
 MOST_COPROCS = 16  # types of coprocessors of a host
@@ -116,10 +120,12 @@ class ClientRequest:
 
 
 class Fields:
-    """The elements in an element that has one of each name. If there are more, the last one counts."""
+    """The elements in an element that has one of each name."""
 
-    def __init__(self, *parents: Element, of: str = "") -> None:
-        self._elements = {element.tag: element for parent in parents for element in parent}
+    __slots__ = ("_texts", "_of")
+
+    def __init__(self, texts: Texts, of: str = "") -> None:
+        self._texts = texts
         self._of = of  # with which a fault names an element
 
     def _fault(self, message: str, name: str) -> RequestFault:
@@ -128,24 +134,30 @@ class Fields:
 
     def __contains__(self, name: str) -> bool:
         """Returns whether there is such an element."""
-        return name in self._elements
+        return self._texts.get(name) is not None
 
     def text(self, name: str) -> str | None:
         """Returns the text of an element, without blanks around it. If there is no such element, returns
         None.
         """
-        element = self._elements.get(name)
-        return None if element is None else (element.text or "").strip()
+        text = self._texts.get(name)
+        return None if text is None else text.strip()
 
     def whole(self, name: str, least: int, most: int, absent: int, up: bool = False) -> int:
         """Returns the whole number of an element, rounded down or up. A number outside the range becomes its
         nearest bound. If there is no such element, returns `absent`.
         """
-        element = self._elements.get(name)
-        if element is None:
+        text = self._texts.get(name)
+        if text is None:
             return absent
+        front, _, rest = text.partition(".")
+        if front.isdecimal() and len(front) <= MOST_DIGITS and (rest.isdecimal() or not rest):
+            whole = int(front)
+            if up and rest.strip("0"):
+                whole += 1
+            return least if whole < least else most if whole > most else whole
         try:
-            number = Decimal((element.text or "").strip())
+            number = Decimal(text.strip())
         except InvalidOperation:
             number = NO_NUMBER
         if number.is_nan():
@@ -174,12 +186,6 @@ def is_result_name(name: str) -> bool:
 # ---- Results
 
 
-def output_of(result: Element) -> str:
-    """Returns what a program wrote to its standard error, as request_parts leaves it."""
-    element = result.find("stderr_out")
-    return "" if element is None else element.text or ""
-
-
 def upload_fault(files: list[Fields]) -> str | None:
     """Returns why the client gave up an upload of a result, or None. Such a result ended well by its exit
     status and its state, although an output file is lost.
@@ -197,9 +203,9 @@ def reported_file(file: Fields) -> ReportedFile:
     return ReportedFile(name, file.whole("nbytes", 0, MOST_NUMBER, 0), md5)
 
 
-def report_of(result: Element) -> Report | None:
+def report_of(result: ResultElements) -> Report | None:
     """Returns the report of a finished result, or None if its name can't be a result's name."""
-    fields = Fields(result)
+    fields = Fields(result.texts)
     name = fields.text("name")
     if name is None or not is_result_name(name):
         return None
@@ -207,36 +213,36 @@ def report_of(result: Element) -> Report | None:
     state = fields.whole("state", 0, 100, 0)
     if status == 0 and state != FINISHED:
         status = WITHOUT_STATUS
-    files = [Fields(file) for file in result.findall("file_info")]
+    files = list(map(Fields, result.files))
     fault = upload_fault(files)
     if status == 0 and fault is not None:
         return Report(name, UPLOAD_STATUS, fault)
     # a program may end with an error and say nothing
-    output = output_of(result) or ("" if status == 0 else f"exit status {status}")
+    output = result.output or ("" if status == 0 else f"exit status {status}")
     return Report(name, status, output, tuple(map(reported_file, files)))
 
 
 # ---- Coprocessors
 
 
-def coprocs_of(root: Element) -> tuple[Coproc, ...]:
+def coprocs_of(elements: RequestElements) -> tuple[Coproc, ...]:
     """Returns the coprocessors of a host. Those of graphics cards have elements with names of their own."""
     found = []
-    for element in [one for parent in root.findall("coprocs") for one in parent][:MOST_COPROCS]:
-        fields = Fields(element)
-        kind = COPROC_TYPES.get(element.tag) or fields.text("type")
-        if kind is not None and (element.tag == "coproc" or element.tag in COPROC_TYPES):
+    for name, texts in elements.coprocs[:MOST_COPROCS]:
+        fields = Fields(texts)
+        kind = COPROC_TYPES.get(name) or fields.text("type")
+        if kind is not None and (name == "coproc" or name in COPROC_TYPES):
             count = fields.whole("count", 0, 1000, 0)
             found.append(Coproc(kind, count, fields.whole("req_secs", 0, MOST_SECONDS, 0, up=True)))
     return tuple(found)
 
 
-def preferences_time(root: Element) -> int | None:
+def preferences_time(elements: RequestElements) -> int | None:
     """Returns when the client's preferences were changed, rounded up; 0 if it has none. Another project may
     have written them, so a request is not refused for them.
     """
     try:
-        return Fields(*root.findall("global_preferences")).whole("mod_time", 0, MOST_NUMBER, 0, up=True)
+        return Fields(elements.preferences).whole("mod_time", 0, MOST_NUMBER, 0, up=True)
     except RequestFault:
         return None
 
@@ -327,24 +333,58 @@ def element_of(pieces: Iterator[bytes]) -> Element:
     return root
 
 
-def names_in(parents: Iterable[Element]) -> Iterator[str]:
+def texts_in(*parents: Element) -> Texts:
+    """Returns the texts of the elements in some elements."""
+    return {element.tag: element.text or "" for parent in parents for element in parent}
+
+
+def result_in(result: Element) -> ResultElements:
+    """Returns the elements of a result."""
+    files = [texts_in(file) for file in result.findall("file_info")]
+    return ResultElements(texts_in(result), result.findtext(OUTPUT) or "", files)
+
+
+def parsed_elements(blocks: Iterable[bytes]) -> RequestElements:
+    """Returns the elements of a request, by a parser. Raises RequestFault if it is none."""
+    parts = Parts(blocks)
+    root = element_of(parts.xml())
+    others = root.find("other_results")
+    coprocs = chain.from_iterable(root.findall("coprocs"))
+    return RequestElements(
+        texts_in(root),
+        texts_in(*root.findall("host_info")),
+        texts_in(*root.findall("global_preferences")),
+        list(map(texts_in, root.findall("alt_platform"))),
+        [(element.tag, texts_in(element)) for element in islice(coprocs, MOST_COPROCS)],
+        list(map(result_in, root.findall("result"))),
+        None if others is None else list(map(texts_in, others.findall("other_result"))),
+        parts.has_messages,
+    )
+
+
+def elements_of(blocks: Iterable[bytes]) -> RequestElements:
+    """Returns the elements of the request in the blocks of a body. Raises RequestFault if it is none."""
+    blocks = iter(blocks)
+    first = list(islice(blocks, 2))
+    plain = plain_elements(first[0]) if len(first) == 1 else None
+    return parsed_elements(chain(first, blocks)) if plain is None else plain
+
+
+def names_in(all_texts: Iterable[Texts]) -> Iterator[str]:
     """Yields the name in each of some elements that has one."""
-    for parent in parents:
-        found = parent.findall("name")
-        if found:
-            yield (found[-1].text or "").strip()
+    for texts in all_texts:
+        name = texts.get("name")
+        if name is not None:
+            yield name.strip()
 
 
 def read_request(blocks: Iterable[bytes]) -> ClientRequest:
     """Reads the request from the blocks of a body. Raises RequestFault if it is none."""
-    parts = Parts(blocks)
-    root = element_of(parts.xml())
-    fields = Fields(root)
-    host = Fields(*root.findall("host_info"), of="host_info/")
+    elements = elements_of(blocks)
+    fields, host = Fields(elements.texts), Fields(elements.host, of="host_info/")
     seconds = fields.whole("work_req_seconds", 0, MOST_SECONDS, 0, up=True)
-    has = root.find("other_results")
-    other = None if has is None else tuple(filter(is_result_name, names_in(has.findall("other_result"))))
-    coprocs = coprocs_of(root)
+    others = elements.others
+    coprocs = coprocs_of(elements)
     p_ncpus = host.whole("p_ncpus", 0, 10_000, 0)
     p_fpops = host.whole("p_fpops", 0, MOST_NUMBER, 0)
     m_nbytes = host.whole("m_nbytes", 0, MOST_NUMBER, 0)
@@ -359,15 +399,15 @@ def read_request(blocks: Iterable[bytes]) -> ClientRequest:
         m_nbytes=m_nbytes,
         d_free=d_free,
         platform_name=fields.word("platform_name"),
-        alt_platforms=tuple(filter(is_word, names_in(root.findall("alt_platform"))))[:MOST_PLATFORMS],
+        alt_platforms=tuple(filter(is_word, names_in(elements.platforms)))[:MOST_PLATFORMS],
         work_req_seconds=seconds,
-        other_results=other,
-        results=tuple(filter(None, map(report_of, root.findall("result")))),
+        other_results=None if others is None else tuple(filter(is_result_name, names_in(others))),
+        results=tuple(filter(None, map(report_of, elements.results))),
         code_sign_key="".join((fields.text("code_sign_key") or "").split()),
-        has_messages=parts.has_messages,
+        has_messages=elements.has_messages,
         p_ncpus=max(1, p_ncpus),
         cpu_req_secs=fields.whole("cpu_req_secs", 0, MOST_SECONDS, seconds, up=True),
         coprocs=coprocs,
-        about=described(root, p_ncpus, m_nbytes, d_free, p_fpops, shown),
-        preferences_time=preferences_time(root),
+        about=described(fields, host, p_ncpus, m_nbytes, d_free, p_fpops, shown),
+        preferences_time=preferences_time(elements),
     )

@@ -2,7 +2,7 @@
 import json
 from collections.abc import Sequence
 from dataclasses import dataclass, field, fields
-from xml.etree.ElementTree import Element
+from typing import Protocol
 
 MOST_TEXT = 80  # characters of each text
 MOST_COPROCS = 4
@@ -13,6 +13,8 @@ _written = json.JSONEncoder(ensure_ascii=False, separators=(",", ":")).encode
 
 def one_line(text: str) -> str:
     """Returns a text on one line, without what can't be seen, and not longer than it may be."""
+    if len(text) <= MOST_TEXT and "  " not in text and text.isprintable():
+        return text.strip()
     front = text[: 4 * MOST_TEXT]
     if not front.isprintable():
         front = "".join(one if one.isprintable() else " " for one in front)
@@ -33,11 +35,22 @@ class Description:
     coprocessors: list[str] = field(default_factory=list)
 
     def written(self) -> str:
-        """Returns it as JSON, for the state file. What is not known is left out."""
-        return _written({name: value for name in NAMES if (value := getattr(self, name))})
+        """Returns it as JSON, for the state file."""
+        return written(*(getattr(self, name) for name in NAMES))
 
 
 NAMES = tuple(one.name for one in fields(Description))
+FRONTS = tuple(f'"{name}":' for name in NAMES)
+
+
+def written(*values: object) -> str:
+    """Returns the members of a description as JSON, for the state file. What is not known is left out."""
+    members = [
+        front + (str(value) if isinstance(value, int) else _written(value))
+        for front, value in zip(FRONTS, values)
+        if value
+    ]
+    return f"{{{','.join(members)}}}"
 
 
 def read_description(text: str | None) -> Description:
@@ -45,22 +58,29 @@ def read_description(text: str | None) -> Description:
     return Description(**json.loads(text)) if text else Description()
 
 
+class Texts(Protocol):
+    """Texts by name, such as those of the elements in an element."""
+
+    def text(self, name: str) -> str | None:
+        """Returns a text, or None."""
+
+
 def described(
-    root: Element, processors: int, memory: int, disk: int, speed: int, coprocessors: Sequence[str]
+    request: Texts,
+    host: Texts,
+    processors: int,
+    memory: int,
+    disk: int,
+    speed: int,
+    coprocessors: Sequence[str],
 ) -> str:
-    """Returns what a request says of its computer, for the state file. Some models of processors begin with
-    their vendor.
+    """Returns what a request and its host_info say of the computer, for the state file. Some models of
+    processors begin with their vendor.
     """
-    host = root.find("host_info")
-    texts = {} if host is None else {one.tag: one.text or "" for one in host}
-    vendor, model = one_line(texts.get("p_vendor", "")), one_line(texts.get("p_model", ""))
-    return Description(
-        model if model.lower().startswith(vendor.lower()) else one_line(f"{vendor} {model}"),
-        processors,
-        one_line(f"{texts.get('os_name', '')} {texts.get('os_version', '')}"),
-        one_line(".".join(filter(None, ((root.findtext(tag) or "").strip() for tag in VERSION)))),
-        memory,
-        disk,
-        speed,
-        [one_line(text) for text in coprocessors[:MOST_COPROCS]],
-    ).written()
+    vendor, model = one_line(host.text("p_vendor") or ""), one_line(host.text("p_model") or "")
+    if not model.lower().startswith(vendor.lower()):
+        model = one_line(f"{vendor} {model}")
+    system = one_line(f"{host.text('os_name') or ''} {host.text('os_version') or ''}")
+    client = one_line(".".join(filter(None, map(request.text, VERSION))))
+    shown = [one_line(text) for text in coprocessors[:MOST_COPROCS]]
+    return written(model, processors, system, client, memory, disk, speed, shown)

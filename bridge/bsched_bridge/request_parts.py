@@ -162,6 +162,10 @@ def output_of(text: bytes) -> str:
     text = text if inner is None else inner
     marked = between(text, ANSWER_BEGINS, ANSWER_ENDS)
     text = (text if marked is None else marked).lstrip(BLANKS)[:MOST_LOOKED_AT]
+    if len(text) <= MOST_OUTPUT and text.isascii():
+        plain = text.decode().strip(" \t\r\n")
+        if plain.isprintable() and "&" not in plain:
+            return plain
     # the client writes a character of XML, or a reference for each byte
     plain = xml_text(text.decode(errors="replace"))
     decoded = BYTE.sub(lambda reference: bytes([int(reference[1])]), plain.encode()).decode(errors="replace")

@@ -3,6 +3,7 @@ import re
 import subprocess
 import sys
 import time
+from collections.abc import Callable
 from pathlib import Path
 from xml.etree.ElementTree import Element
 from xml.sax.saxutils import escape
@@ -14,6 +15,7 @@ from messages import request
 
 from bsched_bridge import client_requests, request_parts
 from bsched_bridge.client_requests import ClientRequest, Report
+from bsched_bridge.plain_requests import plain_elements
 from bsched_bridge.request_parts import MOST_XML, Parts, RequestFault, between
 
 RECORDED = Path(__file__).parent / "requests"
@@ -328,9 +330,154 @@ def test_both_parsers_read_the_same_request(name: str, monkeypatch: pytest.Monke
     result = recorded("whole_result").replace(b"@NAME@", b"u1_0")
     body = recorded(name).replace(b"@CPID@", b"c1").replace(b"@RESULTS@", result)
     body = body.replace(b"@HOSTID@", b"7").replace(b"@SEQNO@", b"5")
-    at_once = read_request(body)
+    assert plain_elements(body) is not None or name == "reports"  # which has a message with references
+    plain = read_request(body)
+    assert by_parser(body) == plain
     monkeypatch.setattr(client_requests, "MOST_AT_ONCE", 0)
-    assert read_request(body) == at_once
+    assert by_parser(body) == plain
+
+
+# ---- Requests that are read without a parser
+
+
+def by_parser(body: bytes) -> ClientRequest:
+    """Returns the request in a body that does not come at once, so a parser reads it."""
+    return client_requests.read_request([body[:1], body[1:]])
+
+
+# what stands between the elements of a request, or in their place
+PIECES = st.sampled_from(
+    [
+        "<hostid>7</hostid>",
+        "<hostid> 8 </hostid>",
+        "<hostid/>",
+        "<hostid></hostid>",
+        "<rpc_seqno>1e1</rpc_seqno>",
+        "<work_req_seconds>0.25</work_req_seconds>",
+        "<cpu_req_secs>12.5000</cpu_req_secs>",
+        "<cpu_req_secs>x</cpu_req_secs>",
+        "<other>a &amp; b</other>",
+        "<other>a > b ]</other>",
+        "<other>]]></other>",
+        "<other x='1'>1</other>",
+        "<other><hostid>9</hostid></other>",
+        "<other-1>!?</other-1 >",
+        "<code_sign_key>\n10\n.\n</code_sign_key>",
+        "<core_client_release>5\r\n</core_client_release>",
+        "<alt_platform><name>p1</name></alt_platform>",
+        "<alt_platform>\n<name>p2</name>\n<name>p3</name></alt_platform>",
+        "<alt_platform>p4</alt_platform>",
+        "<alt_platform><time_stats><name>p5</name></time_stats></alt_platform>",
+        "<host_info><p_ncpus>4</p_ncpus><os_name>Línux</os_name></host_info>",
+        "<host_info>\n<p_model>A\x01 [B]\x7f</p_model>\n<wsl><distro>x</distro></wsl></host_info>",
+        "<global_preferences><mod_time>12.5</mod_time></global_preferences>",
+        "<global_preferences>\n<mod_time>x</mod_time>\n</global_preferences>",
+        "<time_stats><on_frac>1</on_frac></time_stats>",
+        "<time_stats>1</time_stats>",
+        "<net_stats><a><result><name>u8_0</name></result></a></net_stats>",
+        "<coprocs>\n</coprocs>",
+        "<coprocs><coproc_cuda><count>2</count><pci_info><a>1</a></pci_info></coproc_cuda></coprocs>",
+        "<coprocs><coproc><type>x</type></coproc><coproc_ati></coproc_ati></coprocs>",
+        "<app_versions><app_version><name>x</name></app_version></app_versions>",
+        "<other_results>\n</other_results>",
+        "<other_results><other_result><name>u5_0</name><a>b</a></other_result></other_results>",
+        "<other_results><name>u6_0</name><other_result></other_result></other_results>",
+        "<in_progress_results><x/></in_progress_results>",
+        "<result><name>u1_0</name><state>5</state></result>",
+        "<result><name>u2_0</name><exit_status>3</exit_status><stderr_out>a]]><b</stderr_out></result>",
+        "<result><name>u3_0</name><stderr_out><![CDATA[<answer> 1 </answer>]]></stderr_out></result>",
+        "<result><name>u3_1</name><stderr_out>1</stderr_out><stderr_out>2</stderr_out></result>",
+        "<result><file_info><name>f</name><nbytes>3.0</nbytes></file_info><name>u4_0</name></result>",
+        "<result><name>u4_1</name><file_info><error_msg></error_msg></file_info></result>",
+        "<result>u7_0</result>",
+        "<stderr_out>1</stderr_out>",
+        "<msg_from_host><a></msg_from_host>",
+        "<!-- <time_stats> -->",
+        "<?a b?>",
+        "<a>",
+        "</a>",
+        "<>",
+        "<\0>",
+        "&lt;",
+        "text",
+        "\ufffe",
+        "\n    ",
+    ]
+)
+BEFORE = "<scheduler_request>\n<authenticator>k</authenticator>\n<platform_name>p</platform_name>\n"
+HOST, END = "<host_info><host_cpid>c1</host_cpid></host_info>\n", "</scheduler_request>\n"
+
+
+def request_with(text: str) -> bytes:
+    """Returns a request with some text."""
+    return f"{BEFORE}{HOST}{text}{END}".encode()
+
+
+@given(st.lists(PIECES, max_size=6).map("".join), st.booleans())
+@example("<core_client_release>5\r\n</core_client_release>", False)
+@example("<other_results>\n</other_results>", True)
+@example("<other_results>\n</other_results><other_results><other_result/></other_results>", False)
+def test_plain_requests_are_read_as_a_parser_reads_them(text: str, is_first: bool) -> None:
+    body = f"{BEFORE}{text}{HOST}{END}".encode() if is_first else request_with(text)
+    if plain_elements(body) is not None:
+        assert read_request_or_fault(by_parser, body) == read_request_or_fault(read_request, body)
+
+
+def read_request_or_fault(read: Callable[[bytes], ClientRequest], body: bytes) -> ClientRequest | str:
+    """Returns a request, or why it is refused."""
+    try:
+        return read(body)
+    except RequestFault as fault:
+        return str(fault)
+
+
+@pytest.mark.parametrize(
+    "text",
+    [
+        "<hostid>7</hostid>",
+        "<alt_platform>\n<name>p2</name>\n</alt_platform>\n<alt_platform><name>p</name></alt_platform>",
+        "<global_preferences>\n<mod_time>1.5</mod_time>\n</global_preferences>",
+        "<coprocs><coproc_cuda><count>2</count><pci_info><a>1</a></pci_info></coproc_cuda></coprocs>",
+        "<result><name>u1_0</name><file_info><name>f</name></file_info></result>",
+        "<result><name>u3_0</name><stderr_out><![CDATA[<a> & 1 </a>]]></stderr_out></result>",
+        "<other_results><other_result><name>u5_0</name></other_result></other_results>",
+    ],
+)
+def test_requests_of_clients_need_no_parser(text: str) -> None:
+    assert plain_elements(request_with(text)) is not None
+
+
+@pytest.mark.parametrize(
+    "text",
+    [
+        "<a>&lt;</a>",
+        "<a x='1'>1</a>",
+        "<!-- -->",
+        "<?a?>",
+        "<a>]]></a>",
+        "<a>",
+        "<a></b>",
+        "<msg_from_host></msg_from_host>",
+        "<hostid>\x01</hostid>",
+        "<stderr_out>",
+        "<\0>",
+        "<result><name>\ufffe</name></result>",
+    ],
+)
+def test_other_requests_need_a_parser(text: str) -> None:
+    assert plain_elements(request_with(text)) is None
+    assert plain_elements(request_with("") + text.encode()) is None
+
+
+@pytest.mark.parametrize(
+    "parts",
+    [("<a></a>", "<b"), ("<a>", "</b>"), ("<", "a"), ("<result>", "x"), ("<hostid>1</hostid>", "<a/>")],
+)
+def test_a_request_that_is_not_plain_is_looked_at_quickly(parts: tuple[str, str]) -> None:
+    count = (60_000 - len(parts[1])) // len(parts[0])
+    began = time.process_time()
+    assert plain_elements(request_with(parts[0] * count + parts[1])) is None
+    assert time.process_time() - began < 1
 
 
 def test_a_request_as_long_as_those_of_clients() -> None:
