@@ -5,7 +5,7 @@ volunteers are in the language that the request asks for. The client acts on non
 """
 import copy
 import logging
-from dataclasses import dataclass
+from dataclasses import dataclass, replace
 from xml.etree.ElementTree import Element, SubElement, indent, tostring
 
 from .catalogue import App, Catalogue, MissingFile, StoredFile, Version, Work
@@ -20,7 +20,7 @@ from .scheduler import Job, Reply
 from .upload_tokens import UploadTokens
 from .uploads import PATH as UPLOAD_PATH
 from .words import xml_text
-from .xml_lines import XmlLines
+from .xml_lines import XmlLines, plain
 
 SCHEDULER_VERSION = 720  # the version of BOINC's scheduler that these replies imitate
 MILLICREDITS = 1000
@@ -41,6 +41,8 @@ NO_JOBS = {
 ACCOUNT = gettext_noop("Your account"), gettext_noop("Your computers, credit and settings"), "account"
 STATUS = gettext_noop("Project status"), gettext_noop("Work, users and computers of the project"), "status"
 
+UNKNOWN_FLOPS = "<flops>?</flops>"
+
 log = logging.getLogger(__name__)
 
 
@@ -51,9 +53,19 @@ class NeededFile:
     file: StoredFile
     signature: str | None  # input files have none
     is_executable: bool
+    lines: list[str] | None = None  # of the reply, if they were written before
 
 
 Files = dict[str, NeededFile]  # by name
+
+
+@dataclass(frozen=True, slots=True)
+class VersionLines:
+    """What replies have of a version, as long as the catalogue stays the same."""
+
+    files: list[NeededFile]
+    app: list[str]  # the lines of its application
+    around_flops: tuple[str, str] | None  # its lines before and after the speed; None if it has a plan class
 
 
 # ---- Answers of a few elements, which come once for each account
@@ -120,6 +132,10 @@ class ReplyWriter:
     def _set_catalogue(self, catalogue: Catalogue) -> None:
         """Writes replies with this catalogue from now on."""
         self.catalogue, self._key = catalogue, without_blanks(catalogue.code_sign_key)
+        self._versions: dict[tuple[str, str, int], VersionLines] = {}
+        xml = XmlLines("scheduler_reply")
+        xml.add("code_sign_key", "\n" + catalogue.code_sign_key)
+        self._key_lines = xml.inner_lines()
 
     def with_catalogue(self, catalogue: Catalogue) -> "ReplyWriter":
         """Returns a writer of the same project with this catalogue."""
@@ -133,7 +149,7 @@ class ReplyWriter:
         """Returns what each reply begins with."""
         xml = XmlLines("scheduler_reply")
         xml.add_lines(self._head)
-        xml.add("request_delay", f"{delay:.6f}")
+        xml.add_plain("request_delay", f"{delay:.6f}")
         return xml
 
     def put_off(self, put: PutOff, language: Language = ENGLISH) -> bytes:
@@ -161,8 +177,8 @@ class ReplyWriter:
         xml.add("user_name", reply.user_name)
         if reply.team_name is not None:
             xml.add("team_name", reply.team_name)
-        xml.add("user_total_credit", f"{reply.user_total_credit / MILLICREDITS:.3f}")
-        xml.add("host_total_credit", f"{reply.host_total_credit / MILLICREDITS:.3f}")
+        xml.add_plain("user_total_credit", f"{reply.user_total_credit / MILLICREDITS:.3f}")
+        xml.add_plain("host_total_credit", f"{reply.host_total_credit / MILLICREDITS:.3f}")
         if recent is not None:
             xml.add("user_expavg_credit", f"{recent.user:.6f}")
             xml.add("host_expavg_credit", f"{recent.host:.6f}")
@@ -172,8 +188,7 @@ class ReplyWriter:
             xml.add_message(language.text(notice), "notice")
         for what, names in (("result_ack", reply.result_ack), ("result_abort", reply.result_abort)):
             for name in names:
-                with xml.inside(what):
-                    xml.add("name", name)
+                xml.add_lines([f"    <{what}>\n        <name>{plain(name)}</name>\n    </{what}>"])
         if request.has_messages:
             xml.add("message_ack", 1)
         preferences = read_preferences(reply.preferences)
@@ -192,7 +207,7 @@ class ReplyWriter:
         change of the key.
         """
         if not has:
-            xml.add("code_sign_key", "\n" + self.catalogue.code_sign_key)
+            xml.add_lines(self._key_lines)
         elif has != self._key:
             xml.add_message(language.text(KEY_CHANGED), "notice")
 
@@ -214,12 +229,19 @@ class ReplyWriter:
                 )
                 lacks = gettext_lazy("The project lacks a file for the job %(name)s.", name=job.name)
                 xml.add_message(language.text(lacks), "low")
-        for app in apps.values():
-            self._add_app(xml, app)
+        lines = {}
+        for key in versions:
+            lines[key[0]] = self._versions[key].app
+        for name in apps:
+            xml.add_lines(lines[name])
         for needed in files.values():
             self._add_file(xml, needed)
-        for version in versions.values():
-            self._add_version(xml, version, request)
+        for key, version in versions.items():
+            around_flops = self._versions[key].around_flops
+            if around_flops is None:
+                self._add_version(xml, version, request)
+            else:
+                xml.add_lines([f"<flops>{request.p_fpops}</flops>".join(around_flops)])
         workunits = set()
         for job, app, work in sent:
             if job.wu_name not in workunits:
@@ -243,11 +265,37 @@ class ReplyWriter:
         work = self.catalogue.work(app, job.wu_name)
         inputs = [self.catalogue.folder.stored(file.name) for file in work.input_files]
         apps[app.name], versions[key] = app, version
-        for item in version.files:
-            files[item.file.name] = NeededFile(item.file, item.signature, item.is_executable)
+        for needed in self._lines_of(key, app, version).files:
+            files[needed.file.name] = needed
         for file in inputs:
             files.setdefault(file.name, NeededFile(file, None, False))
         return app, work
+
+    def _lines_of(self, key: tuple[str, str, int], app: App, version: Version) -> VersionLines:
+        """Returns the lines of a version and of its application and files. They are written once."""
+        lines = self._versions.get(key)
+        if lines is None:
+            lines = self._versions[key] = self._new_lines(app, version)
+        return lines
+
+    def _new_lines(self, app: App, version: Version) -> VersionLines:
+        """Writes the lines of a version."""
+        files = []
+        for item in version.files:
+            needed, xml = NeededFile(item.file, item.signature, item.is_executable), XmlLines(
+                "scheduler_reply"
+            )
+            self._add_file(xml, needed)
+            files.append(replace(needed, lines=xml.inner_lines()))
+        xml = XmlLines("scheduler_reply")
+        self._add_app(xml, app)
+        app_lines, around_flops = xml.inner_lines(), None
+        if not split(version.platform)[1]:
+            xml = XmlLines("scheduler_reply")
+            self._add_version(xml, version, None)
+            begin, _, end = xml.inner_lines()[0].partition(UNKNOWN_FLOPS)
+            around_flops = begin, end
+        return VersionLines(files, app_lines, around_flops)
 
     def _add_app(self, xml: XmlLines, app: App) -> None:
         """Adds an application."""
@@ -258,6 +306,9 @@ class ReplyWriter:
     def _add_file(self, xml: XmlLines, needed: NeededFile) -> None:
         """Adds a file that the client downloads."""
         file = needed.file
+        if needed.lines is not None:
+            xml.add_lines(needed.lines)
+            return
         with xml.inside("file_info"):
             xml.add("name", file.name)
             xml.add("url", f"{self.url}download/{file.name}")
@@ -268,20 +319,20 @@ class ReplyWriter:
             xml.add("nbytes", file.size)
             xml.add("md5_cksum", file.md5)
 
-    def _add_version(self, xml: XmlLines, version: Version, request: ClientRequest) -> None:
+    def _add_version(self, xml: XmlLines, version: Version, request: ClientRequest | None) -> None:
         """Adds a version. Its speed is the one that the client reported, so that the client and bsched
-        estimate alike.
+        estimate alike. Without a request the speed is not known.
         """
         platform, name = split(version.platform)
         with xml.inside("app_version"):
             xml.add("app_name", version.app)
             xml.add("version_num", version.number)
             xml.add("platform", platform)
-            if name:
+            if name and request is not None:
                 self._add_plan_class(xml, self.catalogue.plan_classes[name], request)
             else:
                 xml.add("avg_ncpus", 1)
-                xml.add("flops", request.p_fpops)
+                xml.add("flops", "?" if request is None else request.p_fpops)
             for item in version.files:
                 with xml.inside("file_ref"):
                     xml.add("file_name", item.file.name)
@@ -306,13 +357,15 @@ class ReplyWriter:
     def _add_workunit(self, xml: XmlLines, job: Job, app: App, work: Work, request: ClientRequest) -> None:
         """Adds a workunit. Its operations give bsched's estimate on this client, to the second."""
         operations = job.estimate * request.p_fpops
+        begin = f"""\
+        <name>{plain(job.wu_name)}</name>
+        <app_name>{plain(job.app_name)}</app_name>
+        <rsc_fpops_est>{operations}</rsc_fpops_est>
+        <rsc_fpops_bound>{operations * app.fpops_bound_factor}</rsc_fpops_bound>
+        <rsc_memory_bound>{app.rsc_memory_bound}</rsc_memory_bound>
+        <rsc_disk_bound>{app.rsc_disk_bound}</rsc_disk_bound>"""
         with xml.inside("workunit"):
-            xml.add("name", job.wu_name)
-            xml.add("app_name", job.app_name)
-            xml.add("rsc_fpops_est", operations)
-            xml.add("rsc_fpops_bound", operations * app.fpops_bound_factor)
-            xml.add("rsc_memory_bound", app.rsc_memory_bound)
-            xml.add("rsc_disk_bound", app.rsc_disk_bound)
+            xml.add_lines([begin])
             if work.command_line:
                 xml.add("command_line", work.command_line)
             for file in work.input_files:
@@ -343,14 +396,16 @@ class ReplyWriter:
     def _add_result(self, xml: XmlLines, job: Job, app: App) -> None:
         """Adds a result, which is a job."""
         platform, plan_class = split(job.platform)
+        begin = f"""\
+        <name>{plain(job.name)}</name>
+        <wu_name>{plain(job.wu_name)}</wu_name>
+        <platform>{plain(platform)}</platform>"""
         with xml.inside("result"):
-            xml.add("name", job.name)
-            xml.add("wu_name", job.wu_name)
-            xml.add("platform", platform)
+            xml.add_lines([begin])
             if plan_class:
                 xml.add("plan_class", plan_class)
-            xml.add("version_num", job.version_num)
-            xml.add("report_deadline", job.report_deadline)
+            xml.add_plain("version_num", job.version_num)
+            xml.add_plain("report_deadline", job.report_deadline)
             if app.is_reported_at_once:
                 xml.add("report_immediately", 1)
             for place, file in enumerate(app.output_files):

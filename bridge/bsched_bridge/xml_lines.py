@@ -16,6 +16,11 @@ def escaped(text: str) -> str:
     return xml_text(text).replace("&", "&amp;").replace("<", "&lt;").replace(">", "&gt;")
 
 
+def plain(text: str) -> str:
+    """Returns the same. Nearly no text has anything to escape."""
+    return escaped(text) if odd_in(text) else text
+
+
 class XmlLines:
     """An element while it is written."""
 
@@ -28,6 +33,10 @@ class XmlLines:
         """Adds an element with a text."""
         if isinstance(value, str) and odd_in(value):
             value = escaped(value)
+        self._lines.append(f"{self._indent}<{name}>{value}</{name}>")
+
+    def add_plain(self, name: str, value: str | int) -> None:
+        """Adds an element with a number."""
         self._lines.append(f"{self._indent}<{name}>{value}</{name}>")
 
     def add_message(self, text: str, priority: str) -> None:
@@ -54,8 +63,8 @@ class XmlLines:
         self._lines.append(f"{self._indent}</{self._names.pop()}>")
 
     def inner_lines(self) -> list[str]:
-        """Returns the lines within the element."""
-        return self._lines[1:]
+        """Returns the lines within the element, as one text."""
+        return ["\n".join(self._lines[1:])]
 
     def written(self) -> bytes:
         """Returns the bytes of the element."""
