@@ -2,7 +2,7 @@
 import logging
 from collections.abc import Callable, Iterable
 from pathlib import Path
-from wsgiref.types import StartResponse, WSGIEnvironment
+from wsgiref.types import StartResponse, WSGIApplication, WSGIEnvironment
 
 from werkzeug.exceptions import HTTPException
 from werkzeug.wrappers import Request, Response
@@ -192,9 +192,10 @@ class Application:
         """Returns a handler that answers messages of this machine alone."""
         field = self.settings.accounts.address_field if self.settings.accounts else None
 
-        def handle(message: Request) -> Response:
-            is_near = is_of_this_machine(message, field)
-            return handler(message) if is_near else self.pages.not_found(message)
+        def handle(message: Request) -> WSGIApplication:
+            if is_of_this_machine(message, field):
+                return handler(message)
+            return self.pages.not_found(message)
 
         return handle
 
@@ -202,12 +203,14 @@ class Application:
         """Answers a message (PEP 3333)."""
         return self._answer(environ)(environ, start_response)
 
-    def _answer(self, environ: WSGIEnvironment) -> Response:
+    def _answer(self, environ: WSGIEnvironment) -> WSGIApplication:
         """Returns the answer to a message."""
         try:
             message = Message(environ, populate_request=False)
             handler, values = self.routes.matched(message)
-            return self.pages.not_found(message) if handler is None else handler(message, **values)
+            if handler is not None:
+                return handler(message, **values)
+            return self.pages.not_found(message)
         except HTTPException as fault:
             return plain_answer(fault)
         except Exception as error:

@@ -8,14 +8,15 @@ import json
 import sqlite3
 import time
 from collections.abc import Callable, Iterable
-from dataclasses import dataclass, fields
+from dataclasses import dataclass, field, fields
+from operator import attrgetter
 from typing import cast
 
 from .barring import Barred
 from .credit_days import DAY, HOST_TABLE, MEMBER_TABLE, StoredDay
 from .hosts import COUNTED, MOST_NUMBER, Key, new_hostid
 from .members import first_heard, store_credit
-from .scheduler import Job, Reply
+from .scheduler import Job, Reply, members_of_job
 from .state_file import StateFile
 
 
@@ -25,10 +26,7 @@ OF_ACCOUNT = (
     "LEFT JOIN team ON team.id = member.team "
     "LEFT JOIN member_day ON member_day.member = member.id AND member_day.day = ?1"
 )
-STATE = (
-    "open_call, jobs_in_hand, last_number, scheduler_hostid IS NOT NULL, host.hostid, host_day.credit, "
-    f"{ACCOUNT}"
-)
+STATE = "open_call, jobs_in_hand, last_number, scheduler_hostid, host.hostid, host_day.credit, " f"{ACCOUNT}"
 OF_HOST = (
     "FROM host LEFT JOIN host_day ON host_day.hostid = host.hostid AND host_day.day = ?1 "
     f"LEFT JOIN member ON member.authenticator = host.authenticator {OF_ACCOUNT}"
@@ -54,7 +52,15 @@ ANSWERED = (
     "user_credit = ?, host_credit = ?, heard_at = ?, about = coalesce(?, about) "
     "WHERE authenticator = ? AND host_cpid = ?"
 )
+# The same for a host whose number is still the same. The indexes with the number are left alone.
+ANSWERED_AS = (
+    "UPDATE host SET open_call = NULL, jobs_in_hand = ?, user_name = ?, user_credit = ?, host_credit = ?, "
+    "heard_at = ?, about = coalesce(?, about) "
+    "WHERE authenticator = ? AND host_cpid = ? AND scheduler_hostid = ?"
+)
 JOB_MEMBERS = [member.name for member in fields(Job)]
+values_of_job = attrgetter(*JOB_MEMBERS)
+_written = json.JSONEncoder().encode
 # Open calls of accounts that the bridge does not know. Somebody may have made these accounts up, and each
 # call takes up to 262,144 bytes of the disk until bsched answers.
 MOST_OF_STRANGERS = 32
@@ -101,6 +107,7 @@ class KeyState:
     has_host: bool = False  # whether bsched has the host, by its last reply
     day: StoredDay | None = None  # None if no client has the host's number
     account: AccountState | None = None  # None if the bridge does not know the account
+    scheduler_hostid: int | None = field(default=None, compare=False)  # bsched's number of the host
 
     @property
     def is_of_stranger(self) -> bool:
@@ -110,7 +117,7 @@ class KeyState:
     @property
     def jobs_in_hand(self) -> list[Job]:
         """The jobs that the client may lack."""
-        return [Job(**job) for job in json.loads(self.jobs_text)]
+        return [Job(*members_of_job(job)) for job in json.loads(self.jobs_text)]
 
 
 @dataclass(frozen=True, slots=True)
@@ -136,14 +143,15 @@ def account_of(row: tuple[object, ...], day: int) -> AccountState | None:
 
 def state_of(row: tuple[object, ...], day: int) -> KeyState:
     """Returns the state in the columns of STATE, which were read for a day."""
-    call, jobs, number, has_host, hostid, credit = row[:6]
+    call, jobs, number, scheduler_hostid, hostid, credit = row[:6]
     return KeyState(
         cast("bytes | None", call),
         cast(str, jobs),
         cast(int, number),
-        bool(has_host),
+        scheduler_hostid is not None,
         None if hostid is None else StoredDay(cast(int, hostid), day, cast("int | None", credit)),
         account_of(row[6:], day),
+        cast("int | None", scheduler_hostid),
     )
 
 
@@ -154,7 +162,7 @@ def today() -> int:
 
 def text_of_jobs(jobs: Iterable[Job]) -> str:
     """Returns jobs as they are stored."""
-    return json.dumps([{name: getattr(job, name) for name in JOB_MEMBERS} for job in jobs])
+    return _written([dict(zip(JOB_MEMBERS, values_of_job(job))) for job in jobs])
 
 
 class CallNumbers:
@@ -311,9 +319,8 @@ class CallNumbers:
         if state is None:
             state = self.state(key)
         now = int(time.time())
+        jobs, number = text_of_jobs(jobs_in_hand), reply.hostid
         values = (
-            text_of_jobs(jobs_in_hand),
-            reply.hostid,
             reply.user_name,
             reply.user_total_credit,
             reply.host_total_credit,
@@ -323,17 +330,11 @@ class CallNumbers:
             key.host_cpid,
         )
         with self.file.transaction(is_synced=False) as connection:
-            try:
-                is_stored = connection.execute(ANSWERED, values).rowcount == 1
-            except sqlite3.IntegrityError:
-                # Another host of the account had the number. If bsched's tables were restored from an older
-                # copy, bsched may give a number a second time.
-                connection.execute(
-                    "UPDATE host SET scheduler_hostid = NULL "
-                    "WHERE authenticator = ? AND scheduler_hostid = ?",
-                    (key.authenticator, reply.hostid),
-                )
-                is_stored = connection.execute(ANSWERED, values).rowcount == 1
+            is_stored = False
+            if state.scheduler_hostid == number:
+                is_stored = connection.execute(ANSWERED_AS, (jobs, *values, number)).rowcount == 1
+            if not is_stored:
+                is_stored = store_answer(connection, key, number, (jobs, number, *values))
             if is_stored:  # else the account was deleted just now
                 record_credit(connection, key, reply, state, now)
 
@@ -363,6 +364,24 @@ class CallNumbers:
                 "UPDATE host SET jobs_in_hand = ? WHERE authenticator = ? AND host_cpid = ?",
                 (text_of_jobs(jobs), key.authenticator, key.host_cpid),
             )
+
+
+def store_answer(
+    connection: sqlite3.Connection, key: Key, scheduler_hostid: int, values: tuple[object, ...]
+) -> bool:
+    """Stores an answer with bsched's number of the host, within a transaction. Returns whether the host is
+    there.
+    """
+    try:
+        return connection.execute(ANSWERED, values).rowcount == 1
+    except sqlite3.IntegrityError:
+        # Another host of the account had the number. If bsched's tables were restored from an older copy,
+        # bsched may give a number a second time.
+        connection.execute(
+            "UPDATE host SET scheduler_hostid = NULL WHERE authenticator = ? AND scheduler_hostid = ?",
+            (key.authenticator, scheduler_hostid),
+        )
+        return connection.execute(ANSWERED, values).rowcount == 1
 
 
 def record_credit(connection: sqlite3.Connection, key: Key, reply: Reply, state: KeyState, now: int) -> None:

@@ -49,9 +49,10 @@ class CatalogueReader:
         """Returns whether the catalogue was edited or, if nobody looked for some seconds, a file that it
         names.
         """
-        path, now = self.settings.catalogue, time.monotonic()
+        path = self.settings.catalogue
         if mark_of(path) != marks.get(path):
             return True
+        now = time.monotonic()
         if now < self._next_look:
             return False
         self._next_look = now + LOOK_SECONDS

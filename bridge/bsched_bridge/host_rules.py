@@ -1,5 +1,6 @@
 """The settings on hosts, which are read again after each edit of the file, without a restart."""
 import logging
+import os
 import threading
 from pathlib import Path
 
@@ -20,7 +21,7 @@ class HostRuleReader:
     def _state(self) -> tuple[int, int, int] | None:
         """Returns what changes if the file is edited, or None if the file can't be looked at."""
         try:
-            status = self.path.stat()
+            status = os.stat(self.path)
         except OSError:
             return None
         return status.st_mtime_ns, status.st_size, status.st_ino

@@ -9,6 +9,7 @@ import re
 import traceback
 from collections.abc import Iterator, Mapping
 from urllib.parse import urlsplit
+from wsgiref.types import StartResponse, WSGIEnvironment
 
 from werkzeug.datastructures import MultiDict
 from werkzeug.exceptions import (
@@ -74,6 +75,20 @@ def status_line(status: int) -> str:
 def answer(kind: str, body: bytes, fields: Mapping[str, str] | None = None, status: int = 200) -> Response:
     """Returns an answer whose body has a media type."""
     return Response(body, status_line(status), fields, content_type=kind)
+
+
+class XmlAnswer:
+    """An answer in XML. It has the bytes of Werkzeug's, which takes several times as long."""
+
+    __slots__ = ("body",)
+
+    def __init__(self, body: bytes) -> None:
+        self.body = body
+
+    def __call__(self, _environ: WSGIEnvironment, start_response: StartResponse) -> list[bytes]:
+        """Answers a message (PEP 3333)."""
+        start_response("200 OK", [("Content-Type", XML), ("Content-Length", str(len(self.body)))])
+        return [self.body]
 
 
 def plain_answer(fault: HTTPException) -> Response:

@@ -1,6 +1,7 @@
 """TOML files that an operator writes. Each fault is reported with its line."""
 import difflib
 import math
+import os
 import re
 import stat
 import tomllib
@@ -23,7 +24,7 @@ def mark_of(path: Path) -> Mark | None:
     """Returns the mark of a file, or None if it can't be looked at. That of a folder stays while files come
     and go in it."""
     try:
-        status = path.stat()
+        status = os.stat(path)
     except OSError:
         return None
     if stat.S_ISDIR(status.st_mode):

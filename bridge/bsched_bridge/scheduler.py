@@ -5,9 +5,8 @@ import json
 import logging
 import threading
 import time
-from collections.abc import Iterator
-from contextlib import contextmanager
 from dataclasses import dataclass, field, fields
+from operator import itemgetter
 from typing import Any, NoReturn
 
 from .scheduler_connection import FaultyAnswer, exchanged, message_of
@@ -77,20 +76,17 @@ class Refusal:
     members: dict[str, Any] = field(default_factory=dict)
 
 
-REPLY_MEMBERS = frozenset(member.name for member in fields(Reply)) - {"team_name", "preferences"}
-JOB_MEMBERS = frozenset(member.name for member in fields(Job))
-
-
-def known_members(response: dict[str, Any], known: frozenset[str]) -> dict[str, Any]:
-    """Returns the members that the bridge knows. A newer bsched may send more of them."""
-    return {name: value for name, value in response.items() if name in known}
+# The members that the bridge knows, in the order of the fields. A newer bsched may send more of them.
+members_of_job = itemgetter(*(member.name for member in fields(Job)))
+members_of_reply = itemgetter(
+    *(member.name for member in fields(Reply) if member.name not in ("team_name", "preferences"))
+)
 
 
 def read_reply(response: dict[str, Any]) -> Reply:
     """Returns the reply in a JSON object. Raises KeyError or TypeError if a member is missing."""
-    jobs = [Job(**known_members(job, JOB_MEMBERS)) for job in response["results"]]
-    members: dict[str, Any] = {**known_members(response, REPLY_MEMBERS), "results": jobs}
-    return Reply(**members)
+    jobs = [Job(*members_of_job(job)) for job in response["results"]]
+    return Reply(*members_of_reply({**response, "results": jobs}))
 
 
 def read_refusal(status: int, body: object) -> Refusal:
@@ -133,9 +129,16 @@ class Scheduler:
         is_old = oldest is not None and time.monotonic() - oldest > SLOW_SECONDS
         return is_old or self.silent_since is not None
 
-    @contextmanager
-    def _waiting(self) -> Iterator[None]:
-        """Counts a message that waits for its answer. Raises Hung if no message is to be sent now."""
+    def _waiting(self) -> "Waiting":
+        """Counts a message that waits for its answer, during the block of a `with` statement. Raises Hung if
+        no message is to be sent now.
+        """
+        return Waiting(self)
+
+    def begin(self) -> tuple[int, bool]:
+        """Begins to wait. Returns the number of the message, and whether it shows whether bsched answers
+        again.
+        """
         with self._lock:
             now, is_probe = time.monotonic(), self._hung_until is not None
             if self._hung_until is not None and (self._is_probed or now < self._hung_until):
@@ -143,12 +146,13 @@ class Scheduler:
             self._is_probed = is_probe
             number = max(self._began, default=0) + 1
             self._began[number] = now
-        try:
-            yield
-        finally:
-            with self._lock:
-                del self._began[number]
-                self._is_probed = self._is_probed and not is_probe
+        return number, is_probe
+
+    def end(self, number: int, is_probe: bool) -> None:
+        """Ends to wait."""
+        with self._lock:
+            del self._began[number]
+            self._is_probed = self._is_probed and not is_probe
 
     def message(
         self, method: str, path: str, body: bytes | None = None, fields: dict[str, str] | None = None
@@ -282,6 +286,21 @@ class Scheduler:
         """Returns whether a host exists with this key and this number."""
         answer = self.call_once(asking_call(authenticator, host_cpid, hostid))
         return isinstance(answer, Refusal) and answer.error in ("stale", "reused")
+
+
+class Waiting:
+    """A message that waits for its answer."""
+
+    __slots__ = ("_scheduler", "_number", "_is_probe")
+
+    def __init__(self, scheduler: Scheduler) -> None:
+        self._scheduler = scheduler
+
+    def __enter__(self) -> None:
+        self._number, self._is_probe = self._scheduler.begin()
+
+    def __exit__(self, *_fault: object) -> None:
+        self._scheduler.end(self._number, self._is_probe)
 
 
 def asking_call(authenticator: str, host_cpid: str, hostid: int) -> bytes:

@@ -5,6 +5,8 @@ processor time.
 """
 import re
 import socket
+import struct
+from functools import lru_cache
 
 from .settings import Address
 
@@ -28,15 +30,35 @@ def message_of(address: Address, method: str, path: str, body: bytes | None, fie
     return "\r\n".join([*lines, "", ""]).encode() + (body or b"")
 
 
-def connected(address: Address, seconds: float) -> socket.socket:
-    """Returns a connection. Each of its steps may take so many seconds."""
+@lru_cache(16)
+def is_ipv4(host: str) -> bool:
+    """Returns whether a text is an IPv4 address, and not a name."""
     try:
-        socket.inet_pton(socket.AF_INET, address.host)
-    except OSError:  # a name
+        socket.inet_pton(socket.AF_INET, host)
+    except OSError:
+        return False
+    return True
+
+
+@lru_cache(16)
+def duration(seconds: float) -> bytes:
+    """Returns a number of seconds as the kernel reads it (man 7 socket)."""
+    whole = int(seconds)
+    return struct.pack("ll", whole, int((seconds - whole) * 1_000_000))
+
+
+def connected(address: Address, seconds: float) -> socket.socket:
+    """Returns a connection. Each of its steps may take so many seconds. A step that takes longer raises
+    BlockingIOError, or TimeoutError if the address is a name.
+
+    The kernel measures the time. If Python did, each step would take one more call of the kernel.
+    """
+    if not is_ipv4(address.host):
         return socket.create_connection((address.host, address.port), seconds)
     connection = socket.socket(socket.AF_INET, socket.SOCK_STREAM)
     try:
-        connection.settimeout(seconds)
+        connection.setsockopt(socket.SOL_SOCKET, socket.SO_RCVTIMEO, duration(seconds))
+        connection.setsockopt(socket.SOL_SOCKET, socket.SO_SNDTIMEO, duration(seconds))
         connection.connect((address.host, address.port))
     except BaseException:
         connection.close()
@@ -48,6 +70,14 @@ def exchanged(address: Address, message: bytes, seconds: float, most: int) -> tu
     """Sends a message, and returns the status of the answer and its body. Of a body longer than `most` it
     returns the first bytes, one more than that. Raises TimeoutError, OSError or FaultyAnswer.
     """
+    try:
+        return exchanged_in_time(address, message, seconds, most)
+    except BlockingIOError:
+        raise TimeoutError from None
+
+
+def exchanged_in_time(address: Address, message: bytes, seconds: float, most: int) -> tuple[int, bytes]:
+    """Does the same. It raises BlockingIOError, too, if a step takes too long."""
     with connected(address, seconds) as connection:
         connection.sendall(message)
         answer = b""

@@ -3,13 +3,13 @@ import time
 from collections.abc import Callable, Iterable
 
 from werkzeug.exceptions import HTTPException
-from werkzeug.wrappers import Request, Response
+from werkzeug.wrappers import Request
 
 from .catalogue import Catalogue
 from .client_replies import ReplyWriter
 from .client_requests import MOST_BYTES, ClientRequest, read_request
 from .exchange import HOUR, TOO_BUSY, Exchange, PutOff
-from .http_messages import XML, answer, blocks_of, length_of
+from .http_messages import XmlAnswer, blocks_of, length_of
 from .key_locks import Busy, KeyLocks
 from .languages import gettext_lazy, language_of
 from .limits import NoPlace, Places
@@ -55,7 +55,7 @@ class SchedulerMessages:
         self.recent, self.places, self.calls = recent, places, calls or Calls()
         self.reader = RequestReader()
 
-    def answer(self, message: Request) -> Response:
+    def answer(self, message: Request) -> XmlAnswer:
         """Answers a scheduler_request, and counts it."""
         end, began = End.FAILED, time.perf_counter()
         try:
@@ -67,7 +67,7 @@ class SchedulerMessages:
         finally:
             self.calls.record(end, time.perf_counter() - began)
 
-    def _answered(self, message: Request) -> tuple[Response, End]:
+    def _answered(self, message: Request) -> tuple[XmlAnswer, End]:
         """Returns the answer to a scheduler_request, and how the call ends. The client always gets a
         scheduler_reply. Of a request that is refused the rest is read, too: a proxy may not read the answer
         before.
@@ -89,14 +89,14 @@ class SchedulerMessages:
         for _ in blocks:
             pass
         if isinstance(answered, PutOff):
-            return answer(XML, self.writer.put_off(answered, language)), answered.end
+            return XmlAnswer(self.writer.put_off(answered, language)), answered.end
         reply = answered.reply
         recent = self._recent(request.authenticator, reply.hostid)
         if reply.results:
             catalogue = self.catalogue()  # it may have been edited meanwhile
         self.writer = writer = self.writer.with_catalogue(catalogue)
         body = writer.reply(request, reply, answered.hostid, answered.notice, recent, language)
-        return answer(XML, body), End.ANSWERED
+        return XmlAnswer(body), End.ANSWERED
 
     def _recent(self, authenticator: str, scheduler_hostid: int) -> Recent | None:
         """Returns the recent average credit that a reply has; None if the operator has no file of it."""
