@@ -7,7 +7,7 @@ lack: those of an answer that came when no client waited for it any more, and th
 import json
 import sqlite3
 import time
-from collections.abc import Callable, Iterable
+from collections.abc import Callable, Container, Iterable
 from dataclasses import dataclass, field, fields
 from operator import attrgetter
 from typing import cast
@@ -58,8 +58,8 @@ ANSWERED_AS = (
     "heard_at = ?, about = coalesce(?, about) "
     "WHERE authenticator = ? AND host_cpid = ? AND scheduler_hostid = ?"
 )
-JOB_MEMBERS = [member.name for member in fields(Job)]
-values_of_job = attrgetter(*JOB_MEMBERS)
+JOB_FRONTS = [f'"{member.name}": ' for member in fields(Job)]
+values_of_job = attrgetter(*(member.name for member in fields(Job)))
 _written = json.JSONEncoder().encode
 # Open calls of accounts that the bridge does not know. Somebody may have made these accounts up, and each
 # call takes up to 262,144 bytes of the disk until bsched answers.
@@ -117,7 +117,12 @@ class KeyState:
     @property
     def jobs_in_hand(self) -> list[Job]:
         """The jobs that the client may lack."""
-        return [Job(*members_of_job(job)) for job in json.loads(self.jobs_text)]
+        return self.jobs_but(())
+
+    def jobs_but(self, names: Container[str]) -> list[Job]:
+        """Returns the jobs that the client may lack, without those of some names."""
+        jobs = json.loads(self.jobs_text)
+        return [Job(*members_of_job(job)) for job in jobs if job["name"] not in names]
 
 
 @dataclass(frozen=True, slots=True)
@@ -162,7 +167,23 @@ def today() -> int:
 
 def text_of_jobs(jobs: Iterable[Job]) -> str:
     """Returns jobs as they are stored."""
-    return _written([dict(zip(JOB_MEMBERS, values_of_job(job))) for job in jobs])
+    return f"[{', '.join(map(text_of_job, jobs))}]"
+
+
+def text_of_job(job: Job) -> str:
+    """Returns a job as it is stored."""
+    members = [front + json_of(value) for front, value in zip(JOB_FRONTS, values_of_job(job))]
+    return f"{{{', '.join(members)}}}"
+
+
+def json_of(value: object) -> str:
+    """Returns a value as JSON. The encoder takes little time for a text alone."""
+    kind = type(value)
+    if kind is int:
+        return str(value)
+    if kind is bool:
+        return "true" if value else "false"
+    return _written(value)
 
 
 class CallNumbers:

@@ -427,7 +427,7 @@ class Exchange:
         if self._is_made_up(key, state):
             return put_off_by(Refusal("bad_account"))
         listed = {*(request.other_results or ()), *names_of(request.results)}
-        in_hand = [job for job in state.jobs_in_hand if job.name not in listed]
+        in_hand = state.jobs_but(listed)
         names, seconds = [job.name for job in in_hand], sum(job.estimate for job in in_hand)
 
         def text(number: int) -> bytes:
