@@ -153,9 +153,14 @@ def body_of(message: Request, most: int) -> bytes:
 
 
 def blocks_of(message: Request, length: int) -> Iterator[bytes]:
-    """Yields the body of a POST in blocks, so that a long one is never in memory as a whole."""
+    """Yields the body of a POST in blocks, so that a long one is never in memory as a whole.
+
+    gunicorn's input makes a block of pieces of a kilobyte each. What it reads them from gives a whole block.
+    """
+    source = message.environ["wsgi.input"]
+    source = getattr(source, "reader", source)
     while length > 0:
-        block: bytes = message.environ["wsgi.input"].read(min(BLOCK, length))
+        block: bytes = source.read(min(BLOCK, length))
         if not block:
             raise BadRequest
         length -= len(block)

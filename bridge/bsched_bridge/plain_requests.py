@@ -60,6 +60,8 @@ class Plain:
 
     def texts(self, text: str) -> Texts:
         """Returns the texts in such elements. Raises NotPlain."""
+        if not text or text.isspace():
+            return {}
         found = self._match(text)
         if found is None or text.find("<", found.end()) >= 0 or ("]" in text and "]]>" in text):
             raise NotPlain
@@ -178,7 +180,7 @@ def result_in(text: str, outputs: list[str]) -> ResultElements:
         raise NotPlain
     rest, files = cut_all(text, "<file_info>", "</file_info>")
     texts = RESULT.texts(rest)
-    place = texts[OUTPUT]
+    place = texts.get(OUTPUT)
     return ResultElements(texts, "" if place is None else outputs[int(place)], list(map(FILE.texts, files)))
 
 
