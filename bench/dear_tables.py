@@ -95,7 +95,7 @@ class Shape:
     is_long: bool = False
 
     def output(self, host: int) -> str:
-        """Returns what a host reports: a whole number, or many digits of which the last differ."""
+        """Returns what a host reports: a whole number, or many digits that differ at their end."""
         return str(10**17 + 10 * host) if not self.is_long else f"{host:03}".rjust(DIGITS, "7")
 
     def names(self, count: int, number: int = INSTANCES - 1) -> list[str]:

@@ -219,7 +219,7 @@ def small_calls(program: str, small: Small, tables: str, folder: str, figures: F
     wants(len(reply["results"]), jobs, took.what)
     figures.tell_call(took)
     host, user, reports = small.second, small.user_of(small.second), len(small.agreed)
-    what = f"{reports} reports, each of which decides its workunit"
+    what = f"{reports} reports that each decide a workunit"
     results = [report_of(f"unit-{unit}_1", "42") for unit in small.agreed]
     took, reply = group.ask(what, reports * (each + 1) + 1, host, user, results=results)
     wants(reply["host_total_credit"], reports * CREDIT, what)

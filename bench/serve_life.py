@@ -653,7 +653,7 @@ def life(program: str, folder: str) -> None:
     for units in SIZES:
         print_life(units, lives[units], races[units], runs[units], rates)
     print(
-        f"life: at {MOST} workunits beside {LEAST} the program answers "
+        f"life: at {MOST} workunits, compared with {LEAST}, the program answers "
         f"{ratio_text(rates[MOST], rates[LEAST])}"
     )
 
