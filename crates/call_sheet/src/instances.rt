@@ -5,7 +5,7 @@ ghost use Rattle.sched_book.specs.Delta.{set_at};
 ghost use Rattle.sched_book.specs.Limits.{most_instances};
 
 use sched_book::limits::MOST_INSTANCES;
-use sched_book::{Instance, Unavailable};
+use sched_book::{Cause, Instance, Invariant, Unavailable};
 use std::marker::Model;
 use texts::{Listed, Memory};
 
@@ -73,7 +73,7 @@ impl Instances {
             return Ok(());
         }
         if self.rows.len() >= MOST_INSTANCES {
-            return Err(Unavailable);
+            return Err(Unavailable(Cause::Broken(Invariant::InstancesOnSheet)));
         }
         self.rows.push(row)?;
         Ok(())

@@ -10,7 +10,9 @@ ghost use Rattle.sched_book.specs.declared.world.World.{World};
 ghost use Rattle.call_sheet.specs.Sheets.{IsPageOf, IsLeafAt, IsHostAt, HasPlace, ArePut, AreClassed, AreAllOf};
 
 use crate::leaf::Leaf;
-use sched_book::{Edit, Edits, HostRow, Instance, Place, Settings, Unavailable, copy_of};
+use sched_book::{
+    Cause, Edit, Edits, HostRow, Instance, Invariant, Place, Settings, Unavailable, copy_of,
+};
 use std::alloc::Global;
 use std::collections::BTreeMap;
 use texts::{Listed, Memory, Text};
@@ -117,7 +119,7 @@ impl Page {
         ensures edits { self.new.edits ≡ self.old.edits }
     {
         match self.leaves.get_mut(&place.unit) {
-            None => Err(Unavailable),
+            None => Err(Unavailable(Cause::Broken(Invariant::ReadBeforePut))),
             Some(leaf) => leaf.put(place.number, row),
         }
     }
@@ -151,7 +153,7 @@ impl Page {
         ensures edits { self.new.edits ≡ self.old.edits }
     {
         match self.leaves.get_mut(&unit) {
-            None => Err(Unavailable),
+            None => Err(Unavailable(Cause::Broken(Invariant::ReadBeforeClass))),
             Some(leaf) => {
                 leaf.grant(class)?;
                 Ok(())

@@ -12,7 +12,7 @@ ghost use Rattle.call_sheet.specs.Sheets.{IsPageOf, IsReadAt, HasPlace};
 use crate::instances::Instances;
 use crate::leaf::Leaf;
 use crate::page::Page;
-use sched_book::{Desk, HostRow, Unavailable, copy_of};
+use sched_book::{Cause, Desk, HostRow, Invariant, Unavailable, copy_of};
 use std::alloc::Global;
 
 /// Asks for a workunit, its application's agreement and its instances.
@@ -24,7 +24,7 @@ fn ask_leaf<D: Desk>(alloc: Global, desk: &mut D, unit: u32) -> Result<Option<Le
         return Ok(None);
     };
     let Some(agreement) = desk.agreement_of(alloc, unit)? else {
-        return Err(Unavailable);
+        return Err(Unavailable(Cause::Broken(Invariant::AppOfUnit)));
     };
     let instances = Instances::of(desk.instances_of(alloc, unit)?);
     Ok(Some(Leaf::new(row, agreement, instances)?))
@@ -90,7 +90,7 @@ pub(crate) fn put_host<D: Desk>(
     ensures err { OnErr result (page.new.edits ≡ page.old.edits) }
 {
     let Some(_) = read_host(alloc, desk, page, number)? else {
-        return Err(Unavailable);
+        return Err(Unavailable(Cause::Broken(Invariant::ReplacedHost)));
     };
     page.put_host(number, row)?;
     Ok(())
@@ -114,7 +114,7 @@ pub(crate) fn add_host<D: Desk>(
     ensures err { OnErr result (page.new.edits ≡ page.old.edits) }
 {
     if !page.edits.is_empty() {
-        return Err(Unavailable);
+        return Err(Unavailable(Cause::Broken(Invariant::HostBeforeEdits)));
     }
     let count = desk.counts()?.hosts;
     if most <= count {

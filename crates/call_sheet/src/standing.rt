@@ -10,7 +10,7 @@ ghost use Rattle.call_sheet.specs.Sheets.{existing_on};
 
 use crate::draft::Draft;
 use crate::leaf::Leaf;
-use sched_book::{Edit, HostRow, Place, Unavailable, split_name};
+use sched_book::{Cause, Edit, HostRow, Invariant, Place, Unavailable, split_name};
 use std::alloc::Global;
 
 /// The place, if there was an instance when the call came.
@@ -63,7 +63,7 @@ fn put_row<S: Draft>(
     }
     match sheet.add_host(row, u32::MAX)? {
         Some(added) if added == number => Ok(()),
-        _ => Err(Unavailable),
+        _ => Err(Unavailable(Cause::Broken(Invariant::NumberOfHost))),
     }
 }
 

@@ -15,6 +15,9 @@ const MOST_THROWN_AWAY: u64 = 1_048_576;
 /// time-out once, except if the client is slow.
 const WAIT_SECONDS: u64 = 2;
 
+/// How an answer with status 503 begins.
+const UNAVAILABLE: &[u8] = b"HTTP/1.1 503 ";
+
 /// More waits than the time of a side takes.
 const MOST_WAITS: u32 = 100;
 
@@ -27,6 +30,8 @@ pub(crate) struct Timed<'a> {
     since: Option<Instant>,
     /// The time-out that the socket has for this side, if it was set.
     wait: Option<Duration>,
+    /// Whether the first bytes to write were those of an answer with status 503.
+    is_unavailable: Option<bool>,
 }
 
 impl<'a> Timed<'a> {
@@ -38,6 +43,7 @@ impl<'a> Timed<'a> {
             seconds,
             since: None,
             wait: None,
+            is_unavailable: None,
         }
     }
 
@@ -49,7 +55,13 @@ impl<'a> Timed<'a> {
             seconds,
             since: None,
             wait: self.wait,
+            is_unavailable: self.is_unavailable,
         }
+    }
+
+    /// Whether an answer with status 503 was written, or at least begun.
+    pub(crate) fn is_unavailable(&self) -> bool {
+        self.is_unavailable.unwrap_or(false)
     }
 
     /// What is left of its time.
@@ -99,6 +111,9 @@ impl Read for Timed<'_> {
 impl Write for Timed<'_> {
     /// A write that waits for what is left of the time at most, and then fails.
     fn write(&mut self, buf: &[u8]) -> io::Result<usize> {
+        if self.is_unavailable.is_none() {
+            self.is_unavailable = Some(buf.starts_with(UNAVAILABLE));
+        }
         let mut stream = self.stream;
         for _ in 0..MOST_WAITS {
             if let Some(wait) = self.next_wait()? {

@@ -96,7 +96,7 @@ impl From<OpenFault> for Failure {
         match fault {
             OpenFault::NotTables | OpenFault::BadRow => Failure::File,
             OpenFault::OldSchema(_) => Failure::OldSchema,
-            OpenFault::Unavailable => Failure::Unavailable,
+            OpenFault::Unavailable(_) => Failure::Unavailable,
         }
     }
 }

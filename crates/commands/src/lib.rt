@@ -5,6 +5,7 @@
 #![tactic(auto)]
 
 mod answering;
+mod causes;
 mod connection;
 mod database;
 mod ending;

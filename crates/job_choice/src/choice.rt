@@ -13,7 +13,7 @@ use crate::granted::Grant;
 use crate::past::{MOST_LOOKED_AT, look_at};
 use crate::seeking::note_had;
 use sched_book::limits::MOST_APPS;
-use sched_book::{Desk, HostRow, Moment, Place, Unavailable, Version};
+use sched_book::{Cause, Desk, HostRow, Invariant, Moment, Place, Unavailable, Version};
 use std::alloc::Global;
 use texts::Text;
 
@@ -147,7 +147,7 @@ fn offer_all<D: Desk>(
     for _ in 0..=MOST_STOPS {
         desk.unsent_for(account, from, choosing)?;
         if choosing.refused {
-            return Err(Unavailable);
+            return Err(Unavailable(Cause::Memory));
         }
         let Some(unjudged) = choosing.unjudged.take() else {
             return Ok(());
@@ -155,7 +155,7 @@ fn offer_all<D: Desk>(
         from = unjudged.place;
         learn(alloc, desk, choosing.host, &mut choosing.known, unjudged)?;
     }
-    Err(Unavailable)
+    Err(Unavailable(Cause::Broken(Invariant::StopsOfChoice)))
 }
 
 /// Chooses jobs for the host of this number, which has this row and asks for `asked` seconds of work. Jobs that are sent

@@ -1,5 +1,5 @@
 -- An import is served by its kept batch, by a refusal, or by its step and its commit.
-use Rattle.std.proofs.Common.{◌≡◌, ℕ, ◌≤◌, List, sym, refl, ap, ◌∙◌, subst}
+use Rattle.std.proofs.Common.{◌≡◌, ◌≢◌, ℕ, ◌≤◌, List, sym, refl, ap, ◌∙◌, subst}
 use Rattle.std.specs.Prelude.{Option, Some, None, option_map, Result, Ok, Err, IfOk, OnOk, if◌then◌else◌}
 use Rattle.std.specs.Str.{bytes_eq}
 use Rattle.office_files.specs.Faults.{refusal_of}
@@ -14,6 +14,7 @@ use Rattle.sched_book.specs.Delta.{applied}
 use Rattle.sched_book.specs.Imports.{AreChecked, fault_of_rows, shelf_of}
 use Rattle.sched_book.specs.Limits.{last_moment, AreRowsInLimits}
 use Rattle.sched_book.specs.Step.{ImportStep}
+use Rattle.sched_book.specs.declared.cause.Cause.{Cause}
 use Rattle.sched_book.specs.declared.delta.Delta.{Delta}
 use Rattle.sched_book.specs.declared.machine.Answered.TheVariants as answered
 use Rattle.sched_book.specs.declared.machine.Call.TheVariants as call
@@ -59,16 +60,16 @@ still_none batches kind batch name looked none same there = looked_up batches ki
 -- ---- a refusal
 
 -- a text with a fault of its own reads as that fault
-says_fault : (reading : List Record → Result Rows RowsFault) (text : List ℕ) (e : RowsFault) → (e ≡ rows_fault.Unavailable → ⊥)
+says_fault : (reading : List Record → Result Rows RowsFault) (text : List ℕ) (e : RowsFault) → ((cause : Cause) → e ≢ rows_fault.Unavailable cause)
     → Refuses reading text e → Says reading text (Err e)
 says_fault reading text (rows_fault.BadCsv row column) known refuses = refuses
-says_fault reading text rows_fault.Unavailable known refuses = absurd (known refl)
+says_fault reading text (rows_fault.Unavailable cause) known refuses = absurd (known cause refl)
 says_fault reading text (rows_fault.DuplicateName row) known refuses = absurd refuses
 says_fault reading text (rows_fault.UnknownReference row) known refuses = absurd refuses
 says_fault reading text rows_fault.TableFull known refuses = absurd refuses
 
 pub unread_serves : (now : ℕ) (kind : Kind) (batch text : List ℕ) (e : RowsFault) (refusal : Fault) (old new : Held)
-    → (e ≡ rows_fault.Unavailable → ⊥) → refusal ≡ refusal_of e → Refuses (reading_of kind) text e → IsLeft old new
+    → ((cause : Cause) → e ≢ rows_fault.Unavailable cause) → refusal ≡ refusal_of e → Refuses (reading_of kind) text e → IsLeft old new
     → old.batches kind batch ≡ None → ServesImport now kind batch text (Refusal refusal) old new
 unread_serves now kind batch text e refusal old new known is refuses left none =
     let read : Result Rows Fault = Err refusal in (

@@ -121,7 +121,7 @@ fn call_fresh<S: Store>(
     match step_call(alloc, store, caller, request, now) {
         Ok((delta, reply)) => keep(alloc, store, &delta, &reply, request.rpc_seqno, text),
         Err(StepError::HostsFull) => confirmed(store, Answer::Refusal(Fault::HostsFull)),
-        Err(StepError::Unavailable) => Err(Unavailable),
+        Err(StepError::Unavailable(cause)) => Err(Unavailable(cause)),
     }
 }
 
@@ -168,6 +168,6 @@ pub fn call<S: Store>(
         Ok(caller) => call_admitted(alloc, store, &caller, &request, now),
         Err(AdmissionError::BadAccount) => confirmed(store, Answer::Refusal(Fault::BadAccount)),
         Err(AdmissionError::BadHost) => confirmed(store, Answer::Refusal(Fault::BadHost)),
-        Err(AdmissionError::Unavailable) => Err(Unavailable),
+        Err(AdmissionError::Unavailable(cause)) => Err(Unavailable(cause)),
     }
 }

@@ -111,12 +111,12 @@ fn import_new<S: Store>(
 {
     let rows = match read_rows(alloc, kind, text) {
         Ok(rows) => rows,
-        Err(RowsFault::Unavailable) => return Err(Unavailable),
+        Err(RowsFault::Unavailable(cause)) => return Err(Unavailable(cause)),
         Err(fault) => return confirmed(store, Answer::Refusal(fault.fault())),
     };
     match check_rows(alloc, store, &rows) {
         Ok(()) => add_rows(alloc, store, kind, batch, text, rows, now),
-        Err(RowsFault::Unavailable) => Err(Unavailable),
+        Err(RowsFault::Unavailable(cause)) => Err(Unavailable(cause)),
         Err(fault) => confirmed(store, Answer::Refusal(fault.fault())),
     }
 }

@@ -44,4 +44,4 @@ IsOfChecking (BadCsv row column) = ⊥
 IsOfChecking (DuplicateName row) = ⊤
 IsOfChecking (UnknownReference row) = ⊤
 IsOfChecking TableFull = ⊤
-IsOfChecking Unavailable = ⊤
+IsOfChecking (Unavailable cause) = ⊤

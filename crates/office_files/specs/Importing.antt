@@ -179,7 +179,7 @@ Says reading text said = (records : List Record) × AreRecordsOf text records ×
 -- a text is refused with what its records say, or because there was no memory
 abbrev pub Refuses : {A : Type 0} → (List Record → Result A RowsFault) → List ℕ → RowsFault → Type 0
 Refuses reading text (BadCsv row column) = Says reading text (Err (BadCsv row column))
-Refuses reading text Unavailable = ⊤
+Refuses reading text (Unavailable cause) = ⊤
 Refuses reading text (DuplicateName row) = ⊥
 Refuses reading text (UnknownReference row) = ⊥
 Refuses reading text TableFull = ⊥

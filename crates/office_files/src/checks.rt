@@ -6,6 +6,7 @@ ghost use Rattle.sched_book.specs.Imports.{shelf_of, shelved, first_known, dupli
 ghost use Rattle.sched_book.specs.Places.{place_where};
 ghost use Rattle.sched_book.specs.Trusted.{Trusted};
 ghost use Rattle.sched_book.specs.Keys.{Key, same_key, has_key};
+ghost use Rattle.sched_book.specs.declared.cause.Cause.{Cause};
 ghost use Rattle.office_files.specs.Checking as spec;
 ghost use Rattle.office_files.specs.Faults.{refusal_of};
 ghost use Rattle.office_files.specs.declared.fault.RowsFault.TheVariants as fault;
@@ -152,7 +153,7 @@ pub fn check_rows<D: Desk>(alloc: Global, desk: &mut D, rows: &Rows) -> Result<(
     ensures ok { Trusted D.Units desk.old desk.new (
         OnOk result (fault_of_rows (shelf_of (D.world desk.old)) rows.now ≡ None)) }
     ensures err { Trusted D.Units desk.old desk.new (
-        IfErr result (λ e. e ≢ fault.Unavailable → fault_of_rows (shelf_of (D.world desk.old)) rows.now ≡ Some (refusal_of e))) }
+        IfErr result (λ e. ((cause : Cause) → e ≢ fault.Unavailable cause) → fault_of_rows (shelf_of (D.world desk.old)) rows.now ≡ Some (refusal_of e))) }
     ensures kinds { IfErr result spec.IsOfChecking }
 {
     if let Some(row) = duplicate_in(alloc, desk, rows)? {

@@ -5,6 +5,7 @@ ghost use Rattle.office_files.specs.Faults.{refusal_of};
 ghost use Rattle.office_files.specs.declared.fault.RowsFault.TheVariants.{Unavailable};
 
 use rpc_records::Fault;
+use sched_book::Cause;
 use std::error::Error;
 use std::fmt;
 use texts::Memory;
@@ -21,8 +22,8 @@ pub enum RowsFault {
     UnknownReference(u64),
     /// More rows than a table may have.
     TableFull,
-    /// There is not enough memory or disk, or a size is too large.
-    Unavailable,
+    /// The rows can't be read or checked, for this cause.
+    Unavailable(Cause),
 }
 
 impl RowsFault {
@@ -35,7 +36,7 @@ impl RowsFault {
             RowsFault::DuplicateName(row) => Fault::DuplicateName(row),
             RowsFault::UnknownReference(row) => Fault::UnknownReference(row),
             RowsFault::TableFull => Fault::TableFull,
-            RowsFault::Unavailable => Fault::Unavailable,
+            RowsFault::Unavailable(_) => Fault::Unavailable,
         }
     }
 }
@@ -49,7 +50,7 @@ impl fmt::Display for RowsFault {
                 write!(f, "row {row} names an application that does not stand")
             }
             RowsFault::TableFull => write!(f, "more rows than a table may have"),
-            RowsFault::Unavailable => write!(f, "unavailable"),
+            RowsFault::Unavailable(_) => write!(f, "unavailable"),
         }
     }
 }
@@ -57,17 +58,19 @@ impl fmt::Display for RowsFault {
 impl Error for RowsFault {}
 
 impl From<Memory> for RowsFault {
-    ghost from_gives = { λ _ fault. fault ≡ Unavailable };
+    ghost use Rattle.sched_book.specs.declared.cause.Cause.TheVariants as cause;
+
+    ghost from_gives = { λ _ fault. fault ≡ Unavailable cause.Memory };
 
     fn from(_memory: Memory) -> RowsFault {
-        RowsFault::Unavailable
+        RowsFault::Unavailable(Cause::Memory)
     }
 }
 
 impl From<sched_book::Unavailable> for RowsFault {
-    ghost from_gives = { λ _ fault. fault ≡ Unavailable };
+    ghost from_gives = { λ unavailable fault. fault ≡ Unavailable unavailable.0 };
 
-    fn from(_unavailable: sched_book::Unavailable) -> RowsFault {
-        RowsFault::Unavailable
+    fn from(unavailable: sched_book::Unavailable) -> RowsFault {
+        RowsFault::Unavailable(unavailable.0)
     }
 }

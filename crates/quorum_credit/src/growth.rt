@@ -11,7 +11,7 @@ ghost use Rattle.quorum_credit.specs.Settling.{with_grown_among};
 use crate::settlement::new_instances;
 use call_sheet::{Draft, Leaf, put_all};
 use sched_book::limits::MOST_INSTANCES;
-use sched_book::{Edit, Edits, Instance, Place, Unavailable};
+use sched_book::{Cause, Edit, Edits, Instance, Invariant, Place, Unavailable};
 use std::alloc::Global;
 use texts::Listed;
 
@@ -32,7 +32,7 @@ fn push_growth(more: &mut Edits, unit: u32, leaf: &Leaf) -> Result<(), Unavailab
     if count > MOST_INSTANCES - instances.len() {
         // Does not happen for workunits within limits: an open one has and needs at most `max_total_results`, which is
         // at most 100.
-        return Err(Unavailable);
+        return Err(Unavailable(Cause::Broken(Invariant::Growth)));
     }
     let first = instances.len() as u32;
     let end = (instances.len() + count) as u32;
@@ -59,7 +59,7 @@ fn add_growth<S: Draft>(
     sheet.read(alloc, unit)?;
     sheet.decide(unit);
     match sheet.leaf(unit) {
-        None => Err(Unavailable),
+        None => Err(Unavailable(Cause::Broken(Invariant::GrowingUnit))),
         Some(leaf) => push_growth(more, unit, leaf),
     }
 }

@@ -8,7 +8,7 @@ ghost use Rattle.quorum_credit.specs.Tallies.{new_quotas, tally_with, tally_afte
 use crate::quota::next_quota;
 use crate::scores::Score;
 use call_sheet::Draft;
-use sched_book::{Edit, Edits, HostRow, Unavailable};
+use sched_book::{Cause, Edit, Edits, HostRow, Invariant, Unavailable};
 use std::alloc::Global;
 use std::collections::BTreeMap;
 use texts::Listed;
@@ -36,7 +36,7 @@ fn add_quota<S: Draft>(
         OnOk result (quotas.new ≡ quotas.old ++ new_quotas (S.world sheet.old) limit (tally.now ∷ []))) }
 {
     let Some(host) = sheet.host(alloc, tally.host)? else {
-        return Err(Unavailable);
+        return Err(Unavailable(Cause::Broken(Invariant::ScoredHost)));
     };
     quotas.push(Edit::Host {
         number: tally.host,
@@ -80,10 +80,10 @@ fn tally_with(tally: Option<Tally>, score: &Score) -> Result<Tally, Unavailable>
     // Does not happen in a sound world: there a step charges a host at most 60,000,000 times and has at most 20,000,000
     // merits for it (`sched_book::laws::charges_are_few`).
     let Some(charges) = before.charges.checked_add(score.charges) else {
-        return Err(Unavailable);
+        return Err(Unavailable(Cause::Broken(Invariant::ChargesOfHost)));
     };
     let Some(merits) = before.merits.checked_add(score.merits) else {
-        return Err(Unavailable);
+        return Err(Unavailable(Cause::Broken(Invariant::MeritsOfHost)));
     };
     Ok(Tally {
         host: before.host,
@@ -100,7 +100,7 @@ fn add_score(tallies: &mut BTreeMap<u32, Tally>, score: &Score) -> Result<(), Un
     let sum = tally_with(tallies.get(&score.host).copied(), score)?;
     match tallies.insert(score.host, sum) {
         Ok(_) => Ok(()),
-        Err(_) => Err(Unavailable),
+        Err(_) => Err(Unavailable(Cause::Memory)),
     }
 }
 

@@ -11,7 +11,7 @@ ghost use Rattle.quorum_credit.specs.Leaves.{late_on};
 ghost use Rattle.quorum_credit.specs.Limited.{FitWithin};
 
 use call_sheet::{Draft, Leaf};
-use sched_book::{Instance, Lapse, Place, Unavailable, copy_of};
+use sched_book::{Cause, Instance, Invariant, Lapse, Place, Unavailable, copy_of};
 use std::alloc::Global;
 use texts::Memory;
 
@@ -42,7 +42,7 @@ fn put_late<S: Draft>(alloc: Global, sheet: &mut S, place: Place) -> Result<(), 
 {
     sheet.read(alloc, place.unit)?;
     match late_on(sheet.leaf(place.unit), place.number)? {
-        None => Err(Unavailable),
+        None => Err(Unavailable(Cause::Broken(Invariant::LateInstance))),
         Some(row) => {
             sheet.put_instance(place, &row)?;
             Ok(())

@@ -8,6 +8,7 @@ ghost use Rattle.sched_book.specs.declared.instance.UnitBook.{UnitBook};
 ghost use Rattle.sched_book.specs.Delta.{with_instance};
 ghost use Rattle.sched_book.specs.Classes.{with_class};
 
+use crate::cause::{Cause, Invariant};
 use crate::changing::put;
 use crate::desk::Unavailable;
 use crate::instance::{Instance, Place, UnitBook};
@@ -61,7 +62,7 @@ fn new_book(alloc: Global, unit: &Workunit) -> Result<UnitBook, Unavailable>
 {
     let count = unit.target_nresults as usize;
     if count > MOST_INSTANCES {
-        return Err(Unavailable);
+        return Err(Unavailable(Cause::Broken(Invariant::InstancesOfNewUnit)));
     }
     Ok(UnitBook {
         unit: unit.clone()?,

@@ -9,6 +9,7 @@ ghost use Rattle.sched_book.specs.Skipping.{HadAllBefore, IsHadBy};
 ghost use Rattle.sched_book.specs.Desk.{counts, account_by_key, app_by_name, workunit_at, agreement_at, unit_status, instances_at, units_of_user, version_by_key};
 ghost use Rattle.sched_book.specs.declared.world.World.{World};
 
+use crate::cause::Cause;
 use crate::instance::{Instance, Place, Status};
 use crate::moment::Moment;
 use crate::rows::{Account, Agreement, App, HostRow, Version, Workunit};
@@ -48,13 +49,14 @@ pub enum Flow {
     Stop,
 }
 
-/// Out of memory, over a size limit, or the disk failed.
+/// There is no answer, for this cause.
 #[derive(Clone, Copy, Debug, PartialEq, Eq)]
-pub struct Unavailable;
+pub struct Unavailable(pub Cause);
 
 impl fmt::Display for Unavailable {
     fn fmt<W: fmt::Write>(&self, f: &mut fmt::Formatter<W>) -> fmt::Result {
-        write!(f, "unavailable")
+        let Unavailable(cause) = self;
+        write!(f, "unavailable: {cause}")
     }
 }
 
@@ -62,7 +64,7 @@ impl std::error::Error for Unavailable {}
 
 impl From<Memory> for Unavailable {
     fn from(_memory: Memory) -> Unavailable {
-        Unavailable
+        Unavailable(Cause::Memory)
     }
 }
 

@@ -7,6 +7,7 @@
 #![tactic(auto)]
 
 mod ballots;
+pub mod cause;
 mod changing;
 pub mod count;
 pub mod delta;
@@ -30,6 +31,7 @@ mod versions;
 mod whole_numbers;
 pub mod world;
 
+pub use cause::{Cause, Invariant, StorageFault};
 pub use delta::{Delta, Edit, Edits, fresh_instances};
 pub use desk::{Candidate, Counts, Desk, Flow, Placed, Taker, Unavailable, Units};
 pub use first_names::{Named, first_of_each};

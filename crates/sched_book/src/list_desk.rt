@@ -6,6 +6,7 @@ ghost use Rattle.sched_book.specs.Places.{unit_named, known_host, held_by, sent_
 ghost use Rattle.sched_book.specs.Desk.{counts, agreement_at, unit_status};
 ghost use Rattle.sched_book.specs.Step.{empty_world};
 
+use crate::cause::{Cause, Invariant};
 use crate::changing::changed;
 use crate::count::{agreement_by, book_status};
 use crate::delta::{Delta, is_bounded};
@@ -67,7 +68,7 @@ impl ListDesk {
         ensures { IfOk result (λ d. d ≡ world) }
     {
         if !is_bounded(&world) {
-            return Err(Unavailable);
+            return Err(Unavailable(Cause::Broken(Invariant::ListsOfDesk)));
         }
         Ok(ListDesk { alloc, world })
     }

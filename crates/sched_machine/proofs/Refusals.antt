@@ -18,26 +18,26 @@ made_is (Err e) made given is_made is = sym is_made ∙ same_error e given is
 pub account_unknown : (e : AdmissionError) → admission_refusal e ≡ refused.BadAccount → e ≡ admission.BadAccount
 account_unknown admission.BadAccount is = refl
 account_unknown admission.BadHost is = absurd (let differ : refused.BadHost ≡ refused.BadAccount = is in cc)
-account_unknown admission.Unavailable is = absurd (let differ : refused.Unavailable ≡ refused.BadAccount = is in cc)
+account_unknown (admission.Unavailable cause) is = absurd (let differ : refused.Unavailable cause ≡ refused.BadAccount = is in cc)
 
 pub number_wrong : (e : AdmissionError) → admission_refusal e ≡ refused.BadHost → e ≡ admission.BadHost
 number_wrong admission.BadAccount is = absurd (let differ : refused.BadAccount ≡ refused.BadHost = is in cc)
 number_wrong admission.BadHost is = refl
-number_wrong admission.Unavailable is = absurd (let differ : refused.Unavailable ≡ refused.BadHost = is in cc)
+number_wrong (admission.Unavailable cause) is = absurd (let differ : refused.Unavailable cause ≡ refused.BadHost = is in cc)
 
 pub never_full : (e : AdmissionError) → admission_refusal e ≡ refused.HostsFull → ⊥
 never_full admission.BadAccount is = let differ : refused.BadAccount ≡ refused.HostsFull = is in cc
 never_full admission.BadHost is = let differ : refused.BadHost ≡ refused.HostsFull = is in cc
-never_full admission.Unavailable is = let differ : refused.Unavailable ≡ refused.HostsFull = is in cc
+never_full (admission.Unavailable cause) is = let differ : refused.Unavailable cause ≡ refused.HostsFull = is in cc
 
 pub hosts_full : (e : StepError) → step_refusal e ≡ refused.HostsFull → e ≡ step.HostsFull
 hosts_full step.HostsFull is = refl
-hosts_full step.Unavailable is = absurd (let differ : refused.Unavailable ≡ refused.HostsFull = is in cc)
+hosts_full (step.Unavailable cause) is = absurd (let differ : refused.Unavailable cause ≡ refused.HostsFull = is in cc)
 
 pub never_unknown : (e : StepError) → step_refusal e ≡ refused.BadAccount → ⊥
 never_unknown step.HostsFull is = let differ : refused.HostsFull ≡ refused.BadAccount = is in cc
-never_unknown step.Unavailable is = let differ : refused.Unavailable ≡ refused.BadAccount = is in cc
+never_unknown (step.Unavailable cause) is = let differ : refused.Unavailable cause ≡ refused.BadAccount = is in cc
 
 pub never_wrong : (e : StepError) → step_refusal e ≡ refused.BadHost → ⊥
 never_wrong step.HostsFull is = let differ : refused.HostsFull ≡ refused.BadHost = is in cc
-never_wrong step.Unavailable is = let differ : refused.Unavailable ≡ refused.BadHost = is in cc
+never_wrong (step.Unavailable cause) is = let differ : refused.Unavailable cause ≡ refused.BadHost = is in cc

@@ -9,8 +9,8 @@ use Rattle.sched_machine.specs.declared.step_error.StepError.TheVariants as step
 abbrev pub admission_refusal : AdmissionError → Refused
 admission_refusal admission.BadAccount = refused.BadAccount
 admission_refusal admission.BadHost = refused.BadHost
-admission_refusal admission.Unavailable = refused.Unavailable
+admission_refusal (admission.Unavailable cause) = refused.Unavailable cause
 
 abbrev pub step_refusal : StepError → Refused
 step_refusal step.HostsFull = refused.HostsFull
-step_refusal step.Unavailable = refused.Unavailable
+step_refusal (step.Unavailable cause) = refused.Unavailable cause

@@ -8,7 +8,7 @@ ghost use Rattle.sched_machine.specs.Admission.{names_host, NamesWrongNumber};
 ghost use Rattle.sched_machine.specs.declared.admission.AdmissionError.TheVariants as error;
 
 use rpc_records::Request;
-use sched_book::{Caller, Desk, Unavailable};
+use sched_book::{Caller, Cause, Desk, Unavailable};
 use std::alloc::Global;
 use std::error::Error;
 use std::fmt;
@@ -20,8 +20,8 @@ pub enum AdmissionError {
     BadAccount,
     /// Its host number is neither 0 nor that of the caller's host.
     BadHost,
-    /// Out of memory, or the desk is unavailable.
-    Unavailable,
+    /// The desk is unavailable, for this cause.
+    Unavailable(Cause),
 }
 
 impl fmt::Display for AdmissionError {
@@ -29,7 +29,7 @@ impl fmt::Display for AdmissionError {
         match self {
             AdmissionError::BadAccount => write!(f, "no account has the authenticator"),
             AdmissionError::BadHost => write!(f, "the number is not that of the caller's host"),
-            AdmissionError::Unavailable => write!(f, "unavailable"),
+            AdmissionError::Unavailable(_) => write!(f, "unavailable"),
         }
     }
 }
@@ -37,10 +37,10 @@ impl fmt::Display for AdmissionError {
 impl Error for AdmissionError {}
 
 impl From<Unavailable> for AdmissionError {
-    ghost from_gives = { λ _ why. why ≡ error.Unavailable };
+    ghost from_gives = { λ unavailable why. why ≡ error.Unavailable unavailable.0 };
 
-    fn from(_unavailable: Unavailable) -> AdmissionError {
-        AdmissionError::Unavailable
+    fn from(unavailable: Unavailable) -> AdmissionError {
+        AdmissionError::Unavailable(unavailable.0)
     }
 }
 

@@ -10,7 +10,7 @@ ghost use Rattle.sched_machine.specs.declared.step_error.StepError.TheVariants a
 use crate::step_error::StepError;
 use call_sheet::Draft;
 use rpc_records::Request;
-use sched_book::{Caller, HostRow, Unavailable};
+use sched_book::{Caller, Cause, HostRow, Invariant, Unavailable};
 use std::alloc::Global;
 
 /// A call that the machine acts on.
@@ -53,7 +53,7 @@ fn renew_host<S: Draft>(
     ensures caller { IfOk result (λ call. call.caller ≡ caller.now) }
 {
     let Some(before) = sheet.host(alloc, number)? else {
-        return Err(Unavailable);
+        return Err(Unavailable(Cause::Broken(Invariant::CallingHost)));
     };
     let host = row_of_call(caller, request, before.quota)?;
     sheet.put_host(alloc, number, &host)?;

@@ -3,7 +3,7 @@
 ghost use Rattle.std.specs.Prelude.{◌≡◌, IfOk};
 ghost use Rattle.sched_book.specs.Imports.{row_count};
 
-use sched_book::{Rows, Unavailable};
+use sched_book::{Cause, Invariant, Rows, Unavailable};
 
 /// How many rows there are. Refused if the count exceeds 32 bits.
 pub(crate) fn row_count(rows: &Rows) -> Result<u32, Unavailable>
@@ -18,6 +18,6 @@ pub(crate) fn row_count(rows: &Rows) -> Result<u32, Unavailable>
     match u32::try_from(count) {
         Ok(count) => Ok(count),
         // Does not happen for rows that were checked: no table has more than 200,000.
-        Err(_) => Err(Unavailable),
+        Err(_) => Err(Unavailable(Cause::Broken(Invariant::RowsOfImport))),
     }
 }

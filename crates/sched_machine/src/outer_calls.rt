@@ -17,7 +17,7 @@ use crate::admission::{AdmissionError, caller_of};
 use crate::step_error::StepError;
 use crate::steps::{step_call, step_import, step_tick};
 use rpc_records::Request;
-use sched_book::{Answered, Call, Caller, Delta, Desk, Moment, Unavailable, copy_of};
+use sched_book::{Answered, Call, Caller, Cause, Delta, Desk, Moment, Unavailable, copy_of};
 use std::alloc::Global;
 use std::error::Error;
 use std::fmt;
@@ -31,8 +31,8 @@ pub enum Refused {
     BadHost,
     /// The host is new, and the project has as many hosts as its settings allow.
     HostsFull,
-    /// Out of memory, or the desk is unavailable.
-    Unavailable,
+    /// The desk is unavailable, for this cause.
+    Unavailable(Cause),
 }
 
 impl fmt::Display for Refused {
@@ -41,7 +41,7 @@ impl fmt::Display for Refused {
             Refused::BadAccount => write!(f, "no account has the authenticator"),
             Refused::BadHost => write!(f, "the number is not that of the caller's host"),
             Refused::HostsFull => write!(f, "there is no room for another host"),
-            Refused::Unavailable => write!(f, "unavailable"),
+            Refused::Unavailable(_) => write!(f, "unavailable"),
         }
     }
 }
@@ -49,10 +49,10 @@ impl fmt::Display for Refused {
 impl Error for Refused {}
 
 impl From<Unavailable> for Refused {
-    ghost from_gives = { λ _ why. why ≡ refused.Unavailable };
+    ghost from_gives = { λ unavailable why. why ≡ refused.Unavailable unavailable.0 };
 
-    fn from(_unavailable: Unavailable) -> Refused {
-        Refused::Unavailable
+    fn from(unavailable: Unavailable) -> Refused {
+        Refused::Unavailable(unavailable.0)
     }
 }
 
@@ -63,7 +63,7 @@ impl From<AdmissionError> for Refused {
         match error {
             AdmissionError::BadAccount => Refused::BadAccount,
             AdmissionError::BadHost => Refused::BadHost,
-            AdmissionError::Unavailable => Refused::Unavailable,
+            AdmissionError::Unavailable(cause) => Refused::Unavailable(cause),
         }
     }
 }
@@ -74,7 +74,7 @@ impl From<StepError> for Refused {
     fn from(error: StepError) -> Refused {
         match error {
             StepError::HostsFull => Refused::HostsFull,
-            StepError::Unavailable => Refused::Unavailable,
+            StepError::Unavailable(cause) => Refused::Unavailable(cause),
         }
     }
 }
@@ -120,7 +120,7 @@ pub fn step<D: Desk>(
         }
         Call::Import(rows) => {
             let Ok(rows) = copy_of(rows) else {
-                return Err(Refused::Unavailable);
+                return Err(Refused::Unavailable(Cause::Memory));
             };
             let (delta, count) = step_import(rows)?;
             Ok((delta, Answered::Imported(count)))

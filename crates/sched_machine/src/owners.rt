@@ -9,7 +9,7 @@ ghost use Rattle.sched_machine.specs.Granting.{given_on, with_classes, CanTake, 
 
 use call_sheet::{Draft, Leaf};
 use job_choice::Granted;
-use sched_book::{Instance, Moment, Owner, Place, Unavailable, copy_of};
+use sched_book::{Cause, Instance, Invariant, Moment, Owner, Place, Unavailable, copy_of};
 use std::alloc::Global;
 use texts::Memory;
 
@@ -53,7 +53,7 @@ fn give_one<S: Draft>(
 {
     sheet.read(alloc, place.unit)?;
     match given_on(sheet.leaf(place.unit), place.number, host, now)? {
-        None => Err(Unavailable),
+        None => Err(Unavailable(Cause::Broken(Invariant::GrantedInstance))),
         Some(row) => {
             sheet.put_instance(place, &row)?;
             Ok(())

@@ -21,7 +21,7 @@ use job_choice::seconds_at;
 use lost_jobs::aborts_on;
 use quorum_credit::Score;
 use rpc_records::Request;
-use sched_book::{Caller, HostRow, Moment, Place, Unavailable};
+use sched_book::{Caller, Cause, HostRow, Invariant, Moment, Place, Unavailable};
 use std::alloc::Global;
 use texts::{Listed, Text};
 
@@ -49,7 +49,7 @@ fn held_now<S: Draft>(sheet: &S, host: u32, held: &[Place]) -> Result<u32, Unava
             let Some(sum) = count.checked_add(1) else {
                 // Does not happen in a sound world, where no host holds more than 20,000,000:
                 // `sched_book::laws::instances_are_few`.
-                return Err(Unavailable);
+                return Err(Unavailable(Cause::Broken(Invariant::JobsOfHost)));
             };
             count = sum;
         }
@@ -78,7 +78,7 @@ fn seconds_of<S: Draft>(
         let more = seconds_at(unit.rsc_fpops_est, host.p_fpops);
         let Some(sum) = seconds.checked_add(more) else {
             // Does not happen in a sound world, where these are at most 2 * 10^15: `laws::resent_seconds_are_bounded`.
-            return Err(Unavailable);
+            return Err(Unavailable(Cause::Broken(Invariant::SecondsSentAgain)));
         };
         seconds = sum;
     }

@@ -3,7 +3,7 @@
 ghost use Rattle.std.specs.Prelude.{◌≡◌};
 ghost use Rattle.sched_machine.specs.declared.step_error.StepError.TheVariants as error;
 
-use sched_book::Unavailable;
+use sched_book::{Cause, Unavailable};
 use std::error::Error;
 use std::fmt;
 
@@ -12,15 +12,15 @@ use std::fmt;
 pub enum StepError {
     /// The host is new, and the project has as many hosts as its settings allow.
     HostsFull,
-    /// Out of memory, or the desk is unavailable.
-    Unavailable,
+    /// The desk is unavailable, for this cause.
+    Unavailable(Cause),
 }
 
 impl fmt::Display for StepError {
     fn fmt<W: fmt::Write>(&self, f: &mut fmt::Formatter<W>) -> fmt::Result {
         match self {
             StepError::HostsFull => write!(f, "no room for another host"),
-            StepError::Unavailable => write!(f, "unavailable"),
+            StepError::Unavailable(_) => write!(f, "unavailable"),
         }
     }
 }
@@ -28,9 +28,9 @@ impl fmt::Display for StepError {
 impl Error for StepError {}
 
 impl From<Unavailable> for StepError {
-    ghost from_gives = { λ _ why. why ≡ error.Unavailable };
+    ghost from_gives = { λ unavailable why. why ≡ error.Unavailable unavailable.0 };
 
-    fn from(_unavailable: Unavailable) -> StepError {
-        StepError::Unavailable
+    fn from(unavailable: Unavailable) -> StepError {
+        StepError::Unavailable(unavailable.0)
     }
 }

@@ -21,7 +21,7 @@ use call_sheet::{Page, Sheet};
 use job_choice::choose;
 use quorum_credit::lapse_places;
 use rpc_records::{EndWord, Reply, Request};
-use sched_book::{Caller, Delta, Desk, Moment, Rows, Unavailable};
+use sched_book::{Caller, Cause, Delta, Desk, Invariant, Moment, Rows, Unavailable};
 use std::alloc::Global;
 
 /// Chooses new jobs for the host of a call and gives them to it. Returns what the reply says of them, and why there are
@@ -155,7 +155,7 @@ pub fn step_tick<D: Desk>(
     let Ok(count) = u32::try_from(places.len()) else {
         // Does not happen in a sound world, where no more than 20,000,000 are overdue:
         // `sched_book::laws::instances_are_few`.
-        return Err(Unavailable);
+        return Err(Unavailable(Cause::Broken(Invariant::LateInstances)));
     };
     let edits = lapse_places(alloc, desk, places.as_slice())?;
     Ok((Delta::Edits(edits), count))

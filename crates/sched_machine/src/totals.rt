@@ -8,7 +8,7 @@ ghost use Rattle.sched_machine.specs.Totals.{belongs, user_credits_in};
 
 use call_sheet::Draft;
 use quorum_credit::Score;
-use sched_book::Unavailable;
+use sched_book::{Cause, Invariant, Unavailable};
 use std::alloc::Global;
 
 /// The credit of a host: what it had when the call came, and what these scores bring.
@@ -26,7 +26,7 @@ pub(crate) fn host_total<S: Draft>(
         let more = if score.host == host { score.credit } else { 0 };
         let Some(sum) = credit.checked_add(u64::from(more)) else {
             // Does not happen in a sound world, where all credit is at most 2 * 10^15: `laws::credit_is_bounded`.
-            return Err(Unavailable);
+            return Err(Unavailable(Cause::Broken(Invariant::CreditOfHost)));
         };
         credit = sum;
     }
@@ -70,7 +70,7 @@ pub(crate) fn user_total<S: Draft>(
         let more = user_gain(alloc, sheet, account, score)?;
         let Some(sum) = credit.checked_add(u64::from(more)) else {
             // Does not happen in a sound world, as above.
-            return Err(Unavailable);
+            return Err(Unavailable(Cause::Broken(Invariant::CreditOfUser)));
         };
         credit = sum;
     }

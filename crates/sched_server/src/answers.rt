@@ -18,7 +18,7 @@ use http_responses::{Answer, Method, Response};
 use message_engine::{call, import, tick};
 use pasts::Answer as Told;
 use rpc_records::{Fault, decode_request};
-use sched_book::{Moment, Unavailable};
+use sched_book::{Cause, Moment, Unavailable};
 use std::alloc::Global;
 use stores::{Kind, Store, confirmed};
 use texts::{Memory, Text};
@@ -36,7 +36,7 @@ fn call_in_body<S: Store>(
 {
     match decode_request(alloc, body) {
         Ok(request) => call(alloc, store, request, now),
-        Err(Fault::Unavailable) => Err(Unavailable),
+        Err(Fault::Unavailable) => Err(Unavailable(Cause::Memory)),
         Err(fault) => confirmed(store, Told::Refusal(fault)),
     }
 }
@@ -129,6 +129,6 @@ pub(crate) fn respond(
             Ok(response) => Answer::Response(response),
             Err(_) => Answer::Unavailable,
         },
-        Err(Unavailable) => Answer::Unavailable,
+        Err(Unavailable(_)) => Answer::Unavailable,
     }
 }

@@ -17,10 +17,19 @@ use crate::service::Service;
 use http_messages::{Heard, hear, new_router};
 use http_responses::Answer;
 use http_serving::Handler;
-use sched_book::Moment;
+use pasts::Answer as Told;
+use sched_book::{Cause, Moment, Unavailable};
 use std::alloc::Global;
 use stores::Store;
 use texts::Memory;
+
+/// The cause of a missing answer.
+fn cause_of(told: &Result<Told, Unavailable>) -> Option<Cause> {
+    match told {
+        Ok(_) => None,
+        Err(Unavailable(cause)) => Some(*cause),
+    }
+}
 
 impl<S: Store + Drop> Service<S> {
     /// Returns the service over a store, with the operator's key of the store's settings. This only reads the store,
@@ -46,6 +55,7 @@ impl<S: Store + Drop> Service<S> {
                 router,
                 key: settings.operator_key,
                 store,
+                cause: None,
             }),
             Err(_) => Err(store),
         }
@@ -67,6 +77,15 @@ impl<S> Service<S> {
         ensures { result.now ≡ key_of self.now }
     {
         self.key.as_str()
+    }
+
+    /// Takes the cause of the last answer, if that was unavailable. Nothing else changes. There is none if only memory
+    /// for the response was missing.
+    pub fn take_cause(&mut self) -> Option<Cause>
+        ensures store { store_of self.new ≡ store_of self.old }
+        ensures key { key_of self.new ≡ key_of self.old }
+    {
+        self.cause.take()
     }
 
     /// Gives the store back.
@@ -120,6 +139,7 @@ impl<S: Store> Service<S> {
         let message = self.heard(bytes).message;
         let allowed = allowed_by(&message);
         let told = answer(alloc, &mut self.store, now, message);
+        self.cause = cause_of(&told);
         respond(alloc, allowed, told)
     }
 }
@@ -142,7 +162,10 @@ impl<S: Store> Handler for Service<S> {
     fn handle(&mut self, alloc: Global, now: u64, bytes: &[u8]) -> Answer {
         match Moment::new(now) {
             Some(now) => Service::handle(self, alloc, now, bytes),
-            None => Answer::Unavailable,
+            None => {
+                self.cause = Some(Cause::Clock);
+                Answer::Unavailable
+            }
         }
     }
 }

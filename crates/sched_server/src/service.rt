@@ -5,6 +5,7 @@ ghost use Rattle.http_messages.specs.Routers.{the_routes};
 
 use http_messages::RouteKind;
 use matchit::Router;
+use sched_book::Cause;
 use texts::Text;
 
 /// The scheduler of a project over a store of its rows, its kept calls and its kept imports.
@@ -13,6 +14,8 @@ pub struct Service<S> {
     /// The operator's key, as the store's settings have it.
     pub(crate) key: Text,
     pub(crate) store: S,
+    /// Why the last answer was unavailable, until it is taken.
+    pub(crate) cause: Option<Cause>,
     ghost routed: { router ≡ the_routes },
 }
 
@@ -25,6 +28,7 @@ impl<S> Service<S> {
             router: _router,
             key: _key,
             store,
+            cause: _cause,
         } = self;
         store
     }
@@ -37,6 +41,7 @@ impl<S: Drop> Drop for Service<S> {
             router: _router,
             key: _key,
             store: _store,
+            cause: _cause,
         } = self;
     }
 }

@@ -33,7 +33,7 @@ use Rattle.table_rows.specs.declared.opening.OpenFault.{OpenFault}
 use Rattle.table_rows.specs.declared.opening.OpenFault.TheVariants as fault
 use Rattle.table_rows.specs.declared.opening.Refused.{Refused}
 use Rattle.table_rows.specs.declared.opening.Refused.TheVariants as refused
-use Rattle.table_rows.specs.Refusing.{fault_of, refusal_for, given_back}
+use Rattle.table_rows.specs.Refusing.{fault_of, refusal_for, given_back, IsUnavailable}
 use Rattle.sched_tables.specs.Held.{NeverFails}
 use Rattle.sched_tables.specs.Refusals.{AreRefusedFor}
 
@@ -116,7 +116,7 @@ pub told_by_schema : {S : Type 0} (store : Ghosts S) (db : Database) (r : Refuse
 told_by_schema store db (refused.NotTables c) old other neither fits = λ clean. record { not_newest = λ newest. other c refl clean newest.known.schema; not_earlier = neither c refl clean }
 told_by_schema store db (refused.OldSchema n c) old other neither fits = old n c refl
 told_by_schema store db (refused.BadRow c) old other neither fits = absurd (fits c refl)
-told_by_schema store db refused.Unavailable old other neither fits = tt
+told_by_schema store db (refused.Unavailable cause) old other neither fits = tt
 
 -- a refusal for a fault in reading tables of the newest schema
 pub told_by_rows : {S : Type 0} (store : Ghosts S) (db : Database) (e : OpenFault) (conn : Held S) → ((n : ℕ) → e ≢ fault.OldSchema n) → (HasCleanDisk (state store conn) → AreKnown db)
@@ -131,7 +131,7 @@ told_by_rows {S} store db e conn not_old known other bad r is =
     cases fault.NotTables not_old other bad = λ clean. record { not_newest = λ newest. not_said db.trees (other clean refl) newest.said; not_earlier = none_earlier db (known clean) }
     cases (fault.OldSchema n) not_old other bad = absurd (not_old n refl)
     cases fault.BadRow not_old other bad = λ clean. record { known = known clean; rows = bad clean refl }
-    cases fault.Unavailable not_old other bad = tt
+    cases (fault.Unavailable cause) not_old other bad = tt
 
 -- what holds of the connection of a refusal holds of the one that it gives back
 pub given_same : {S : Type 0} (P : Held S → Type 0) (e : OpenFault) (conn : Held S) → P conn → (r : Refused S) → r ≡ refusal_for e conn → IfSome (given_back r) P
@@ -141,7 +141,7 @@ given_same {S} P e conn holds r is = subst (λ (r : Refused S). IfSome (given_ba
     cases fault.NotTables = holds
     cases (fault.OldSchema n) = holds
     cases fault.BadRow = holds
-    cases fault.Unavailable = tt
+    cases (fault.Unavailable cause) = tt
 
 -- ---- a store that never fails
 
@@ -150,14 +150,14 @@ pub refused_for_all : {S : Type 0} (store : Ghosts S) → NeverFails store → (
 refused_for_all store never (refused.NotTables c) db told = told (never c.store).1
 refused_for_all store never (refused.OldSchema n c) db told = told (never c.store).1
 refused_for_all store never (refused.BadRow c) db told = told (never c.store).1
-refused_for_all store never refused.Unavailable db told = tt
+refused_for_all store never (refused.Unavailable cause) db told = tt
 
 -- ---- an empty database
 
 -- a fault that blames neither a schema nor a row
-pub unavailable_alone : {T A : Type 0} (r : Result T OpenFault) → ¬ A → IfErr r (λ e. e ≡ fault.NotTables → A) → IfErr r (λ e. e ≢ fault.BadRow) → IfErr r (λ e. (n : ℕ) → e ≢ fault.OldSchema n) → IfErr r (λ e. e ≡ fault.Unavailable)
+pub unavailable_alone : {T A : Type 0} (r : Result T OpenFault) → ¬ A → IfErr r (λ e. e ≡ fault.NotTables → A) → IfErr r (λ e. e ≢ fault.BadRow) → IfErr r (λ e. (n : ℕ) → e ≢ fault.OldSchema n) → IfErr r IsUnavailable
 unavailable_alone (Ok x) free taken bad old = tt
 unavailable_alone (Err fault.NotTables) free taken bad old = absurd (free (taken refl))
 unavailable_alone (Err (fault.OldSchema n)) free taken bad old = absurd (old n refl)
 unavailable_alone (Err fault.BadRow) free taken bad old = absurd (bad refl)
-unavailable_alone (Err fault.Unavailable) free taken bad old = refl
+unavailable_alone (Err (fault.Unavailable cause)) free taken bad old = (cause, refl)

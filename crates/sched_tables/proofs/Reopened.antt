@@ -24,6 +24,7 @@ use Rattle.table_reading.specs.Reading.{AreUtf8, ReadFrom, MayBeKeptWith, is_cal
 use Rattle.table_reading.proofs.Formatted.{have_formats}
 use Rattle.table_reading.proofs.HeldRows.{read_beside, formed, held_is_read, stands_for_one}
 use Rattle.table_reading.proofs.KeptRows.{held_by_rows}
+use Rattle.table_rows.specs.Refusing.{IsUnavailable}
 use Rattle.table_rows.specs.declared.opening.OpenFault.{OpenFault}
 use Rattle.table_rows.specs.declared.opening.OpenFault.TheVariants.{NotTables, OldSchema, BadRow, Unavailable}
 use Rattle.table_rows.proofs.Reopening.{one_database}
@@ -58,7 +59,7 @@ held_can_be_opened db w calls batches sound beside holds utf8 = record {
 pub opened_are_taken : OpenedAreTaken
 opened_are_taken db can = go
   where
-    go : (e : OpenFault) → AreRefusedFor e db → e ≡ Unavailable
+    go : (e : OpenFault) → AreRefusedFor e db → IsUnavailable e
     go NotTables others = absurd (others.not_newest can.newest)
     go (OldSchema n) earlier = absurd (none_earlier db can.newest.known n earlier)
     go BadRow spoiled =
@@ -73,7 +74,7 @@ opened_are_taken db can = go
           | inl bad ↦ formed db (contents_of w calls batches) holds (have_formats w calls batches stand.sound beside (texts_of db (contents_of w calls batches) holds can.texts)) bad
           | inr none ↦ stands_for_one db w calls batches holds stand.sound beside none
         ])
-    go Unavailable refused = refl
+    go (Unavailable cause) refused = (cause, refl)
 
 -- ---- with no open transaction, and after a read
 

@@ -30,4 +30,4 @@ abbrev pub AreRefusedFor : OpenFault → Database → Type 0
 AreRefusedFor NotTables db = AreNotTables db
 AreRefusedFor (OldSchema n) db = AreEarlier n db
 AreRefusedFor BadRow db = HaveBadRows db
-AreRefusedFor Unavailable db = ⊤
+AreRefusedFor (Unavailable cause) db = ⊤

@@ -19,7 +19,7 @@ use std::alloc::Global;
 use stores::Entry;
 use table_changes::rows_of_changes;
 use table_meaning::rows::{RowChange, StoredBatch, StoredCall, StoredRow};
-use table_rows::put_rows;
+use table_rows::{cause_of, put_rows};
 use texts::{Listed, Memory, Text};
 
 /// The applications with those that the changes bring, or `None` if they bring none.
@@ -121,9 +121,9 @@ impl<S: Alter> Tables<S> {
         let rows = rows?;
         let apps = apps_with(&self.apps, delta)?;
         let put = rows.as_slice();
-        if put_rows(self.alloc, &mut self.conn, put).is_err() {
+        if let Err(error) = put_rows(self.alloc, &mut self.conn, put) {
             self.cache.forget_all();
-            return Err(Unavailable);
+            return Err(Unavailable(cause_of(error)));
         }
         self.cache.note_put(self.alloc, put);
         keep_apps(&mut self.apps, apps);

@@ -9,7 +9,7 @@ ghost use Rattle.sched_book.specs.Step.{empty_world};
 ghost use Rattle.stores.specs.Held.{Held, IsLeft, IsNew};
 ghost use Rattle.table_meaning.specs.Schema.{no_schema};
 ghost use Rattle.table_reading.specs.Reading.{ReadFrom};
-ghost use Rattle.table_rows.specs.Refusing.{fault_of, given_back, HasNoTransaction};
+ghost use Rattle.table_rows.specs.Refusing.{fault_of, given_back, HasNoTransaction, IsUnavailable};
 ghost use Rattle.sched_tables.specs.Held.{IsHonest, NeverFails};
 ghost use Rattle.sched_tables.specs.Refusals.{AreRefusedFor};
 ghost use Rattle.sched_tables.specs.Reopening.{Reopens};
@@ -17,7 +17,7 @@ ghost use Rattle.sched_tables.specs.Stops.{MayBeFound};
 ghost use Rattle.sched_tables.specs.Views.{state_of, world_of, held_of, AreKept};
 
 use crate::tables::Tables;
-use sched_book::{Settings, copy_of};
+use sched_book::{Cause, Settings, StorageFault, copy_of};
 use sqlite::{Alter, Connection, MemStore};
 use std::alloc::Global;
 use table_cache::Cache;
@@ -79,7 +79,7 @@ impl<S: Alter + Drop> Tables<S> {
         let mut conn = known(alloc, conn)?;
         let read = stored_world(alloc, &mut conn);
         if test_open(&mut conn).is_err() {
-            return Err(Refused::Unavailable);
+            return Err(Refused::Unavailable(Cause::Storage(StorageFault::Closed)));
         }
         match read {
             Ok(kept) => Ok(Tables {
@@ -122,7 +122,7 @@ impl Tables<MemStore> {
         ensures open { IfOk result (λ t. IsHonest (state_of over_memory t)) }
         ensures held { IfOk result (AreKept over_memory) }
         ensures new { IfOk result (λ t. IsNew settings.now (held_of over_memory t)) }
-        ensures unavailable { IfErr result (λ e. e ≡ OpenFault.Unavailable) }
+        ensures unavailable { IfErr result IsUnavailable }
         ensures reopens { Sound (empty_world settings.now) → IfOk result (λ t. Reopens (state_of over_memory t)) }
     {
         let conn = Connection::open_in_memory(alloc)?;

@@ -11,7 +11,7 @@ use crate::batch::KeptBatch;
 use crate::entry::Entry;
 use crate::kind::Kind;
 use reply_register::Kept;
-use sched_book::{Delta, Desk, Unavailable};
+use sched_book::{Cause, Delta, Desk, StorageFault, Unavailable};
 use std::alloc::Global;
 use texts::{Listed, Memory};
 
@@ -113,6 +113,7 @@ pub fn confirmed<S: Store, T: Drop>(store: &mut S, answer: T) -> Result<T, Unava
 {
     match store.is_open() {
         Ok(true) => Ok(answer),
-        Ok(false) | Err(_) => Err(Unavailable),
+        Ok(false) => Err(Unavailable(Cause::Storage(StorageFault::Closed))),
+        Err(_) => Err(Unavailable(Cause::Memory)),
     }
 }

@@ -6,7 +6,7 @@ ghost use Rattle.sched_book.specs.Places.{agreement_by};
 ghost use Rattle.sched_book.specs.Trusted.{Trusted};
 ghost use Rattle.table_meaning.specs.Worlds.{app_place};
 
-use sched_book::{Agreement, Desk, Unavailable};
+use sched_book::{Agreement, Cause, Desk, Invariant, Unavailable};
 use std::alloc::Global;
 
 /// What rows and statuses need of an application: its place, and how it compares outputs.
@@ -28,7 +28,7 @@ pub(crate) fn known_app<D: Desk>(
     ensures stands { Trusted D.Units desk.old desk.new (IfOk result (λ app. IsTrue (has_app (D.world desk.old).apps name.now))) }
 {
     match desk.app_by_name(alloc, name)? {
-        None => Err(Unavailable),
+        None => Err(Unavailable(Cause::Broken(Invariant::AppOfRow))),
         Some(app) => Ok(KnownApp {
             place: app.place,
             agreement: app.row.agreement,

@@ -16,7 +16,7 @@ use crate::marks::push_marks;
 use crate::touched::{Touched, touched_by};
 use crate::units::push_units;
 use call_sheet::{Page, Sheet, put_all};
-use sched_book::{Desk, Edit, Edits, Unavailable};
+use sched_book::{Cause, Desk, Edit, Edits, Invariant, Unavailable};
 use std::alloc::Global;
 use table_meaning::rows::RowChange;
 use texts::{Listed, Text, is_word};
@@ -133,7 +133,7 @@ pub(crate) fn rows_of_call<D: Desk>(
         IfOk result (λ rows. IsReadable (edited (D.world desk.old) edits.now))) }
 {
     if !give_words(edits.as_slice()) {
-        return Err(Unavailable);
+        return Err(Unavailable(Cause::Broken(Invariant::WordsOfEdits)));
     }
     let page = page_of(alloc, desk, edits)?;
     rows_of_page(alloc, desk, &page)

@@ -19,7 +19,7 @@ ghost use Rattle.table_changes.specs.Touching.{AreTouched};
 use crate::tallies::tally;
 use crate::touched::Touched;
 use call_sheet::Page;
-use sched_book::{Desk, HostRow, Unavailable, copy_of};
+use sched_book::{Cause, Desk, HostRow, Invariant, Unavailable, copy_of};
 use std::alloc::Global;
 use table_meaning::rows::{RowChange, StoredRow};
 use table_worlds::{Total, host_row};
@@ -36,7 +36,7 @@ fn moved(total: Total, share: Total, other: Total) -> Result<Total, Unavailable>
         sum.credit.checked_sub(share.credit),
     ) {
         (Some(held), Some(credit)) => Ok(Total { held, credit }),
-        _ => Err(Unavailable),
+        _ => Err(Unavailable(Cause::Broken(Invariant::MovedTotal))),
     }
 }
 

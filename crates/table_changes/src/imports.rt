@@ -18,8 +18,8 @@ use crate::applications::known_app;
 use sched_book::count::status;
 use sched_book::limits::MOST_INSTANCES;
 use sched_book::{
-    Account, Agreement, App, Counts, Desk, Instance, Place, Rows, Status, Unavailable, Version,
-    Workunit, fresh_instances,
+    Account, Agreement, App, Cause, Counts, Desk, Instance, Invariant, Place, Rows, Status,
+    Unavailable, Version, Workunit, fresh_instances,
 };
 use std::alloc::Global;
 use table_meaning::rows::{RowChange, StoredRow};
@@ -32,7 +32,9 @@ use texts::Listed;
 fn next(count: u32) -> Result<u32, Unavailable>
     ensures { IfOk result (λ number. number ≡ count + 1) }
 {
-    count.checked_add(1).ok_or(Unavailable)
+    count
+        .checked_add(1)
+        .ok_or(Unavailable(Cause::Broken(Invariant::NextNumber)))
 }
 
 /// Appends the row of a new account, and counts it.
@@ -90,7 +92,7 @@ fn first_status(
     ensures { IfOk result (λ told. told ≡ spec.status agreement.now unit.now (replicate unit.now.target_nresults fresh)) }
 {
     if unit.target_nresults as usize > MOST_INSTANCES {
-        return Err(Unavailable);
+        return Err(Unavailable(Cause::Broken(Invariant::InstancesOfFirstStatus)));
     }
     let instances = fresh_instances(alloc, unit.target_nresults as usize)?;
     Ok(status(agreement, unit, instances.as_slice()))

@@ -13,7 +13,7 @@ ghost use Rattle.table_changes.specs.Added.{is_instance_among, AreAdded};
 
 use crate::units::present_status;
 use call_sheet::{Leaf, Page};
-use sched_book::{Place, Status, Unavailable};
+use sched_book::{Cause, Invariant, Place, Status, Unavailable};
 use table_meaning::rows::{RowChange, StoredRow};
 use table_worlds::instance_row;
 use texts::Listed;
@@ -67,7 +67,9 @@ fn push_instances_of(
         before: read.status_before(),
         present: present_status(read),
     };
-    let count = u32::try_from(read.present().len()).map_err(|_| Unavailable)?;
+    let count = u32::try_from(read.present().len()).map_err(|_| Unavailable(Cause::Broken(
+        Invariant::InstancesToPut,
+    )))?;
     for number in 0..count {
         rows.push_some(changed_instance(read, statuses, Place { unit, number })?)?;
     }

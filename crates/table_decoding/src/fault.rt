@@ -1,6 +1,6 @@
 //! Why a row is not that of a world.
 
-use sched_book::Unavailable;
+use sched_book::{Cause, Unavailable};
 use std::alloc::AllocError;
 use std::error::Error;
 use std::fmt;
@@ -37,7 +37,10 @@ impl From<AllocError> for RowFault {
 }
 
 impl From<RowFault> for Unavailable {
-    fn from(_: RowFault) -> Unavailable {
-        Unavailable
+    fn from(fault: RowFault) -> Unavailable {
+        match fault {
+            RowFault::BadRow => Unavailable(Cause::BadRow),
+            RowFault::Unavailable => Unavailable(Cause::Memory),
+        }
     }
 }

@@ -13,7 +13,7 @@ ghost use Rattle.table_meaning.specs.Reads.{Reads};
 ghost use Rattle.table_desk.specs.Asked.{Asked};
 ghost use Rattle.table_desk.specs.Versions.{greatest};
 
-use sched_book::{App, HostRow, Placed, Unavailable, Version, copy_of, nth};
+use sched_book::{App, Cause, HostRow, Invariant, Placed, Unavailable, Version, copy_of, nth};
 use sqlite::{Alter, Connection};
 use std::alloc::Global;
 use table_decoding::version_class;
@@ -35,9 +35,9 @@ fn place_of(apps: &[App], name: &str) -> Result<Option<u32>, Unavailable>
         return Ok(None);
     };
     match u32::try_from(index) {
-        Err(_) => Err(Unavailable),
+        Err(_) => Err(Unavailable(Cause::Broken(Invariant::PlaceOfApp))),
         Ok(index) => match index.checked_add(1) {
-            None => Err(Unavailable),
+            None => Err(Unavailable(Cause::Broken(Invariant::PlaceOfApp))),
             Some(place) => Ok(Some(place)),
         },
     }
@@ -81,7 +81,7 @@ fn in_limits(version: Version) -> Result<Version, Unavailable>
     if is_version_in_limits(&version) {
         Ok(version)
     } else {
-        Err(Unavailable)
+        Err(Unavailable(Cause::BadRow))
     }
 }
 
@@ -105,7 +105,7 @@ fn version_with<S: Alter>(
         return Ok(None);
     };
     let Some(row) = class_of(alloc, conn, id)? else {
-        return Err(Unavailable);
+        return Err(Unavailable(Cause::Broken(Invariant::ClassOfVersion)));
     };
     let version = Version {
         app: Text::copied(alloc, app)?,

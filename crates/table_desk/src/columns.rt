@@ -8,7 +8,7 @@ ghost use Rattle.sched_book.specs.Places.{held_by as held_in, owned_by as owned_
 ghost use Rattle.table_meaning.specs.Reads.{Reads};
 ghost use Rattle.table_desk.specs.Asked.{Asked};
 
-use sched_book::{Status, Unavailable};
+use sched_book::{Cause, Invariant, Status, Unavailable};
 use sqlite::{Alter, Connection};
 use std::alloc::Global;
 use table_meaning::codes::status_of_code;
@@ -26,7 +26,7 @@ pub fn status_of<S: Alter>(
     match status_column(alloc, conn, unit)? {
         None => Ok(None),
         Some(number) => match status_of_code(number) {
-            None => Err(Unavailable),
+            None => Err(Unavailable(Cause::BadRow)),
             Some(status) => Ok(Some(status)),
         },
     }
@@ -44,7 +44,7 @@ fn test_none_given<S: Alter>(
 {
     let owned = places_owned(alloc, conn, host)?;
     if owned.len() > 0 {
-        return Err(Unavailable);
+        return Err(Unavailable(Cause::Broken(Invariant::HostWithoutRow)));
     }
     Ok(())
 }
@@ -84,10 +84,10 @@ fn sum_of(credits: &[i64]) -> Result<u64, Unavailable>
     let mut sum: u64 = 0;
     for credit in credits {
         let Ok(credit) = u64::try_from(*credit) else {
-            return Err(Unavailable);
+            return Err(Unavailable(Cause::BadRow));
         };
         let Some(more) = sum.checked_add(credit) else {
-            return Err(Unavailable);
+            return Err(Unavailable(Cause::Broken(Invariant::ReadCreditOfUser)));
         };
         sum = more;
     }

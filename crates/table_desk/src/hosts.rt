@@ -10,7 +10,7 @@ ghost use Rattle.table_worlds.specs.ReadBack.{host_in};
 ghost use Rattle.table_desk.specs.Asked.{Asked};
 ghost use Rattle.table_desk.specs.Columns.{counted_host_at};
 
-use sched_book::{HostRow, Unavailable};
+use sched_book::{Cause, HostRow, Unavailable};
 use sqlite::{Alter, Connection};
 use std::alloc::Global;
 use table_decoding::host;
@@ -41,7 +41,7 @@ fn counted(alloc: Global, row: &StoredHost) -> Result<CountedHost, Unavailable>
     ensures limits { IfOk result (λ h. IsHostInLimits most_quota h.row) }
 {
     match u64::try_from(row.credit) {
-        Err(_) => Err(Unavailable),
+        Err(_) => Err(Unavailable(Cause::BadRow)),
         Ok(credit) => Ok(CountedHost {
             row: host(alloc, row)?,
             held: row.held,

@@ -16,7 +16,7 @@ use crate::pages::{PageRead, next_page};
 use crate::skip::Skip;
 use crate::workunits::unit_at;
 use sched_book::limits::{MOST_INSTANCES, MOST_WORKUNITS};
-use sched_book::{App, Candidate, Flow, Place, Taker, Unavailable, Workunit};
+use sched_book::{App, Candidate, Cause, Flow, Invariant, Place, Taker, Unavailable, Workunit};
 use sqlite::{Alter, Connection};
 use std::alloc::Global;
 use table_meaning::tables::QueuePage;
@@ -58,7 +58,7 @@ fn offer_at<S: Alter, K: KnownUnits, T: Taker>(
         return Ok(taker.offer(&Candidate { place, unit }));
     }
     match unit_at(alloc, conn, apps, place.unit)? {
-        None => Err(Unavailable),
+        None => Err(Unavailable(Cause::Broken(Invariant::OfferedUnit))),
         Some(unit) => Ok(taker.offer(&Candidate { place, unit })),
     }
 }
@@ -141,7 +141,7 @@ fn offer_pages<S: Alter, K: KnownUnits, T: Taker>(
             Some(place) => next = offer_page(alloc, conn, apps, known, skip, place, taker)?,
         }
     }
-    Err(Unavailable)
+    Err(Unavailable(Cause::Broken(Invariant::PagesOfOffers)))
 }
 
 /// Offers the candidates at these places of a page, and then what waits after the page. What the connection shows is

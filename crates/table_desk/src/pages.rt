@@ -10,7 +10,7 @@ ghost use Rattle.table_desk.specs.Pages.{candidates_at, next_page, unsent_after}
 ghost use Rattle.table_desk.specs.WaitingPage.{is_within, with_wait_at, IsPageFor, IsPageOf};
 
 use crate::sorted::{rest_from, set_place};
-use sched_book::{Place, Unavailable};
+use sched_book::{Cause, Invariant, Place, Unavailable};
 use sqlite::{Alter, Connection};
 use std::alloc::Global;
 use table_meaning::tables::QueuePage;
@@ -27,7 +27,7 @@ pub(crate) fn next_page(page: QueuePage, places: &[Place]) -> Result<Option<Plac
     match places.get(page.size() as usize - 1) {
         None => Ok(None),
         Some(last) => match last.number.checked_add(1) {
-            None => Err(Unavailable),
+            None => Err(Unavailable(Cause::Broken(Invariant::EndOfPage))),
             Some(number) => Ok(Some(Place {
                 unit: last.unit,
                 number,

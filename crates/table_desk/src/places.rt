@@ -7,7 +7,7 @@ ghost use Rattle.table_meaning.specs.Reads.{Reads};
 ghost use Rattle.table_desk.specs.Asked.{Asked};
 
 use sched_book::moment::DAY;
-use sched_book::{Place, Unavailable};
+use sched_book::{Cause, Invariant, Place, Unavailable};
 use sqlite::{Alter, Connection};
 use std::alloc::Global;
 use table_rows::{places_due, places_held, places_owned, sent_between};
@@ -62,7 +62,7 @@ pub fn sent_on_day<S: Alter>(
     ensures answer { Asked S.Store conn.old conn.new (λ w. IfOk result (λ r. r ≡ sent_in w host day)) }
 {
     let Some((from, until)) = bounds_of(day) else {
-        return Err(Unavailable);
+        return Err(Unavailable(Cause::Broken(Invariant::BoundsOfDay)));
     };
     Ok(sent_between(alloc, conn, host, from, until)?)
 }
@@ -80,10 +80,10 @@ pub fn due_before<S: Alter>(
     ensures answer { Asked S.Store conn.old conn.new (λ w. overdue_in w from ≡ [] → IfOk result (λ r. r ≡ overdue_in w now)) }
 {
     let Ok(from) = i64::try_from(from) else {
-        return Err(Unavailable);
+        return Err(Unavailable(Cause::Broken(Invariant::BoundsOfDeadline)));
     };
     let Ok(until) = i64::try_from(now) else {
-        return Err(Unavailable);
+        return Err(Unavailable(Cause::Broken(Invariant::BoundsOfDeadline)));
     };
     Ok(places_due(alloc, conn, from, until)?)
 }

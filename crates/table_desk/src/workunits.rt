@@ -12,7 +12,7 @@ ghost use Rattle.table_worlds.specs.ReadBack.{job_in};
 ghost use Rattle.table_desk.specs.Asked.{Asked};
 
 use sched_book::limits::MOST_INSTANCES;
-use sched_book::{App, Instance, Unavailable, Workunit};
+use sched_book::{App, Cause, Instance, Invariant, Unavailable, Workunit};
 use sqlite::{Alter, Connection};
 use std::alloc::Global;
 use table_decoding::{instance, workunit};
@@ -48,7 +48,7 @@ pub fn unit_at<S: Alter>(
         return Ok(None);
     };
     let Some(mark) = mark_of(alloc, conn, unit)? else {
-        return Err(Unavailable);
+        return Err(Unavailable(Cause::Broken(Invariant::MarkOfUnit)));
     };
     Ok(Some(workunit(apps, &row, &mark)?))
 }
@@ -97,7 +97,7 @@ pub fn instances_at<S: Alter>(
 {
     let rows = instances_in(alloc, conn, unit)?;
     if rows.len() > MOST_INSTANCES {
-        return Err(Unavailable);
+        return Err(Unavailable(Cause::Broken(Invariant::ReadInstances)));
     }
     instances(alloc, rows.as_slice())
 }

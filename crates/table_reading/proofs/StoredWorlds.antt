@@ -7,6 +7,7 @@ use Rattle.sched_book.specs.declared.world.World.{World}
 use Rattle.table_meaning.specs.Holding.{AreKnown}
 use Rattle.table_meaning.specs.Kept.{calls_in, batches_in}
 use Rattle.table_meaning.specs.Worlds.{HoldWorld}
+use Rattle.table_rows.specs.Refusing.{IsUnavailable}
 use Rattle.table_rows.specs.declared.opening.OpenFault.{OpenFault}
 use Rattle.table_rows.specs.declared.opening.OpenFault.TheVariants as fault
 use Rattle.table_worlds.specs.RowsOf.{AreOtherRows, having, without_units}
@@ -45,11 +46,11 @@ module _ (db : Database) (known : AreKnown db) (all : AllRows) (read : AreAllRea
 
 -- a refusal has one reason only
 abbrev is_unavailable : OpenFault → Bool
-is_unavailable fault.Unavailable = true
+is_unavailable (fault.Unavailable cause) = true
 is_unavailable other = false
 
-pub one_reason : (e : OpenFault) → e ≡ fault.Unavailable → e ≡ fault.BadRow → ⊥
-one_reason e unavailable bad = true≢false (sym (ap is_unavailable unavailable) ∙ ap is_unavailable bad)
+pub one_reason : (e : OpenFault) → IsUnavailable e → e ≡ fault.BadRow → ⊥
+one_reason e unavailable bad = true≢false (sym (ap is_unavailable unavailable.1) ∙ ap is_unavailable bad)
 
 -- the rows other than those of workunits are those of a world that the rows represent
 pub beside_of : (db : Database) → AreKnown db → (all : AllRows) → AreAllRead db.trees all → AreTyped all → (r : Reading) → r ≡ reading_of all → (w : World) → Represent w all → AreOtherRows w r.rows

@@ -18,7 +18,7 @@ ghost use Rattle.table_reading.specs.Reading.{WereKnown};
 ghost use Rattle.table_reading.specs.Testing.{AreInstancesFound, AreFound, LacksRow, HasGap, PassesAt, AreTested, has_name};
 
 use crate::due::lowered_to_each;
-use sched_book::{UnitBook, World};
+use sched_book::{Cause, Invariant, UnitBook, World};
 use sqlite::{Alter, Connection};
 use std::alloc::Global;
 use table_decoding::{RowFault, unit_book};
@@ -43,7 +43,7 @@ fn standing_unit<S: Alter>(
     match unit_of(alloc, conn, id) {
         Ok(Some(row)) => Ok(row),
         Ok(None) => Err(OpenFault::BadRow),
-        Err(_) => Err(OpenFault::Unavailable),
+        Err(fault) => Err(OpenFault::Unavailable(fault.cause())),
     }
 }
 
@@ -62,7 +62,7 @@ fn standing_mark<S: Alter>(
     match mark_of(alloc, conn, id) {
         Ok(Some(row)) => Ok(row),
         Ok(None) => Err(OpenFault::BadRow),
-        Err(_) => Err(OpenFault::Unavailable),
+        Err(fault) => Err(OpenFault::Unavailable(fault.cause())),
     }
 }
 
@@ -99,7 +99,7 @@ fn standing_instance<S: Alter>(
     match instance_of(alloc, conn, id, number) {
         Ok(Some(row)) => Ok(row),
         Ok(None) => Err(OpenFault::BadRow),
-        Err(_) => Err(OpenFault::Unavailable),
+        Err(fault) => Err(OpenFault::Unavailable(fault.cause())),
     }
 }
 
@@ -197,7 +197,7 @@ fn test_rows(
     let book = match unit_book(alloc, world.apps.as_slice(), rows) {
         Ok(book) => book,
         Err(RowFault::BadRow) => return Err(OpenFault::BadRow),
-        Err(RowFault::Unavailable) => return Err(OpenFault::Unavailable),
+        Err(RowFault::Unavailable) => return Err(OpenFault::Unavailable(Cause::Memory)),
     };
     test_book(world, id, &book, rows, names, totals, due_from)
 }
@@ -246,7 +246,7 @@ pub(crate) fn test_units<S: Alter>(
     let mut names = SeenSet::new(alloc);
     for (index, count) in counts.iter().enumerate() {
         let Ok(id) = u32::try_from(index + 1) else {
-            return Err(OpenFault::Unavailable);
+            return Err(OpenFault::Unavailable(Cause::Broken(Invariant::NumberOfUnit)));
         };
         test_unit(alloc, conn, world, id, *count, &mut names, totals, due_from)?;
     }

@@ -14,6 +14,7 @@ ghost use Rattle.table_worlds.specs.RowsOf.{having, without_units, AreOtherRows}
 ghost use Rattle.table_worlds.specs.StoredWorld.{world_in};
 ghost use Rattle.table_decoding.specs.Decoding.{schema_row};
 ghost use Rattle.table_reading.specs.Reading.{AllRows, AreAllRead, AreTyped, AreUtf8, reading_of, WereKnown, ReadFrom, Represent, RepresentNone, HasBadTable, HasOtherSchema};
+ghost use Rattle.table_rows.specs.Refusing.{IsUnavailable};
 ghost use Rattle.table_reading.specs.Testing.{AreTested, IsFit};
 
 use crate::due::LAST_DEADLINE;
@@ -21,7 +22,7 @@ use crate::kept::are_calls_of;
 use crate::rows::{Reading, read_all};
 use crate::units::test_units;
 use sched_book::limits::MOST_WORKUNITS;
-use sched_book::{App, Settings, Unavailable, World};
+use sched_book::{App, Cause, Settings, Unavailable, World};
 use sqlite::{Alter, Connection};
 use std::alloc::Global;
 use table_decoding::{RowFault, decoded_world};
@@ -112,7 +113,7 @@ fn test_world<S: Alter>(
 fn world_without_units(alloc: Global, reading: &Reading) -> Result<World, OpenFault>
     ensures told { (w : Known) → Sound w → AreOtherRows w reading.now.rows → IfOk result (λ d. d ≡ without_units w) }
     ensures alone { IfOk result (λ d. d.units ≡ []) }
-    ensures refused { (w : Known) → Sound w → AreOtherRows w reading.now.rows → IfErr result (λ e. e ≡ OpenFault.Unavailable) }
+    ensures refused { (w : Known) → Sound w → AreOtherRows w reading.now.rows → IfErr result IsUnavailable }
     ensures other_schema { IfErr result (λ e. e ≡ OpenFault.NotTables → ¬ Has reading.now.rows.settings schema_row) }
     ensures never_old { IfErr result (λ e. (n : ℕ) → e ≢ OpenFault.OldSchema n) }
 {
@@ -120,7 +121,7 @@ fn world_without_units(alloc: Global, reading: &Reading) -> Result<World, OpenFa
         Ok(Some(world)) => Ok(world),
         Ok(None) => Err(OpenFault::NotTables),
         Err(RowFault::BadRow) => Err(OpenFault::BadRow),
-        Err(RowFault::Unavailable) => Err(OpenFault::Unavailable),
+        Err(RowFault::Unavailable) => Err(OpenFault::Unavailable(Cause::Memory)),
     }
 }
 
@@ -153,9 +154,7 @@ pub fn stored_world<S: Alter>(
     let reading = match read_all(alloc, conn) {
         Ok(reading) => reading,
         Err(OpenFault::BadRow) => return Err(OpenFault::BadRow),
-        Err(OpenFault::NotTables | OpenFault::OldSchema(_) | OpenFault::Unavailable) => {
-            return Err(OpenFault::Unavailable);
-        }
+        Err(fault) => return Err(OpenFault::Unavailable(fault.cause())),
     };
     let world = world_without_units(alloc, &reading)?;
     match test_world(alloc, conn, &world, &reading) {
@@ -165,8 +164,6 @@ pub fn stored_world<S: Alter>(
             due_from,
         }),
         Err(OpenFault::BadRow) => Err(OpenFault::BadRow),
-        Err(OpenFault::NotTables | OpenFault::OldSchema(_) | OpenFault::Unavailable) => {
-            Err(OpenFault::Unavailable)
-        }
+        Err(fault) => Err(OpenFault::Unavailable(fault.cause())),
     }
 }

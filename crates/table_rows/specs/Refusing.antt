@@ -3,6 +3,7 @@ use Rattle.std.specs.Prelude.{◌≡◌, ◌≢◌, ℕ, false, Option, Some, No
 use Rattle.sqlite.specs.Effect.{Database}
 use Rattle.sqlite.specs.Held.{Held}
 use Rattle.sqlite.specs.State.{State}
+use Rattle.sched_book.specs.declared.cause.Cause.{Cause}
 use Rattle.table_rows.specs.declared.opening.OpenFault.{OpenFault}
 use Rattle.table_rows.specs.declared.opening.OpenFault.TheVariants as fault
 use Rattle.table_rows.specs.declared.opening.Refused.{Refused}
@@ -14,21 +15,21 @@ abbrev pub fault_of : {S : Type 0} → Refused S → OpenFault
 fault_of (NotTables conn) = fault.NotTables
 fault_of (OldSchema schema conn) = fault.OldSchema schema
 fault_of (BadRow conn) = fault.BadRow
-fault_of Unavailable = fault.Unavailable
+fault_of (Unavailable cause) = fault.Unavailable cause
 
 -- the refusal of a connection for a fault
 abbrev pub refusal_for : {S : Type 0} → OpenFault → Held S → Refused S
 refusal_for fault.NotTables conn = NotTables conn
 refusal_for (fault.OldSchema schema) conn = OldSchema schema conn
 refusal_for fault.BadRow conn = BadRow conn
-refusal_for fault.Unavailable conn = Unavailable
+refusal_for (fault.Unavailable cause) conn = Unavailable cause
 
 -- the connection that a refusal gives back
 abbrev pub given_back : {S : Type 0} → Refused S → Option (Held S)
 given_back (NotTables conn) = Some conn
 given_back (OldSchema schema conn) = Some conn
 given_back (BadRow conn) = Some conn
-given_back Unavailable = None
+given_back (Unavailable cause) = None
 
 -- The connection is open with no open transaction, and this is what it shows and what was committed.
 pub record HasNoTransaction (db : Database) (s : State) : Type 0 where
@@ -38,6 +39,10 @@ pub record HasNoTransaction (db : Database) (s : State) : Type 0 where
   pub committed : s.committed ≡ db
 
 -- ---- faults
+
+-- The fault says nothing of the tables: memory failed, or the disk, or a fact that the code relies on.
+abbrev pub IsUnavailable : OpenFault → Type 0
+IsUnavailable e = (cause : Cause) × (e ≡ fault.Unavailable cause)
 
 -- The fault is that of a row, of memory or of the disk, not of the schema.
 pub record SparesSchema (e : OpenFault) : Type 0 where

@@ -15,6 +15,7 @@ ghost use Rattle.table_rows.specs.Utf8.{HaveUtf8};
 use crate::opening::OpenFault;
 use crate::put::put_each;
 use crate::statements::{definition, size_of};
+use sched_book::{Cause, Invariant};
 use sqlite::{Alter, Connection, Error, Transaction};
 use std::alloc::Global;
 use table_meaning::rows::RowChange;
@@ -77,7 +78,7 @@ pub(crate) fn make_schema<S: Alter>(conn: &mut Connection<S>, schema: u32) -> Re
     ensures made { HasCleanDisk (state S.Store conn.new) → (state S.Store conn.old).now.schema ≡ no_schema → OnOk result ((state S.Store conn.new).now.schema ≡ schema_at schema) }
 {
     if !conn.is_autocommit() {
-        return Err(OpenFault::Unavailable);
+        return Err(OpenFault::Unavailable(Cause::Broken(Invariant::NoTransaction)));
     }
     let mut tx = conn.transaction();
     define(&mut tx, 0, schema)?;
@@ -106,7 +107,7 @@ pub fn create<S: Alter>(
     ensures crash { Survives (state S.Store conn.old) (state S.Store conn.new) (λ trees. (db : _) × HoldJust db rows.now × (trees ≡ db.trees)) }
 {
     if !conn.is_autocommit() {
-        return Err(OpenFault::Unavailable);
+        return Err(OpenFault::Unavailable(Cause::Broken(Invariant::NoTransaction)));
     }
     if !is_empty(conn) {
         return Err(OpenFault::NotTables);

@@ -11,6 +11,7 @@ ghost use Rattle.table_meaning.specs.Formats.{words, flag as sql_flag, octets as
 ghost use Rattle.table_rows.specs.Utf8.{IsUtf8Value};
 
 use crate::opening::OpenFault;
+use sched_book::Cause;
 use sqlite::Row;
 use sqlite::types::{FromSql, FromSqlError, ValueRef};
 use std::alloc::Global;
@@ -34,7 +35,7 @@ fn field<T: FromSql>(alloc: Global, row: &Row, at: usize) -> Result<T, OpenFault
 {
     match T::column_result(alloc, value(row, at)) {
         Ok(field) => Ok(field),
-        Err(FromSqlError::OutOfMemory) => Err(OpenFault::Unavailable),
+        Err(FromSqlError::OutOfMemory) => Err(OpenFault::Unavailable(Cause::Memory)),
         Err(_) => Err(OpenFault::BadRow),
     }
 }

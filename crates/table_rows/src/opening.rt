@@ -14,8 +14,8 @@ ghost use Rattle.table_rows.specs.declared.opening.Refused.TheVariants as refuse
 
 use crate::connection::test_open;
 use crate::schemas::{says_schema, schema_number};
-use sched_book::Unavailable;
-use sqlite::{Alter, Connection, Error};
+use sched_book::{Cause, Invariant, StorageFault, Unavailable};
+use sqlite::{Alter, Connection, Error, ErrorCode};
 use std::alloc::{AllocError, Global};
 use std::fmt;
 use table_meaning::tables::NEWEST_SCHEMA;
@@ -29,8 +29,21 @@ pub enum OpenFault {
     OldSchema(u32),
     /// A row does not have the form of its table, or has a value out of range.
     BadRow,
-    /// Memory or the disk failed.
-    Unavailable,
+    /// Something failed that says nothing of the tables, such as memory or the disk.
+    Unavailable(Cause),
+}
+
+impl OpenFault {
+    /// What failed.
+    pub fn cause(self) -> Cause {
+        match self {
+            OpenFault::NotTables | OpenFault::OldSchema(_) => {
+                Cause::Broken(Invariant::KnownSchema)
+            }
+            OpenFault::BadRow => Cause::BadRow,
+            OpenFault::Unavailable(cause) => cause,
+        }
+    }
 }
 
 impl fmt::Display for OpenFault {
@@ -39,49 +52,73 @@ impl fmt::Display for OpenFault {
             OpenFault::NotTables => write!(f, "no stored tables"),
             OpenFault::OldSchema(schema) => write!(f, "tables of schema {schema}"),
             OpenFault::BadRow => write!(f, "a row is not that of a world"),
-            OpenFault::Unavailable => write!(f, "unavailable"),
+            OpenFault::Unavailable(_) => write!(f, "unavailable"),
         }
     }
 }
 
 impl std::error::Error for OpenFault {}
 
+/// What failed, by an error of the SQLite library.
+pub fn cause_of(error: Error) -> Cause {
+    match error {
+        Error::SqliteFailure(code) => cause_of_code(code),
+        Error::InvalidColumnType(_, _) | Error::IntegralValueOutOfRange(_) | Error::Utf8Error(_) =>
+            Cause::BadRow,
+        _ => Cause::Storage(StorageFault::Statement),
+    }
+}
+
+fn cause_of_code(code: ErrorCode) -> Cause {
+    match code {
+        ErrorCode::OutOfMemory => Cause::Memory,
+        ErrorCode::DiskFull => Cause::Storage(StorageFault::DiskFull),
+        ErrorCode::SystemIoFailure => Cause::Storage(StorageFault::InputOutput),
+        ErrorCode::Closed => Cause::Storage(StorageFault::Closed),
+        ErrorCode::DatabaseCorrupt => Cause::Storage(StorageFault::Corrupt),
+        ErrorCode::NotADatabase => Cause::Storage(StorageFault::NotADatabase),
+        ErrorCode::CannotOpen => Cause::Storage(StorageFault::CannotOpen),
+        ErrorCode::DatabaseBusy => Cause::Storage(StorageFault::Busy),
+        ErrorCode::TooBig => Cause::Storage(StorageFault::TooBig),
+        ErrorCode::OperationInterrupted => Cause::Storage(StorageFault::Interrupted),
+        ErrorCode::ConstraintViolation(_) => Cause::Storage(StorageFault::Constraint),
+        _ => Cause::Storage(StorageFault::Statement),
+    }
+}
+
 impl From<Error> for OpenFault {
-    ghost use Rattle.std.specs.Prelude.{◌≡◌};
-    ghost use Rattle.table_rows.specs.declared.opening.OpenFault.TheVariants.{Unavailable};
+    ghost use Rattle.table_rows.specs.Refusing.{IsUnavailable};
 
-    ghost from_gives = { λ _ e. e ≡ Unavailable };
+    ghost from_gives = { λ _ e. IsUnavailable e };
 
-    fn from(_: Error) -> OpenFault {
-        OpenFault::Unavailable
+    fn from(error: Error) -> OpenFault {
+        OpenFault::Unavailable(cause_of(error))
     }
 }
 
 impl From<AllocError> for OpenFault {
-    ghost use Rattle.std.specs.Prelude.{◌≡◌};
-    ghost use Rattle.table_rows.specs.declared.opening.OpenFault.TheVariants.{Unavailable};
+    ghost use Rattle.table_rows.specs.Refusing.{IsUnavailable};
 
-    ghost from_gives = { λ _ e. e ≡ Unavailable };
+    ghost from_gives = { λ _ e. IsUnavailable e };
 
     fn from(_: AllocError) -> OpenFault {
-        OpenFault::Unavailable
+        OpenFault::Unavailable(Cause::Memory)
     }
 }
 
 impl From<Unavailable> for OpenFault {
-    ghost use Rattle.std.specs.Prelude.{◌≡◌};
-    ghost use Rattle.table_rows.specs.declared.opening.OpenFault.TheVariants.{Unavailable};
+    ghost use Rattle.table_rows.specs.Refusing.{IsUnavailable};
 
-    ghost from_gives = { λ _ e. e ≡ Unavailable };
+    ghost from_gives = { λ _ e. IsUnavailable e };
 
-    fn from(_: Unavailable) -> OpenFault {
-        OpenFault::Unavailable
+    fn from(unavailable: Unavailable) -> OpenFault {
+        OpenFault::Unavailable(unavailable.0)
     }
 }
 
 impl From<OpenFault> for Unavailable {
-    fn from(_: OpenFault) -> Unavailable {
-        Unavailable
+    fn from(fault: OpenFault) -> Unavailable {
+        Unavailable(fault.cause())
     }
 }
 
@@ -94,8 +131,8 @@ pub enum Refused<S: Alter> {
     OldSchema(u32, Connection<S>),
     /// A row does not have the form of its table, or has a value out of range. The connection was opened anew.
     BadRow(Connection<S>),
-    /// Memory or the disk failed.
-    Unavailable,
+    /// Something failed that says nothing of the tables, such as memory or the disk.
+    Unavailable(Cause),
 }
 
 impl<S: Alter + Drop> Refused<S> {
@@ -107,7 +144,7 @@ impl<S: Alter + Drop> Refused<S> {
             OpenFault::NotTables => Refused::NotTables(conn),
             OpenFault::OldSchema(schema) => Refused::OldSchema(schema, conn),
             OpenFault::BadRow => Refused::BadRow(conn),
-            OpenFault::Unavailable => Refused::Unavailable,
+            OpenFault::Unavailable(cause) => Refused::Unavailable(cause),
         }
     }
 }
@@ -123,7 +160,7 @@ impl<S: Alter + Drop> From<Refused<S>> for OpenFault {
             Refused::NotTables(_) => OpenFault::NotTables,
             Refused::OldSchema(schema, _) => OpenFault::OldSchema(schema),
             Refused::BadRow(_) => OpenFault::BadRow,
-            Refused::Unavailable => OpenFault::Unavailable,
+            Refused::Unavailable(cause) => OpenFault::Unavailable(cause),
         }
     }
 }
@@ -159,11 +196,12 @@ fn refusal<S: Alter + Drop>(conn: Connection<S>, schema: u32) -> Refused<S>
     ensures back { IfSome (given_back result) (λ c. HasCleanDisk (state S.Store c) → HasCleanDisk (state S.Store conn) × (Opens (state S.Store conn) → HasNoTransaction (state S.Store conn).committed (state S.Store c))) }
 {
     let mut conn = conn;
-    let Ok(is_said) = says_schema(&mut conn, schema) else {
-        return Refused::Unavailable;
+    let is_said = match says_schema(&mut conn, schema) {
+        Ok(is_said) => is_said,
+        Err(error) => return Refused::Unavailable(cause_of(error)),
     };
-    if test_open(&mut conn).is_err() {
-        return Refused::Unavailable;
+    if let Err(error) = test_open(&mut conn) {
+        return Refused::Unavailable(cause_of(error));
     }
     if is_said {
         Refused::OldSchema(schema, conn)
@@ -190,10 +228,11 @@ pub fn known<S: Alter + Drop>(
     ensures back { IfErr result (λ e. IfSome (given_back e) (λ c. HasCleanDisk (state S.Store c) → HasNoTransaction (state S.Store conn).committed (state S.Store c))) }
 {
     let Some(conn) = reopened(alloc, conn) else {
-        return Err(Refused::Unavailable);
+        return Err(Refused::Unavailable(Cause::Storage(StorageFault::CannotOpen)));
     };
-    let Ok(found) = schema_number(alloc, &conn) else {
-        return Err(Refused::Unavailable);
+    let found = match schema_number(alloc, &conn) {
+        Ok(found) => found,
+        Err(fault) => return Err(Refused::Unavailable(fault.cause())),
     };
     let Some(schema) = found else {
         return Err(Refused::NotTables(conn));

@@ -21,7 +21,7 @@ use crate::fields;
 use crate::opening::OpenFault;
 use crate::read::shown_by;
 use crate::values::whole;
-use sched_book::Place;
+use sched_book::{Cause, Invariant, Place};
 use sqlite::types::ValueRef;
 use sqlite::{Alter, Connection, Row};
 use std::alloc::Global;
@@ -200,7 +200,7 @@ pub fn sent_between<S: Alter>(
     )?;
     match u32::try_from(sent.len()) {
         Ok(count) => Ok(count),
-        Err(_) => Err(OpenFault::Unavailable),
+        Err(_) => Err(OpenFault::Unavailable(Cause::Broken(Invariant::SentInstances))),
     }
 }
 

@@ -9,6 +9,7 @@ ghost use Rattle.table_meaning.specs.Schema.{schema_at};
 ghost use Rattle.table_meaning.specs.Schemas.{IsSchema, AreKnownAt, schema_setting};
 ghost use Rattle.table_meaning.specs.Rows.{whole as sql_whole};
 ghost use Rattle.table_meaning.specs.Reads.{Reads};
+ghost use Rattle.table_rows.specs.Refusing.{IsUnavailable};
 
 use crate::alike::Alike;
 use crate::definitions::make_schema;
@@ -36,12 +37,12 @@ fn wanted_schema(alloc: Global, schema: u32) -> Result<Schema, OpenFault>
 fn has_schema<S: Alter>(alloc: Global, conn: &Connection<S>, schema: u32) -> Result<bool, OpenFault>
     requires { IsSchema schema }
     ensures has { IfOk result (λ has. Decides has ((state S.Store conn.now).now.schema ≡ schema_at schema)) }
-    ensures unavailable { IfErr result (λ e. e ≡ OpenFault.Unavailable) }
+    ensures unavailable { IfErr result IsUnavailable }
 {
-    let Ok(wanted) = wanted_schema(alloc, schema) else {
-        return Err(OpenFault::Unavailable);
-    };
-    Ok(conn.schema().is_alike(&wanted))
+    match wanted_schema(alloc, schema) {
+        Ok(wanted) => Ok(conn.schema().is_alike(&wanted)),
+        Err(fault) => Err(OpenFault::Unavailable(fault.cause())),
+    }
 }
 
 /// The number of the schema of the tables, if they have one. The newest schema is tried first.
@@ -51,7 +52,7 @@ pub fn schema_number<S: Alter>(
 ) -> Result<Option<u32>, OpenFault>
     ensures found { IfOk result (λ found. IfSome found (λ n. IsSchema n × ((state S.Store conn.now).now.schema ≡ schema_at n))) }
     ensures none { IfOk result (λ found. found ≡ None → (n : ℕ) → IsSchema n → (state S.Store conn.now).now.schema ≢ schema_at n) }
-    ensures unavailable { IfErr result (λ e. e ≡ OpenFault.Unavailable) }
+    ensures unavailable { IfErr result IsUnavailable }
 {
     for newer in 0..NEWEST_SCHEMA {
         let schema = NEWEST_SCHEMA - newer;

@@ -12,6 +12,7 @@ ghost use Rattle.table_rows.specs.Visits.{VisitsRows, RefusesRow};
 use crate::columns::stored_row;
 use crate::opening::OpenFault;
 use crate::statements::read_text;
+use sched_book::{Cause, Invariant};
 use sqlite::{Alter, Connection};
 use std::alloc::Global;
 use table_meaning::rows::StoredRow;
@@ -55,5 +56,5 @@ pub fn visit_rows<S: Alter, V: RowVisitor>(
         let stored = stored_row(alloc, table, row)?;
         visitor.visit(stored)?;
     }
-    Err(OpenFault::Unavailable)
+    Err(OpenFault::Unavailable(Cause::Broken(Invariant::RowsOfTable)))
 }

@@ -15,7 +15,7 @@ use std::alloc::Global;
 use table_meaning::tables::Fill;
 use table_rows::statements::{fill_text, fills_of, next_text};
 use table_rows::values::whole;
-use table_rows::{OpenFault, fields};
+use table_rows::{Cause, Invariant, OpenFault, fields};
 
 /// Returns the next number, from this one on, of a row that the fill copies. `BadRow` if the number is out of range.
 fn next_number<S: Alter>(
@@ -95,7 +95,7 @@ fn fill_all<S: Alter>(
         };
         from = next;
     }
-    Err(OpenFault::Unavailable)
+    Err(OpenFault::Unavailable(Cause::Broken(Invariant::RowsOfFill)))
 }
 
 /// Fills the tables that the schema after this one adds.

@@ -19,7 +19,7 @@ use table_rows::definitions::define;
 use table_rows::schemas::{says_schema, schema_number};
 use table_rows::statements::PUT_SETTING;
 use table_rows::values::whole;
-use table_rows::{OpenFault, test_open};
+use table_rows::{Cause, Invariant, OpenFault, test_open};
 
 /// Puts the row that names the schema of the tables.
 fn put_schema<S: Alter>(tx: &mut Transaction<'_, S>, schema: u32) -> Result<(), Error>
@@ -74,7 +74,7 @@ fn upgrade_step<S: Alter>(
     ensures fault { IfErr result SparesSchema }
 {
     if !conn.is_autocommit() {
-        return Err(OpenFault::Unavailable);
+        return Err(OpenFault::Unavailable(Cause::Broken(Invariant::NoTransaction)));
     }
     let mut tx = conn.transaction();
     upgrade_tables(alloc, &mut tx, schema)?;
@@ -124,7 +124,7 @@ pub fn upgrade<S: Alter>(alloc: Global, conn: &mut Connection<S>) -> Result<u32,
         (λ trees. IsTrue (state S.Store conn.old).is_open × (db : _) × IsLeftBehind (state S.Store conn.old).now db × (trees ≡ db.trees)) }
 {
     if !conn.is_autocommit() {
-        return Err(OpenFault::Unavailable);
+        return Err(OpenFault::Unavailable(Cause::Broken(Invariant::NoTransaction)));
     }
     let Some(schema) = schema_number(alloc, conn)? else {
         return Err(OpenFault::NotTables);

@@ -3,7 +3,7 @@
 ghost use Rattle.std.specs.Prelude.{◌≡◌, ◌+◌, ◌++◌, IfOk, OnOk};
 ghost use Rattle.table_worlds.specs.Keys.{keyed, numbered};
 
-use sched_book::{Place, Unavailable};
+use sched_book::{Cause, Invariant, Place, Unavailable};
 use texts::Listed;
 
 /// The key of a row of a world: a place or a number, counted from 1, or the place of an instance. A class has the
@@ -54,8 +54,10 @@ pub(crate) fn number_of(index: usize) -> Result<u32, Unavailable>
     ensures { IfOk result (λ number. number ≡ index + 1) }
 {
     match u32::try_from(index) {
-        Ok(index) => index.checked_add(1).ok_or(Unavailable),
-        Err(_) => Err(Unavailable),
+        Ok(index) => index
+            .checked_add(1)
+            .ok_or(Unavailable(Cause::Broken(Invariant::NumberOfRow))),
+        Err(_) => Err(Unavailable(Cause::Broken(Invariant::NumberOfRow))),
     }
 }
 

@@ -18,8 +18,8 @@ use crate::totals::Total;
 use sched_book::count::book_status;
 use sched_book::limits::MOST_INSTANCES;
 use sched_book::{
-    Account, Agreement, App, ClassRule, HostRow, Instance, Outcome, Place, Status, Unavailable,
-    UnitBook, Version, Workunit, World, nth,
+    Account, Agreement, App, Cause, ClassRule, HostRow, Instance, Invariant, Outcome, Place,
+    Status, Unavailable, UnitBook, Version, Workunit, World, nth,
 };
 use std::alloc::Global;
 use table_meaning::codes::{lapse_code, status_code};
@@ -33,7 +33,7 @@ use texts::{Memory, Text};
 fn written(number: u64) -> Result<i64, Unavailable>
     ensures { IfOk result (λ written. written ≡ pos number) }
 {
-    i64::try_from(number).map_err(|_| Unavailable)
+    i64::try_from(number).map_err(|_| Unavailable(Cause::Broken(Invariant::WrittenNumber)))
 }
 
 /// How far apart two outputs may be. `None` if they must be equal.
@@ -157,7 +157,7 @@ pub(crate) fn status_of(world: &World, book: &UnitBook) -> Result<Status, Unavai
     ensures { IfOk result (λ status. status ≡ status_of world.now book.now) }
 {
     if book.instances.len() > MOST_INSTANCES {
-        return Err(Unavailable);
+        return Err(Unavailable(Cause::Broken(Invariant::InstancesOfStatus)));
     }
     Ok(book_status(world.apps.as_slice(), book))
 }
@@ -282,7 +282,7 @@ fn host_at(
         return Ok(None);
     };
     match nth(totals, id) {
-        None => Err(Unavailable),
+        None => Err(Unavailable(Cause::Broken(Invariant::TotalOfHost))),
         Some(total) => Ok(Some(StoredRow::Host(host_row(alloc, id, host, *total)?))),
     }
 }

@@ -8,7 +8,7 @@ ghost use Rattle.table_worlds.specs.Totals.{more, with_instance, with_unit};
 
 use sched_book::count::{agreement_by, canonical, is_valid, verdict_by};
 use sched_book::limits::MOST_INSTANCES;
-use sched_book::{Agreement, App, Instance, Unavailable, UnitBook};
+use sched_book::{Agreement, App, Cause, Instance, Invariant, Unavailable, UnitBook};
 use std::alloc::Global;
 use texts::Memory;
 
@@ -29,7 +29,7 @@ impl Total {
     {
         match (self.held.checked_add(held), self.credit.checked_add(credit)) {
             (Some(held), Some(credit)) => Ok(Total { held, credit }),
-            _ => Err(Unavailable),
+            _ => Err(Unavailable(Cause::Broken(Invariant::SumOfTotals))),
         }
     }
 }
@@ -81,7 +81,7 @@ pub fn count_unit(totals: &mut [Total], apps: &[App], book: &UnitBook) -> Result
 {
     let instances = book.instances.as_slice();
     if MOST_INSTANCES < instances.len() {
-        return Err(Unavailable);
+        return Err(Unavailable(Cause::Broken(Invariant::CountedInstances)));
     }
     let agreement = agreement_by(apps, book.unit.app.as_str());
     let canonical = canonical(&agreement, &book.unit, instances);

@@ -10,7 +10,9 @@ ghost use Rattle.table_meaning.specs.Worlds.{unit_row, mark_row, instance_row};
 ghost use Rattle.table_worlds.specs.RowsOf.{rows_of_unit};
 
 use crate::rows::{app_place, instance_row, mark_row, status_of, unit_row};
-use sched_book::{ClassRule, Instance, Place, Status, Unavailable, UnitBook, World};
+use sched_book::{
+    Cause, ClassRule, Instance, Invariant, Place, Status, Unavailable, UnitBook, World,
+};
 use table_meaning::rows::{StoredInstance, StoredUnit, StoredUnitMark};
 use texts::Listed;
 
@@ -50,7 +52,9 @@ fn are_instance_rows(
         return Ok(false);
     }
     for (index, instance) in instances.iter().enumerate() {
-        let number = u32::try_from(index).map_err(|_| Unavailable)?;
+        let number = u32::try_from(index).map_err(|_| Unavailable(Cause::Broken(
+            Invariant::NumberOfInstance,
+        )))?;
         if !is_row_of(Place { unit, number }, instance, status, &rows[index])? {
             return Ok(false);
         }

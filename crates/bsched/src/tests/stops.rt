@@ -9,6 +9,7 @@ use super::{PROJECT, lapses, service_over};
 use commands::{Failure, serve_on};
 use http_responses::Answer;
 use replay_lines::line_of;
+use sched_book::Cause;
 use sched_server::{Arrival, Service};
 use sched_tables::Tables;
 use sqlite::{Alter, Connection};
@@ -56,7 +57,12 @@ fn answered<S: Store>(
             break;
         }
         match service.handle(alloc, arrival.now, arrival.bytes.as_slice()) {
-            Answer::Unavailable => was_lost = true,
+            Answer::Unavailable => {
+                was_lost = true;
+                if !matches!(service.take_cause(), Some(Cause::Storage(_))) {
+                    return Err(Fail::new("an unavailable answer whose cause is not the disk"));
+                }
+            }
             _ if was_lost => return Err(Fail::new("an answer of a store that was shut")),
             answer => answers.push(answer)?,
         }

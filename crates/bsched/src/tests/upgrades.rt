@@ -6,6 +6,7 @@ use super::files::{
 };
 use super::stored::WORKUNITS;
 use super::{CALL_START, PROJECT};
+use sched_book::{Cause, StorageFault};
 use sched_tables::{OpenFault, SCHEMA_1, upgrade};
 use sqlite::{Alter, Connection, Row};
 use std::alloc::Global;
@@ -177,7 +178,10 @@ impl Deed for Upgrade {
         _alloc: Global,
         left: Image,
     ) -> Result<(Result<u32, OpenFault>, Image), Fail> {
-        Ok((Err(OpenFault::Unavailable), left))
+        Ok((
+            Err(OpenFault::Unavailable(Cause::Storage(StorageFault::CannotOpen))),
+            left,
+        ))
     }
 }
 

@@ -7,7 +7,7 @@ ghost use Rattle.office_files.specs.Civil as spec;
 use jiff::Timestamp;
 use jiff::civil::DateTime;
 use jiff::tz::TimeZone;
-use sched_book::Unavailable;
+use sched_book::{Cause, Invariant, Unavailable};
 use std::alloc::Global;
 use texts::{Memory, Text};
 
@@ -43,7 +43,7 @@ pub(super) fn civil_text(alloc: Global, moment: u64) -> Result<Text, Unavailable
     ensures { IfOk result (λ text. text ≡ spec.civil_text moment) }
 {
     match civil_of(moment) {
-        None => Err(Unavailable),
+        None => Err(Unavailable(Cause::Broken(Invariant::DateOfMoment))),
         Some(civil) => Ok(text_of(alloc, civil)?),
     }
 }

@@ -10,7 +10,7 @@ ghost use Rattle.office_files.specs.Statements as spec;
 use super::civil::civil_text;
 use super::line::Line;
 use csv::{Writer, WriterBuilder};
-use sched_book::Unavailable;
+use sched_book::{Cause, Invariant, Unavailable};
 use std::alloc::Global;
 use std::io::Write;
 use texts::{Memory, Text};
@@ -35,7 +35,7 @@ fn write_row<W: Write + Drop>(writer: &mut Writer<W>, fields: &[&[u8]]) -> Resul
 {
     match writer.write_fields(fields) {
         Ok(()) => Ok(()),
-        Err(_) => Err(Unavailable),
+        Err(_) => Err(Unavailable(Cause::Memory)),
     }
 }
 
@@ -174,7 +174,7 @@ fn write_statement<W: Write + Drop>(
         → OnOk result (HasWritten W.contents writer.new (spec.text_of_lines lines.now)) }
 {
     let Some(credit) = total_credit(lines) else {
-        return Err(Unavailable);
+        return Err(Unavailable(Cause::Broken(Invariant::CreditOfStatement)));
     };
     write_header(writer)?;
     write_lines(alloc, writer, lines)?;
@@ -188,10 +188,10 @@ pub(super) fn text_of_lines(alloc: Global, lines: &[Line]) -> Result<Text, Unava
     let mut writer = WriterBuilder::new().from_writer(Vec::new(alloc));
     write_statement(alloc, &mut writer, lines)?;
     let Ok(bytes) = writer.into_inner() else {
-        return Err(Unavailable);
+        return Err(Unavailable(Cause::Memory));
     };
     match String::from_utf8(bytes) {
         Ok(text) => Ok(Text::of(text)),
-        Err(_) => Err(Unavailable),
+        Err(_) => Err(Unavailable(Cause::Broken(Invariant::TextOfStatement))),
     }
 }

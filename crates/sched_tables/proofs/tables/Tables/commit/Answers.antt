@@ -53,8 +53,8 @@ returns-in_err-apps-clause-due_from g c = λ honest kept.
     due_from_left (state g.S.Store before.conn) (state g.S.Store c.rows_with-rows.new.self.conn) before.due_from c.lowered-due_from.result c.args.delta.now c.lowered-due_from.ensures
     (c.rows_with-rows.ensures.reads.0.same honest.0 honest.1 kept.0.rests).0 kept.1.due_from_is
 
-pub returns-then-is_err-clause-due_from : goal.returns-then-is_err-clause-due_from
-returns-then-is_err-clause-due_from g c = λ honest kept.
+pub returns-in-Err-clause-due_from : goal.returns-in-Err-clause-due_from
+returns-in-Err-clause-due_from g c = λ honest kept.
     let before = c.args.self.now in
     let mid = state g.S.Store c.rows_with-rows.new.self.conn in
     let clean : HasCleanDisk mid = omega (arith, c.put_rows.ensures.crash.clean, honest.0) in
@@ -87,8 +87,8 @@ returns-clause-remembers g c = λ honest kept.
     subst (λ u. IsCacheOf u (calls_in new.now.trees) c.note_put.new.self) (sym (world_then old new w cs e kept.0 (returns-clause-made g c honest kept)))
     (c.note_put.ensures w (applied w cs) (calls_in old.now.trees) (calls_in new.now.trees) (rows_lead w cs (calls_in old.now.trees) e rows kept.0.readable put) (c.rows_with-rows.ensures.reads.3 early kept))
 
-pub returns-then-is_err-clause-remembers : goal.returns-then-is_err-clause-remembers
-returns-then-is_err-clause-remembers g c = λ honest kept. c.forget_all.ensures _ _
+pub returns-in-Err-clause-remembers : goal.returns-in-Err-clause-remembers
+returns-in-Err-clause-remembers g c = λ honest kept. c.forget_all.ensures _ _
 
 pub returns-clause-crash : goal.returns-clause-crash
 returns-clause-crash g c =
@@ -98,8 +98,8 @@ returns-clause-crash g c =
     (AreKept g.S.Store before) c.rows_with-rows.ensures.reads.0 c.put_rows.ensures.crash
     (λ honest kept. subst (ArePutWith (world_of g.S.Store before) cs (calls_in (state g.S.Store before.conn).now.trees) c.args.entry.now) (sym c.as_slice-put.ensures) (c.in_ok-rows.ensures.rows honest kept)) (λ kept. kept.0.rests)
 
-pub returns-then-is_err-clause-crash : goal.returns-then-is_err-clause-crash
-returns-then-is_err-clause-crash g c =
+pub returns-in-Err-clause-crash : goal.returns-in-Err-clause-crash
+returns-in-Err-clause-crash g c =
     let before = c.args.self.now in
     let cs = c.args.delta.now in
     leaves_made (state g.S.Store before.conn) (state g.S.Store c.rows_with-rows.new.self.conn) (state g.S.Store c.put_rows.new.conn) (world_of g.S.Store before) cs c.args.entry.now c.as_slice-put.result.now
@@ -112,15 +112,15 @@ returns-in_err-rows-clause-reopens g c = λ may reopens. reads_reopen (state g.S
 pub returns-in_err-apps-clause-reopens : goal.returns-in_err-apps-clause-reopens
 returns-in_err-apps-clause-reopens g c = λ may reopens. reads_reopen (state g.S.Store c.args.self.now.conn) (state g.S.Store c.rows_with-rows.new.self.conn) c.rows_with-rows.ensures.reads.0 (λ honest. (may honest).0.0.rests) reopens
 
-pub returns-then-is_err-clause-reopens : goal.returns-then-is_err-clause-reopens
-returns-then-is_err-clause-reopens g c = λ may reopens.
+pub returns-in-Err-clause-reopens : goal.returns-in-Err-clause-reopens
+returns-in-Err-clause-reopens g c = λ may reopens.
     let before = c.args.self.now in
     let old = state g.S.Store before.conn in
     let mid = state g.S.Store c.rows_with-rows.new.self.conn in
     let new = state g.S.Store c.put_rows.new.conn in
     let reads = c.rows_with-rows.ensures.reads.0 in
     let early = λ (honest : IsHonest new). let clean : HasCleanDisk mid = omega (arith, c.put_rows.ensures.crash.clean, honest.0) in let h : IsHonest mid = (clean, c.put_rows.ensures.was_open honest.0 honest.1) in h in
-    commit_reopens old new c.args.delta.now c.args.entry.now (AreKept g.S.Store before) (λ kept. kept.0) may reopens (returns-then-is_err-clause-crash g c)
+    commit_reopens old new c.args.delta.now c.args.entry.now (AreKept g.S.Store before) (λ kept. kept.0) may reopens (returns-in-Err-clause-crash g c)
     (λ honest. was_honest old mid reads (early honest))
     (λ honest kept. inr ((was_err c.put_rows.result _ (search rules) (c.put_rows.ensures.neither honest.0 honest.1)).0 ∙ (reads.same (early honest).0 (early honest).1 kept.0.rests).0))
 
