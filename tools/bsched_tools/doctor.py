@@ -1,5 +1,6 @@
 """Why bsched refuses a file: each reason in a line, with what to do."""
 import os
+import shutil
 import stat
 import tomllib
 from collections.abc import Iterator
@@ -26,6 +27,7 @@ from .tables import (
 )
 
 MOST_ROWS = 50
+LEAST_ROOM = 2**20  # bytes: a call and its part of the log need less
 OTHER_KEY = (
     "operator_key is not that of the tables, so ticks and imports with it are refused. Each copy of the "
     "tables has the right one: `SELECT value FROM setting WHERE name = 'operator_key'`"
@@ -53,6 +55,16 @@ def file_faults(path: Path) -> Iterator[str]:
             yield f"{name}this user may not read and write it: run this as the user of bsched"
     if fault := journal_fault(path):
         yield fault
+
+
+def room_faults(path: Path) -> Iterator[str]:
+    """Yields whether the disk has no room for more calls."""
+    room = shutil.disk_usage(path.parent).free
+    if room < LEAST_ROOM:
+        yield (
+            f"its disk has {room} bytes left, so answers are unavailable: make room "
+            f'(docs/WHEN_WRONG.md, "Unavailable answers")'
+        )
 
 
 def holder_faults(path: Path) -> Iterator[str]:
@@ -101,13 +113,12 @@ def content_faults(path: Path) -> Iterator[str]:
 def tables_faults(path: Path) -> Iterator[str]:
     """Yields why bsched refuses tables."""
     real = Path(os.path.realpath(path))
-    found = False
-    for look in (file_faults, holder_faults):
-        for fault in look(real):
-            found = True
-            yield fault
-        if found:
-            return
+    faults = list(file_faults(real)) or list(holder_faults(real))
+    yield from faults
+    if real.exists():
+        yield from room_faults(real)
+    if faults:
+        return
     try:
         check_file(real)
         yield from content_faults(real)

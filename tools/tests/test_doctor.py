@@ -7,6 +7,7 @@ import sys
 from collections.abc import Callable
 from contextlib import closing
 from pathlib import Path
+from types import SimpleNamespace
 
 import plain_tables
 import pytest
@@ -203,6 +204,15 @@ def test_files(tmp_path: Path) -> None:
     path.write_bytes(path.read_bytes()[:-4096])
     (line,) = findings_of(path)
     assert line.startswith("it is cut off")
+
+
+@pytest.mark.parametrize("room, wanted", [(2**20, 0), (2**20 - 1, 1)])
+def test_a_full_disk(tmp_path: Path, monkeypatch: pytest.MonkeyPatch, room: int, wanted: int) -> None:
+    path = make_tables(tmp_path / "project.db")
+    monkeypatch.setattr("shutil.disk_usage", lambda _: SimpleNamespace(free=room))
+    lines = findings_of(path)
+    assert len(lines) == wanted
+    assert all(f"its disk has {room} bytes left" in line for line in lines)
 
 
 GOOD = """\
