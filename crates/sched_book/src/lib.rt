@@ -6,6 +6,7 @@
 //! A [`Desk`] represents a [`World`] and answers what that world says.
 #![tactic(auto)]
 
+mod alike;
 mod ballots;
 pub mod cause;
 mod changing;
