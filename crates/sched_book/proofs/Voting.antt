@@ -94,15 +94,11 @@ voters_add a xs reports n ballots voter d within before is =
     ∙ map-map (voted a (counted v)) counted reports
     ∙ ap (λ (f : ℕ → Ballot). map f reports) (λ t i. step a xs reports n within v refl i t)
 
--- before the first voter
-pub no_voters : (a : Agreement) (xs : List Instance) (reports : List ℕ) → counted_in a xs 0 reports ≡ map (ballot_of xs reports (λ i. 0)) reports
-no_voters a xs reports = refl
-
 pub counted_length : (a : Agreement) (xs : List Instance) (n : ℕ) (reports : List ℕ) → length (counted_in a xs n reports) ≡ length reports
 counted_length a xs n reports = length-map reports (ballot_of xs reports (votes a xs (take n reports)))
 
 -- the first ballot with enough votes is that of the leader
-pub leader_counted : (xs : List Instance) (reports : List ℕ) (votes_of : ℕ → ℕ) (enough : ℕ) (front : List ℕ)
+leader_counted : (xs : List Instance) (reports : List ℕ) (votes_of : ℕ → ℕ) (enough : ℕ) (front : List ℕ)
     → option_map (λ (b : Ballot). b.number) (find (λ (b : Ballot). nat_le enough b.votes) (map (ballot_of xs reports votes_of) front))
     ≡ find (λ i. nat_le enough (votes_of i)) front
 leader_counted xs reports votes_of enough [] = refl
@@ -121,7 +117,7 @@ abbrev pub leader_by : ℕ → List Ballot → Option ℕ
 leader_by enough ballots = option_map (λ (b : Ballot). b.number) (find (λ (b : Ballot). nat_le enough b.votes) ballots)
 
 -- the leader of a front, by its ballots
-pub leader_found : (a : Agreement) (xs : List Instance) (enough front : ℕ) (reports : List ℕ) (ballots : List Ballot) → ballots ≡ counted_in a xs front reports
+leader_found : (a : Agreement) (xs : List Instance) (enough front : ℕ) (reports : List ℕ) (ballots : List Ballot) → ballots ≡ counted_in a xs front reports
     → leader_by enough (take front ballots) ≡ leader a xs enough (take front reports)
 leader_found a xs enough front reports ballots counted =
     ap (λ l. leader_by enough (take front l)) counted
