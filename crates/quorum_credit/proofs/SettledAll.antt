@@ -32,7 +32,7 @@ use Rattle.quorum_credit.specs.Scoring.{scores_of_units}
 use Rattle.quorum_credit.specs.Taken.{touches, AreTouched}
 use Rattle.quorum_credit.specs.declared.scores.Score.{Score}
 use Rattle.sched_book.proofs.ByPlace.{all_nth}
-use Rattle.sched_book.proofs.Fitting.{all_settings_stay}
+use Rattle.sched_book.proofs.Fitting.{all_settings_stay, all_apps_stay}
 use Rattle.quorum_credit.proofs.Grown.{grown_sound, others_need_nothing, all_grown_among}
 use Rattle.quorum_credit.specs.Tallies.{number_got}
 use Rattle.quorum_credit.proofs.Numbered.{number_within}
@@ -42,11 +42,6 @@ use Rattle.quorum_credit.proofs.Scored.{charges_in-scores, merits_in-scores}
 use Rattle.quorum_credit.proofs.NewlyCounted.{charges_touched, merits_touched}
 
 -- what edits leave
-apps_stay : (w : World) (c : Edit) → (edited_one w c).apps ≡ w.apps
-apps_stay w (edit.Host number h) = refl
-apps_stay w (edit.Instance p x) = refl
-apps_stay w (edit.Class unit class) = refl
-
 unit_stays : (w : World) (c : Edit) (unit : ℕ) → touches unit c ≡ false → unit_at (edited_one w c) unit ≡ unit_at w unit
 unit_stays w (edit.Host number h) unit other = refl
 unit_stays w (edit.Instance p x) unit other =
@@ -55,11 +50,6 @@ unit_stays w (edit.Instance p x) unit other =
 unit_stays w (edit.Class place class) unit other =
     nth-modify_nth (with_class class) w.units place unit
     ∙ ap (λ b. cond b (option_map (with_class class) (nth w.units unit)) (nth w.units unit)) other
-
-pub all_apps_stay : (w : World) (cs : List Edit) → (edited w cs).apps ≡ w.apps
-all_apps_stay w [] = refl
-all_apps_stay w (c ∷ cs) =
-    all_apps_stay (edited_one w c) cs ∙ apps_stay w c
 
 pub others_stay : (w : World) (cs : List Edit) (unit : ℕ) → list_any (touches unit) cs ≡ false
     → unit_at (edited w cs) unit ≡ unit_at w unit

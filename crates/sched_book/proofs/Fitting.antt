@@ -96,6 +96,16 @@ pub all_settings_stay : (w : World) (cs : List Edit) → (edited w cs).settings 
 all_settings_stay w [] = refl
 all_settings_stay w (c ∷ cs) = all_settings_stay (edited_one w c) cs ∙ settings_stay w c
 
+-- edits bring no applications
+apps_stay : (w : World) (c : Edit) → (edited_one w c).apps ≡ w.apps
+apps_stay w (edit.Host number h) = refl
+apps_stay w (edit.Instance p x) = refl
+apps_stay w (edit.Class unit class) = refl
+
+pub all_apps_stay : (w : World) (cs : List Edit) → (edited w cs).apps ≡ w.apps
+all_apps_stay w [] = refl
+all_apps_stay w (c ∷ cs) = all_apps_stay (edited_one w c) cs ∙ apps_stay w c
+
 edits_keep_bounds : (w : World) (edits : List Edit) → w.settings.max_hosts ≤ most_hosts → IsBounded w → EditsFit w edits → IsBounded (edited w edits)
 edits_keep_bounds w [] limit bounded fits = bounded
 edits_keep_bounds w (c ∷ cs) limit bounded fits =

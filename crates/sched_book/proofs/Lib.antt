@@ -1,3 +1,4 @@
+pub mod FirstAlike
 pub mod Voting
 pub mod Reports
 pub mod SplitNames

@@ -1,15 +1,19 @@
 -- What ballots say of good reports: their votes, and which report leads.
-use Rattle.std.proofs.Common.{◌≡◌, ℕ, ◌+◌, ◌<◌, ◌≤◌, Bool, true, false, cond, List, [], ◌∷◌, ◌++◌, ◌-◌, length, take, drop, map, get_or, Option, None, Some, sym, refl, ap, ◌∙◌, arith}
-use Rattle.std.specs.Prelude.{◌||◌, ℤ, pos, ◌-ℤ◌, nat_abs, find, nat_le, option_map, is_some}
+use Rattle.std.proofs.Common.{◌≡◌, ℕ, ◌+◌, ◌<◌, ◌≤◌, Bool, true, false, cond, List, [], ◌∷◌, length, take, drop, map, get_or, Option, None, Some, sym, refl, ap, ◌∙◌, arith}
+use Rattle.std.specs.Prelude.{◌==◌, ◌||◌, ℤ, pos, ◌-ℤ◌, nat_abs, find, nat_le, option_map, is_some}
+use Rattle.std.specs.List.{All}
 use Rattle.std.specs.Str.{bytes_eq}
-use Rattle.std.proofs.lemmas.List.{get_or-map, get_or-drop, get_or-append_right, length-map, length-take, length-take-le, take_all, drop_all, append-nil, map-id, take-map}
+use Rattle.std.proofs.lemmas.List.{get_or-map, length-map, length-take, take_all, take-map}
+use Rattle.std.proofs.lemmas.List.Elements.{All-same, All-map}
 use Rattle.std.proofs.lemmas.Simd.{map-map}
 use Rattle.std.proofs.lemmas.Int.{ints}
 use Rattle.std.proofs.lemmas.Slice.Eq.{bytes_eq-Decides}
 use borrow.Author.Tests.{le-leb}
 use Rattle.std.proofs.lemmas.List.Sums.{count_by_more_yes, count_by_more_no, count_by-le-length}
-use Rattle.sched_book.specs.Ballots.{agree_by, ballot_of, voted, numbers_of, counted_in}
+use Rattle.sched_book.specs.Alike.{first_alike}
+use Rattle.sched_book.specs.Ballots.{agree_by, ballot_of, voted, counted_in}
 use Rattle.sched_book.specs.Count.{agree, output_of, votes, leader, first_leader}
+use Rattle.sched_book.proofs.FirstAlike.{same_first}
 use Rattle.sched_book.proofs.Reports.{leader_from, leader_from-is, leader_from-here, leader_from-later, leader_from-last}
 use Rattle.sched_book.specs.WholeNumbers.{whole_number, are_within}
 use Rattle.sched_book.specs.declared.ballots.Ballot.{Ballot}
@@ -17,22 +21,27 @@ use Rattle.sched_book.specs.declared.instance.Instance.{Instance}
 use Rattle.sched_book.specs.declared.rows.Agreement.{Agreement}
 use Rattle.sched_book.specs.declared.rows.Agreement.TheVariants.{Exact, Within}
 
+-- what stands for a ballot past the last
+abbrev pub unset : Ballot
+unset = record { number = 0; first = 0; value = None; votes = 0 }
+
 -- equal numbers are within any distance
 near : (d : ℕ) (m : ℤ) → are_within d (Some m) (Some m) ≡ true
 near d m =
     let none : m -ℤ m ≡ pos 0 = omega (arith, ints) in
     ap (λ z. nat_le (nat_abs z) d) none ∙ le-leb 0 d (omega arith)
 
-agree_is : (a : Agreement) (x y : List ℕ) → agree_by a x (whole_number x) y (whole_number y) ≡ agree a x y
-agree_is Exact x y = refl
-agree_is (Within d) x y = cases (whole_number x) (whole_number y) (bytes_eq x y) refl refl refl
+-- texts are compared as the first reports with them
+agree_is : (a : Agreement) (x y : List ℕ) (i j : ℕ) → (i == j) ≡ bytes_eq x y → agree_by a i (whole_number x) j (whole_number y) ≡ agree a x y
+agree_is Exact x y i j texts = texts
+agree_is (Within d) x y i j texts = cases (whole_number x) (whole_number y) (bytes_eq x y) refl refl refl
   where
     cases : (m n : Option ℤ) (same : Bool) → whole_number x ≡ m → whole_number y ≡ n → bytes_eq x y ≡ same
-        → agree_by (Within d) x m y n ≡ bytes_eq x y || are_within d m n
-    cases None n false left right is = is ∙ sym (ap (λ (b : Bool). b || false) is)
-    cases None n true left right is = is ∙ sym (ap (λ (b : Bool). b || false) is)
-    cases (Some m) None false left right is = is ∙ sym (ap (λ (b : Bool). b || false) is)
-    cases (Some m) None true left right is = is ∙ sym (ap (λ (b : Bool). b || false) is)
+        → agree_by (Within d) i m j n ≡ bytes_eq x y || are_within d m n
+    cases None n false left right is = texts ∙ is ∙ sym (ap (λ (b : Bool). b || false) is)
+    cases None n true left right is = texts ∙ is ∙ sym (ap (λ (b : Bool). b || false) is)
+    cases (Some m) None false left right is = texts ∙ is ∙ sym (ap (λ (b : Bool). b || false) is)
+    cases (Some m) None true left right is = texts ∙ is ∙ sym (ap (λ (b : Bool). b || false) is)
     cases (Some m) (Some n) false left right is = sym (ap (λ (b : Bool). b || are_within d (Some m) (Some n)) is)
     cases (Some m) (Some n) true left right is =
         let texts : x ≡ y = (bytes_eq-Decides x y).0 is in
@@ -40,107 +49,66 @@ agree_is (Within d) x y = cases (whole_number x) (whole_number y) (bytes_eq x y)
         ap (λ o. are_within d (Some m) o) (sym both) ∙ near d m ∙ sym (ap (λ (b : Bool). b || are_within d (Some m) (Some n)) is)
 
 -- no report has more votes than there are reports
-pub votes_are_few : (a : Agreement) (xs : List Instance) (n : ℕ) (reports : List ℕ) (i : ℕ) (b d : Ballot) → i < length reports
-    → b ≡ get_or (counted_in a xs n reports) i d → b.votes ≤ length reports
-votes_are_few a xs n reports i b d within is =
-    let front = take n reports in
-    let number = get_or reports i 0 in
-    let same : b ≡ ballot_of xs (votes a xs front) number = is ∙ get_or-map (ballot_of xs (votes a xs front)) reports i 0 d within in
-    let counted : b.votes ≡ votes a xs front number = ap (λ (c : Ballot). c.votes) same in
-    let few = count_by-le-length (λ j. agree a (output_of xs number) (output_of xs j)) front in
+pub votes_are_few : (a : Agreement) (xs : List Instance) (n : ℕ) (reports : List ℕ) (most : ℕ) (ballots : List Ballot) → length reports ≤ most
+    → ballots ≡ counted_in a xs n reports → All (λ (b : Ballot). b.votes ≤ most) ballots
+votes_are_few a xs n reports most ballots few counted =
     let front_length = length-take n reports in
-    omega (arith, counted, few, front_length)
-
--- in a loop that votes on one ballot after the other, the next one is as it was
-pub next_ballot : (f : Ballot → Ballot) (olds bs : List Ballot) (i : ℕ) (d : Ballot) → i < length olds → bs ≡ map f (take i olds) ++ drop i olds
-    → get_or bs i d ≡ get_or olds i d
-next_ballot f olds bs i d within is =
-    let front : length (map f (take i olds)) ≡ i = length-map (take i olds) f ∙ length-take-le i olds (omega arith) in
-    let here : i + (i - i) ≡ i = omega arith in
-    ap (λ l. get_or l i d) is
-    ∙ get_or-append_right (map f (take i olds)) (drop i olds) i i d front (omega arith)
-    ∙ get_or-drop i olds (i - i) d
-    ∙ ap (λ k. get_or olds k d) here
-
-pub next_votes_are_few : (a : Agreement) (xs : List Instance) (n : ℕ) (f : Ballot → Ballot) (olds bs : List Ballot) (i : ℕ) (d : Ballot) → i < length olds
-    → olds ≡ counted_in a xs n (numbers_of olds) → bs ≡ map f (take i olds) ++ drop i olds → (get_or bs i d).votes ≤ length olds
-next_votes_are_few a xs n f olds bs i d within counted is =
-    let numbers : length (numbers_of olds) ≡ length olds = length-map olds (λ (b : Ballot). b.number) in
-    let here : get_or bs i d ≡ get_or (counted_in a xs n (numbers_of olds)) i d = next_ballot f olds bs i d within is ∙ ap (λ l. get_or l i d) counted in
-    let few = votes_are_few a xs n (numbers_of olds) i (get_or bs i d) d (omega (arith, numbers)) here in
-    omega (arith, numbers, few)
+    All-same (λ (b : Ballot). b.votes ≤ most) ballots (counted_in a xs n reports) counted
+    (All-map (λ (b : Ballot). b.votes ≤ most) (ballot_of xs reports (votes a xs (take n reports))) reports
+    (λ k i within. let counts = count_by-le-length (λ j. agree a (output_of xs (get_or reports k i)) (output_of xs j)) (take n reports) in omega (arith, counts, front_length, few)))
 
 -- one more voter
 step : (a : Agreement) (xs : List Instance) (reports : List ℕ) (n : ℕ) → n < length reports → (v : ℕ) → v ≡ get_or reports n 0 → (i : ℕ)
-    → voted a xs (ballot_of xs (votes a xs (take n reports)) v) (ballot_of xs (votes a xs (take n reports)) i)
-    ≡ ballot_of xs (votes a xs (take (n + 1) reports)) i
+    → voted a (ballot_of xs reports (votes a xs (take n reports)) v) (ballot_of xs reports (votes a xs (take n reports)) i)
+    ≡ ballot_of xs reports (votes a xs (take (n + 1) reports)) i
 step a xs reports n within v is i = cases (agree a (output_of xs i) (output_of xs v)) refl
   where
     agrees : ℕ → Bool
     agrees j = agree a (output_of xs i) (output_of xs j)
 
     with_votes : ℕ → Ballot
-    with_votes votes_now = record { number = i; value = whole_number (output_of xs i); votes = votes_now }
+    with_votes votes_now = record { number = i; first = first_alike xs reports i; value = whole_number (output_of xs i); votes = votes_now }
+
+    texts : agree_by a (first_alike xs reports i) (whole_number (output_of xs i)) (first_alike xs reports v) (whole_number (output_of xs v)) ≡ agrees v
+    texts = agree_is a (output_of xs i) (output_of xs v) (first_alike xs reports i) (first_alike xs reports v) (same_first xs reports n i v within is)
 
     cases : (b : Bool) → agrees v ≡ b
-        → voted a xs (ballot_of xs (votes a xs (take n reports)) v) (ballot_of xs (votes a xs (take n reports)) i)
-        ≡ ballot_of xs (votes a xs (take (n + 1) reports)) i
+        → voted a (ballot_of xs reports (votes a xs (take n reports)) v) (ballot_of xs reports (votes a xs (take n reports)) i)
+        ≡ ballot_of xs reports (votes a xs (take (n + 1) reports)) i
     cases true agreed =
-        ap (λ (b : Bool). cond b (with_votes (votes a xs (take n reports) i + 1)) (with_votes (votes a xs (take n reports) i)))
-        (agree_is a (output_of xs i) (output_of xs v) ∙ agreed)
+        ap (λ (b : Bool). cond b (with_votes (votes a xs (take n reports) i + 1)) (with_votes (votes a xs (take n reports) i))) (texts ∙ agreed)
         ∙ ap with_votes (sym (count_by_more_yes agrees reports n 0 within (ap agrees (sym is) ∙ agreed)))
     cases false no_vote =
-        ap (λ (b : Bool). cond b (with_votes (votes a xs (take n reports) i + 1)) (with_votes (votes a xs (take n reports) i)))
-        (agree_is a (output_of xs i) (output_of xs v) ∙ no_vote)
+        ap (λ (b : Bool). cond b (with_votes (votes a xs (take n reports) i + 1)) (with_votes (votes a xs (take n reports) i))) (texts ∙ no_vote)
         ∙ ap with_votes (sym (count_by_more_no agrees reports n 0 within (ap agrees (sym is) ∙ no_vote)))
 
 -- the ballots after one more voter
-pub voters_add : (a : Agreement) (xs : List Instance) (reports : List ℕ) (n : ℕ) (voter d : Ballot) → n < length reports
-    → voter ≡ get_or (counted_in a xs n reports) n d
-    → map (voted a xs voter) (counted_in a xs n reports) ≡ counted_in a xs (n + 1) reports
-voters_add a xs reports n voter d within is =
+pub voters_add : (a : Agreement) (xs : List Instance) (reports : List ℕ) (n : ℕ) (ballots : List Ballot) (voter d : Ballot) → n < length reports
+    → ballots ≡ counted_in a xs n reports → voter ≡ get_or ballots n d → map (voted a voter) ballots ≡ counted_in a xs (n + 1) reports
+voters_add a xs reports n ballots voter d within before is =
     let v = get_or reports n 0 in
-    let counted = ballot_of xs (votes a xs (take n reports)) in
-    let same : voter ≡ counted v = is ∙ get_or-map counted reports n 0 d within in
-    ap (λ w. map (voted a xs w) (counted_in a xs n reports)) same
-    ∙ map-map (voted a xs (counted v)) counted reports
+    let counted = ballot_of xs reports (votes a xs (take n reports)) in
+    let same : voter ≡ counted v = is ∙ ap (λ l. get_or l n d) before ∙ get_or-map counted reports n 0 d within in
+    ap (map (voted a voter)) before
+    ∙ ap (λ w. map (voted a w) (counted_in a xs n reports)) same
+    ∙ map-map (voted a (counted v)) counted reports
     ∙ ap (λ (f : ℕ → Ballot). map f reports) (λ t i. step a xs reports n within v refl i t)
 
--- a loop that votes on one ballot after the other, at its end
-pub all_voted : (a : Agreement) (xs : List Instance) (n : ℕ) (voter d : Ballot) (olds bs : List Ballot) (i : ℕ) → n < length olds → i ≡ length olds
-    → olds ≡ counted_in a xs n (numbers_of olds) → voter ≡ get_or olds n d
-    → bs ≡ map (voted a xs voter) (take i olds) ++ drop i olds → bs ≡ counted_in a xs (n + 1) (numbers_of olds)
-all_voted a xs n voter d olds bs i within whole counted chosen is =
-    let numbers : length (numbers_of olds) ≡ length olds = length-map olds (λ (b : Ballot). b.number) in
-    is
-    ∙ ap (λ l. map (voted a xs voter) l ++ drop i olds) (take_all i olds (omega (arith, whole)))
-    ∙ ap (λ l. map (voted a xs voter) olds ++ l) (drop_all i olds (omega (arith, whole)))
-    ∙ append-nil (map (voted a xs voter) olds)
-    ∙ ap (map (voted a xs voter)) counted
-    ∙ voters_add a xs (numbers_of olds) n voter d (omega (arith, numbers)) (chosen ∙ ap (λ l. get_or l n d) counted)
-
--- before the first voter
-pub no_voters : (a : Agreement) (xs : List Instance) (reports : List ℕ) → counted_in a xs 0 reports ≡ map (ballot_of xs (λ i. 0)) reports
-no_voters a xs reports = refl
-
 pub counted_length : (a : Agreement) (xs : List Instance) (n : ℕ) (reports : List ℕ) → length (counted_in a xs n reports) ≡ length reports
-counted_length a xs n reports = length-map reports (ballot_of xs (votes a xs (take n reports)))
-
-pub numbers_counted : (a : Agreement) (xs : List Instance) (n : ℕ) (reports : List ℕ) → numbers_of (counted_in a xs n reports) ≡ reports
-numbers_counted a xs n reports = map-map (λ (b : Ballot). b.number) (ballot_of xs (votes a xs (take n reports))) reports ∙ map-id reports
+counted_length a xs n reports = length-map reports (ballot_of xs reports (votes a xs (take n reports)))
 
 -- the first ballot with enough votes is that of the leader
-pub leader_counted : (xs : List Instance) (votes_of : ℕ → ℕ) (enough : ℕ) (reports : List ℕ)
-    → option_map (λ (b : Ballot). b.number) (find (λ (b : Ballot). nat_le enough b.votes) (map (ballot_of xs votes_of) reports))
-    ≡ find (λ i. nat_le enough (votes_of i)) reports
-leader_counted xs votes_of enough [] = refl
-leader_counted xs votes_of enough (i ∷ rest) = cases (nat_le enough (votes_of i)) (leader_counted xs votes_of enough rest)
+leader_counted : (xs : List Instance) (reports : List ℕ) (votes_of : ℕ → ℕ) (enough : ℕ) (front : List ℕ)
+    → option_map (λ (b : Ballot). b.number) (find (λ (b : Ballot). nat_le enough b.votes) (map (ballot_of xs reports votes_of) front))
+    ≡ find (λ i. nat_le enough (votes_of i)) front
+leader_counted xs reports votes_of enough [] = refl
+leader_counted xs reports votes_of enough (i ∷ rest) = cases (nat_le enough (votes_of i)) (leader_counted xs reports votes_of enough rest)
   where
     found : List ℕ → Option ℕ
-    found reports = option_map (λ (b : Ballot). b.number) (find (λ (b : Ballot). nat_le enough b.votes) (map (ballot_of xs votes_of) reports))
+    found front = option_map (λ (b : Ballot). b.number) (find (λ (b : Ballot). nat_le enough b.votes) (map (ballot_of xs reports votes_of) front))
 
     cases : (b : Bool) → found rest ≡ find (λ i. nat_le enough (votes_of i)) rest
-        → option_map (λ (b : Ballot). b.number) (cond b (Some (ballot_of xs votes_of i)) (find (λ (b : Ballot). nat_le enough b.votes) (map (ballot_of xs votes_of) rest)))
+        → option_map (λ (b : Ballot). b.number) (cond b (Some (ballot_of xs reports votes_of i)) (find (λ (b : Ballot). nat_le enough b.votes) (map (ballot_of xs reports votes_of) rest)))
         ≡ cond b (Some i) (find (λ i. nat_le enough (votes_of i)) rest)
     cases true same = refl
     cases false same = same
@@ -149,12 +117,12 @@ abbrev pub leader_by : ℕ → List Ballot → Option ℕ
 leader_by enough ballots = option_map (λ (b : Ballot). b.number) (find (λ (b : Ballot). nat_le enough b.votes) ballots)
 
 -- the leader of a front, by its ballots
-pub leader_found : (a : Agreement) (xs : List Instance) (enough front : ℕ) (reports : List ℕ) (ballots : List Ballot) → ballots ≡ counted_in a xs front reports
+leader_found : (a : Agreement) (xs : List Instance) (enough front : ℕ) (reports : List ℕ) (ballots : List Ballot) → ballots ≡ counted_in a xs front reports
     → leader_by enough (take front ballots) ≡ leader a xs enough (take front reports)
 leader_found a xs enough front reports ballots counted =
     ap (λ l. leader_by enough (take front l)) counted
-    ∙ ap (leader_by enough) (take-map (ballot_of xs (votes a xs (take front reports))) front reports)
-    ∙ leader_counted xs (votes a xs (take front reports)) enough (take front reports)
+    ∙ ap (leader_by enough) (take-map (ballot_of xs reports (votes a xs (take front reports))) front reports)
+    ∙ leader_counted xs reports (votes a xs (take front reports)) enough (take front reports)
 
 -- what a loop over the fronts gives at one that has a leader
 pub front_leads : (a : Agreement) (xs : List Instance) (enough quorum front : ℕ) (reports : List ℕ) (ballots : List Ballot) (found : Option ℕ) → front < length reports
@@ -188,7 +156,7 @@ pub all_lead : (a : Agreement) (xs : List Instance) (enough quorum front : ℕ) 
     → ballots ≡ counted_in a xs front reports → leader_from a xs enough reports quorum ≡ leader_from a xs enough reports front
     → leader_by enough ballots ≡ first_leader a xs enough (take quorum reports) (drop quorum reports)
 all_lead a xs enough quorum front reports ballots whole counted none =
-    let ballots_length : length ballots ≡ length reports = ap length counted ∙ length-map reports (ballot_of xs (votes a xs (take front reports))) in
+    let ballots_length : length ballots ≡ length reports = ap length counted ∙ length-map reports (ballot_of xs reports (votes a xs (take front reports))) in
     ap (leader_by enough) (sym (take_all front ballots (omega (arith, whole, ballots_length))))
     ∙ leader_found a xs enough front reports ballots counted
     ∙ ap (leader a xs enough) (take_all front reports (omega (arith, whole)))

@@ -26,5 +26,6 @@ pub mod Selections
 pub mod UnitChanges
 pub mod Laws
 pub mod PlaceLaws
+pub mod Alike
 pub mod Ballots
 pub mod Bounds

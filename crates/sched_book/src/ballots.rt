@@ -1,10 +1,13 @@
-//! The leader among good reports: the first that agrees with enough of them. Each pair is compared once or twice, however many
-//! fronts are looked at.
+//! The leader among good reports: the first that agrees with enough of them. Each pair is compared once or twice, by numbers,
+//! however many fronts are looked at.
 
-ghost use Rattle.std.specs.Prelude.{◌≡◌, ◌≤◌, ◌<◌, ◌+◌, length, take, drop, map, find, nat_le, option_map};
-ghost use Rattle.sched_book.specs.Ballots.{agree_by, ballot_of, voted, numbers_of, counted_in};
+ghost use Rattle.std.specs.Prelude.{◌≡◌, ◌≤◌, length, take, drop, map, find, nat_le, option_map};
+ghost use Rattle.std.specs.List.{All};
+ghost use Rattle.sched_book.specs.Ballots.{agree_by, ballot_of, voted};
 ghost use Rattle.sched_book.specs.Count.{output_of, first_leader};
+ghost use Rattle.sched_book.specs.WholeNumbers.{whole_number};
 
+use crate::alike::Firsts;
 use crate::count::output_at;
 use crate::instance::Instance;
 use crate::limits::MOST_INSTANCES;
@@ -17,74 +20,70 @@ use arrayvec::ArrayVec;
 pub(crate) struct Ballot {
     /// The number of its instance.
     pub(crate) number: usize,
+    /// The first report with its output: two outputs are the same exactly if these are.
+    pub(crate) first: usize,
     /// Its output as a whole number, if it is one.
     pub(crate) value: Option<i64>,
     /// How many of the reports that were counted agree with it.
     pub(crate) votes: usize,
 }
 
-/// The ballot of a report, before any vote is counted.
-fn ballot_at(instances: &[Instance], number: usize) -> Ballot
-    ensures { result ≡ ballot_of instances.now (λ i. 0) number }
+/// The output of a report as a whole number, if it is one.
+fn value_at(instances: &[Instance], number: usize) -> Option<i64>
+    ensures { result ≡ whole_number (output_of instances.now number) }
 {
-    Ballot {
-        number,
-        value: whole_number_of(output_at(instances, number).as_bytes()),
-        votes: 0,
-    }
+    whole_number_of(output_at(instances, number).as_bytes())
 }
 
 /// The ballots of these reports, before any vote is counted.
 fn ballots_of(instances: &[Instance], reports: &[usize]) -> ArrayVec<Ballot, MOST_INSTANCES>
     requires { length reports.now ≤ MOST_INSTANCES }
-    ensures { result.items ≡ map (ballot_of instances.now (λ i. 0)) reports.now }
+    ensures { result.items ≡ map (ballot_of instances.now reports.now (λ i. 0)) reports.now }
 {
+    let mut firsts = Firsts::new();
     let mut ballots = ArrayVec::new();
-    for number in reports {
-        ballots.push(ballot_at(instances, *number));
+    for index in 0..reports.len() {
+        ballots.push(Ballot {
+            number: reports[index],
+            first: firsts.see(instances, reports, index),
+            value: value_at(instances, reports[index]),
+            votes: 0,
+        });
     }
     ballots
 }
 
-/// Whether the outputs of two reports agree. Two whole numbers are compared without their texts.
-fn do_agree(agreement: &Agreement, instances: &[Instance], left: &Ballot, right: &Ballot) -> bool
-    ensures { result ≡ agree_by agreement.now (output_of instances.now left.now.number) left.now.value (output_of instances.now right.now.number) right.now.value }
+/// Whether the outputs of two reports agree.
+fn do_agree(agreement: &Agreement, left: &Ballot, right: &Ballot) -> bool
+    ensures { result ≡ agree_by agreement.now left.now.first left.now.value right.now.first right.now.value }
 {
     match (agreement, left.value, right.value) {
         (Agreement::Within(distance), Some(_), Some(_)) => {
             are_numbers_within(*distance, left.value, right.value)
         }
-        _ => output_at(instances, left.number) == output_at(instances, right.number),
+        _ => left.first == right.first,
     }
 }
 
 /// A ballot, once a voter was counted: it has one vote more if the two agree.
-fn with_vote(
-    agreement: &Agreement,
-    instances: &[Instance],
-    voter: &Ballot,
-    ballot: &Ballot,
-) -> Ballot
+fn with_vote(agreement: &Agreement, voter: &Ballot, ballot: &Ballot) -> Ballot
     requires { ballot.now.votes ≤ MOST_INSTANCES }
-    ensures { result ≡ voted agreement.now instances.now voter.now ballot.now }
+    ensures { result ≡ voted agreement.now voter.now ballot.now }
 {
     let mut ballot = *ballot;
-    if do_agree(agreement, instances, &ballot, voter) {
+    if do_agree(agreement, &ballot, voter) {
         ballot.votes += 1;
     }
     ballot
 }
 
-/// Counts the vote of the report at an index.
-fn count_vote(agreement: &Agreement, instances: &[Instance], index: usize, ballots: &mut [Ballot])
-    requires within { index < length ballots.old }
-    requires few { length ballots.old ≤ MOST_INSTANCES }
-    requires counted { ballots.old ≡ counted_in agreement.now instances.now index (numbers_of ballots.old) }
-    ensures counted { ballots.new ≡ counted_in agreement.now instances.now (index + 1) (numbers_of ballots.old) }
+/// Counts the vote of one report.
+fn count_vote(agreement: &Agreement, voter: &Ballot, ballots: &mut [Ballot])
+    requires { All (λ ballot. ballot.votes ≤ MOST_INSTANCES) ballots.old }
+    ensures { ballots.new ≡ map (voted agreement.now voter.now) ballots.old }
 {
-    let voter = ballots[index];
     for ballot in ballots.iter_mut() {
-        *ballot = with_vote(agreement, instances, &voter, ballot);
+        *ballot = with_vote(agreement, voter, ballot);
     }
 }
 
@@ -118,7 +117,8 @@ pub(crate) fn first_leader_among(
                 return leader;
             }
         }
-        count_vote(agreement, instances, front, ballots.as_mut_slice());
+        let voter = ballots.as_slice()[front];
+        count_vote(agreement, &voter, ballots.as_mut_slice());
     }
     leader_of(ballots.as_slice(), enough)
 }

@@ -2,7 +2,7 @@
 
 ghost use Rattle.std.specs.Prelude.{◌≡◌, Some};
 ghost use Rattle.sched_book.specs.Count.{tells_success, tells_error, is_judged, is_held, is_live, is_open, has_failed};
-ghost use Rattle.sched_book.specs.Places.{is_before, is_owned_by, is_held_by, was_sent, is_overdue};
+ghost use Rattle.sched_book.specs.Places.{is_owned_by, is_held_by, was_sent, is_overdue};
 ghost use Rattle.sched_book.specs.Reports.{awaits_report};
 ghost use Rattle.sched_book.specs.Settle.{fresh};
 
@@ -11,8 +11,8 @@ use crate::rows::Workunit;
 use texts::{Listed, Same, Text};
 
 /// The place of an instance: that of its workunit in the order of imports, from 1, and its number in the
-/// workunit, from 0.
-#[derive(Clone, Copy, Debug, PartialEq, Eq)]
+/// workunit, from 0. Jobs are offered and sent in the order of their places.
+#[derive(Clone, Copy, Debug, PartialEq, Eq, PartialOrd, Ord)]
 pub struct Place {
     pub unit: u32,
     pub number: u32,
@@ -82,15 +82,6 @@ pub enum Verdict {
     /// Its output agrees with that of the canonical result.
     Valid,
     Invalid,
-}
-
-impl Place {
-    /// Whether it comes before another place: jobs are offered and sent in this order.
-    pub fn is_before(self, other: Place) -> bool
-        ensures { result ≡ is_before self other }
-    {
-        self.unit < other.unit || (self.unit == other.unit && self.number < other.number)
-    }
 }
 
 impl Outcome {

@@ -6,6 +6,7 @@
 //! A [`Desk`] represents a [`World`] and answers what that world says.
 #![tactic(auto)]
 
+mod alike;
 mod ballots;
 pub mod cause;
 mod changing;
@@ -38,7 +39,7 @@ pub use first_names::{Named, first_of_each};
 pub use instance::{Instance, Lapse, Outcome, Owner, Place, Status, UnitBook, Verdict};
 pub use keyed::Keyed;
 pub use list_desk::ListDesk;
-pub use look_ups::{copy_of, nth};
+pub use look_ups::{app_index, copy_of, nth};
 pub use machine::{Answered, Call, Caller};
 pub use moment::Moment;
 pub use names::{instance_name, split_name};

@@ -105,7 +105,8 @@ pub(crate) fn account_place(accounts: &[Account], authenticator: &str) -> Option
     place_of_index(account_index(accounts, authenticator))
 }
 
-fn app_index(apps: &[App], name: &str) -> Option<usize>
+/// The index of the application of this name.
+pub fn app_index(apps: &[App], name: &str) -> Option<usize>
     ensures value { result ≡ position (λ a. bytes_eq a.name name.now) apps.now }
     ensures within { IfSome result (λ i. i < length apps.now) }
 {

@@ -16,7 +16,7 @@ use texts::Memory;
 fn is_offered(from: Place, place: Place, instance: &Instance) -> bool
     ensures { result ≡ (is_none instance.now.owner && not (is_before place from)) }
 {
-    instance.owner.is_none() && !place.is_before(from)
+    instance.owner.is_none() && from <= place
 }
 
 /// Offers the candidates of one workunit, and returns whether the taker wants more.

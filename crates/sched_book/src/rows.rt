@@ -45,7 +45,7 @@ pub struct Version {
 
 /// Which versions may do a workunit. This is this profile's own rule. BOINC's homogeneous redundancy has classes of
 /// hosts, and its homogeneous app version keeps to one version.
-#[derive(Clone, Drop)]
+#[derive(Clone, PartialEq, Eq, Drop)]
 pub enum ClassRule {
     /// Versions of any class: the workunit is not marked.
     Any,

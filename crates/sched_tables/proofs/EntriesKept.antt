@@ -23,16 +23,14 @@ use Rattle.stores.specs.Standing.{MayBeKept, last_seqno, most_import_bytes}
 use Rattle.table_reading.specs.Reading.{MayBeKeptWith, is_call_of, is_import}
 use Rattle.reply_register.specs.Calls.{is_above_all}
 use Rattle.reply_register.specs.declared.kept.Kept.{Kept}
-use Rattle.sched_book.specs.Delta.{edited_one, edited, applied}
+use Rattle.sched_book.specs.Delta.{applied}
 use Rattle.sched_book.specs.declared.delta.Delta.TheVariants as delta
-use Rattle.sched_book.specs.declared.delta.Edit.{Edit}
-use Rattle.sched_book.specs.declared.delta.Edit.TheVariants as edit
 use Rattle.sched_book.specs.declared.rows.Rows.TheVariants as kinds
 use Rattle.sched_book.specs.declared.rows.App.{App}
 use Rattle.sched_book.specs.declared.settings.Settings.{Settings}
 use Rattle.sched_book.specs.declared.delta.Delta.{Delta}
 use Rattle.sched_book.specs.declared.world.World.{World}
-use Rattle.sched_book.proofs.Fitting.{settings_stay_in}
+use Rattle.sched_book.proofs.Fitting.{settings_stay_in, all_apps_stay}
 use Rattle.table_meaning.specs.declared.rows.StoredRow.{StoredRow}
 use Rattle.table_meaning.specs.declared.rows.StoredRow.TheVariants as stored
 use Rattle.table_meaning.specs.Rows.{RowKey, kept_key, batch_key, columns_of, same_key}
@@ -223,19 +221,13 @@ module _ (db : Database) (w : World) (calls : SlotCalls) (batches : Imports) (ho
 
 -- ---- what is in memory
 
--- changes leave the settings as they are, and bring applications
-edits_bring_none : (w : World) (edits : List Edit) → (edited w edits).apps ≡ w.apps
-edits_bring_none w [] = refl
-edits_bring_none w (edit.Host n h ∷ es) = edits_bring_none (edited_one w (edit.Host n h)) es
-edits_bring_none w (edit.Instance p x ∷ es) = edits_bring_none (edited_one w (edit.Instance p x)) es
-edits_bring_none w (edit.Class unit class ∷ es) = edits_bring_none (edited_one w (edit.Class unit class)) es
-
+-- changes bring applications
 apps_brought : (w : World) (cs : Delta) → (applied w cs).apps ≡ apps_with w.apps cs
 apps_brought w (delta.Rows (kinds.Accounts xs)) = refl
 apps_brought w (delta.Rows (kinds.Apps xs)) = refl
 apps_brought w (delta.Rows (kinds.Versions xs)) = refl
 apps_brought w (delta.Rows (kinds.Workunits xs)) = refl
-apps_brought w (delta.Edits edits) = edits_bring_none w edits
+apps_brought w (delta.Edits edits) = all_apps_stay w edits
 
 -- ---- a commit
 

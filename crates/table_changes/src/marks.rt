@@ -19,11 +19,7 @@ use texts::Listed;
 fn same_rule(left: &ClassRule, right: &ClassRule) -> bool
     ensures { IsTrue result → left.now ≡ right.now }
 {
-    match (left, right) {
-        (ClassRule::Any, ClassRule::Any) | (ClassRule::OfFirst, ClassRule::OfFirst) => true,
-        (ClassRule::Only(left), ClassRule::Only(right)) => left.is(right.as_str()),
-        _ => false,
-    }
+    left == right
 }
 
 /// The row of the mark of the workunit at a place, if its rule is not as before.

@@ -1,6 +1,6 @@
 //! Applications and their versions.
 
-ghost use Rattle.std.specs.Prelude.{◌≡◌, position, find, Some, IfOk, IfSome};
+ghost use Rattle.std.specs.Prelude.{◌≡◌, find, Some, IfOk, IfSome};
 ghost use Rattle.std.specs.Str.{bytes_eq};
 ghost use Rattle.sqlite.specs.Held.{state};
 ghost use Rattle.sched_book.specs.Desk.{app_by_name as app_of_name, version_by_key as version_of_key};
@@ -13,7 +13,9 @@ ghost use Rattle.table_meaning.specs.Reads.{Reads};
 ghost use Rattle.table_desk.specs.Asked.{Asked};
 ghost use Rattle.table_desk.specs.Versions.{greatest};
 
-use sched_book::{App, Cause, HostRow, Invariant, Placed, Unavailable, Version, copy_of, nth};
+use sched_book::{
+    App, Cause, HostRow, Invariant, Placed, Unavailable, Version, app_index, copy_of, nth,
+};
 use sqlite::{Alter, Connection};
 use std::alloc::Global;
 use table_decoding::version_class;
@@ -21,17 +23,11 @@ use table_rows::{class_of, version_known, version_numbers};
 use texts::Text;
 use world_soundness::in_limits::is_version_in_limits;
 
-fn index_of(apps: &[App], name: &str) -> Option<usize>
-    ensures { result ≡ position (λ a. bytes_eq a.name name.now) apps.now }
-{
-    apps.iter().position(|app| app.name.is(name))
-}
-
 /// The place of the application of this name.
 fn place_of(apps: &[App], name: &str) -> Result<Option<u32>, Unavailable>
     ensures { IfOk result (λ place. place ≡ place_where (λ a. bytes_eq a.name name.now) apps.now) }
 {
-    let Some(index) = index_of(apps, name) else {
+    let Some(index) = app_index(apps, name) else {
         return Ok(None);
     };
     match u32::try_from(index) {

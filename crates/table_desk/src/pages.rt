@@ -40,12 +40,12 @@ pub(crate) fn next_page(page: QueuePage, places: &[Place]) -> Result<Option<Plac
 fn is_within(from: Place, end: Option<Place>, place: Place) -> bool
     ensures { result ≡ is_within from end place }
 {
-    if place.is_before(from) {
+    if place < from {
         return false;
     }
     match end {
         None => true,
-        Some(end) => place.is_before(end),
+        Some(end) => place < end,
     }
 }
 

@@ -34,18 +34,14 @@ fn later(place: Place, other: Place) -> Place
     ensures than_the_other { book.is_before result other ≡ false }
     ensures one_of_them { (result ≡ place) ⊎ (result ≡ other) }
 {
-    if place.is_before(other) { other } else { place }
+    place.max(other)
 }
 
 /// The earlier one of two places, if the second is not before `from`.
 fn nearer(from: Place, next: Place, place: Place) -> Place
     ensures { result ≡ nearer from next place }
 {
-    if !place.is_before(from) && place.is_before(next) {
-        place
-    } else {
-        next
-    }
+    if from <= place { next.min(place) } else { next }
 }
 
 /// The first of these places that is not before `from`, if it is before `until`. If there is none, `until`.
@@ -74,7 +70,7 @@ impl Skip {
     pub fn covers(&self, place: Place) -> bool
         ensures { result ≡ covers self.now place }
     {
-        place.is_before(self.place) && !is_listed(self.came.as_slice(), place)
+        place < self.place && !is_listed(self.came.as_slice(), place)
     }
 
     /// The first place from this one on that the skip does not cover.
@@ -110,7 +106,7 @@ impl Skip {
     pub fn raise(&mut self, place: Place)
         ensures { self.new ≡ raised self.old place }
     {
-        if !place.is_before(self.place) {
+        if self.place <= place {
             self.place = place;
             self.came.clear();
         }

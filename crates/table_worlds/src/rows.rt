@@ -1,7 +1,6 @@
 //! The row of a world at a key.
 
-ghost use Rattle.std.specs.Prelude.{◌≡◌, List, pos, position, option_map, option_and_then, if◌then◌else◌, IfOk};
-ghost use Rattle.std.specs.Str.{bytes_eq};
+ghost use Rattle.std.specs.Prelude.{◌≡◌, List, pos, option_map, option_and_then, if◌then◌else◌, IfOk};
 ghost use Rattle.sched_book.specs.Classes.{class_of};
 ghost use Rattle.sched_book.specs.Places.{status_of};
 ghost use Rattle.sched_book.specs.declared.instance.UnitBook.{UnitBook};
@@ -19,7 +18,7 @@ use sched_book::count::book_status;
 use sched_book::limits::MOST_INSTANCES;
 use sched_book::{
     Account, Agreement, App, Cause, ClassRule, HostRow, Instance, Invariant, Outcome, Place,
-    Status, Unavailable, UnitBook, Version, Workunit, World, nth,
+    Status, Unavailable, UnitBook, Version, Workunit, World, app_index, nth,
 };
 use std::alloc::Global;
 use table_meaning::codes::{lapse_code, status_code};
@@ -60,12 +59,6 @@ fn joined(alloc: Global, words: &[Text]) -> Result<Text, Memory>
         text.push_str(word.as_str())?;
     }
     Ok(Text::of(text))
-}
-
-fn app_index(apps: &[App], name: &str) -> Option<usize>
-    ensures { result ≡ position (λ a. bytes_eq a.name name.now) apps.now }
-{
-    apps.iter().position(|app| app.name.is(name))
 }
 
 /// The place of the application of this name, or 0 if none has it.

@@ -3,5 +3,4 @@ use Rattle.sched_book.specs.Ballots.{voted}
 use Rattle.sched_book.proofs.ballots.count_vote.Given as goal
 
 abbrev pub invariant-loop-ballot : goal.invariant-loop-ballot
-invariant-loop-ballot l =
-    l.ballots ≡ map (voted l.agreement l.instances l.voter) (take l.ballot-index l.fn.ballots) ++ drop l.ballot-index l.fn.ballots
+invariant-loop-ballot l = l.ballots ≡ map (voted l.agreement l.voter) (take l.ballot-index l.fn.ballots) ++ drop l.ballot-index l.fn.ballots

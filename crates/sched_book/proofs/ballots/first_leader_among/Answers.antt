@@ -1,7 +1,6 @@
-use Rattle.std.proofs.Common.{◌≡◌, ◌≤◌, ◌+◌, take, length, arith, sym, ap, ◌∙◌}
+use Rattle.std.proofs.Common.{◌≡◌, ◌≤◌, ◌+◌, take, length, get_or, arith, sym, ap, ◌∙◌}
 use Rattle.arrayvec.proofs.ArrayVecLemmas.{items-with_items}
-use Rattle.sched_book.specs.Ballots.{numbers_of, counted_in}
-use Rattle.sched_book.proofs.Voting.{leader_by, front_leads, no_front_leads, below_quorum, all_lead, numbers_counted, counted_length}
+use Rattle.sched_book.proofs.Voting.{unset, votes_are_few, voters_add, leader_by, front_leads, no_front_leads, below_quorum, all_lead, counted_length}
 use Rattle.sched_book.proofs.ballots.first_leader_among.Goals.{then-quorum-front+else-is_some, else-quorum-front}
 use Rattle.sched_book.proofs.ballots.first_leader_among.Goals as goal
 
@@ -12,18 +11,19 @@ returns-then-is_some c =
     (c.leader_of-leader.ensures ∙ ap (λ l. leader_by c.args.enough (take c.loop-front.front l)) c.as_slice.ensures.value)
     (sym c.is_some.ensures ∙ c.if-is_some.true)
 
-pub count_vote-requires-clause-counted : goal.count_vote-requires-clause-counted
-count_vote-requires-clause-counted c =
-    let counted = c.as_mut_slice.ensures.value ∙ c.loop-front.invariant.counted in
-    counted
-    ∙ ap (counted_in c.args.agreement.now c.args.instances.now c.loop-front.front)
-    (sym (ap numbers_of counted ∙ numbers_counted c.args.agreement.now c.args.instances.now c.loop-front.front c.args.reports.now))
+pub count_vote-requires : goal.count_vote-requires
+count_vote-requires c =
+    votes_are_few c.args.agreement.now c.args.instances.now c.loop-front.front c.args.reports.now 100 c.as_mut_slice.result.now c.requires.few
+    (c.as_mut_slice.ensures.value ∙ c.loop-front.invariant.counted)
 
 pub loop-front-preserved : goal.loop-front-preserved
 loop-front-preserved c =
     let before = c.as_mut_slice.ensures.value ∙ c.loop-front.invariant.counted in
-    let numbers = ap numbers_of before ∙ numbers_counted c.args.agreement.now c.args.instances.now c.loop-front.front c.args.reports.now in
-    let after = c.count_vote.ensures.counted ∙ ap (counted_in c.args.agreement.now c.args.instances.now (c.loop-front.front + 1)) numbers in
+    let voter = ap (λ l. get_or l c.loop-front.front unset) (c.as_slice-in-loop-front.ensures.value ∙ sym c.as_mut_slice.ensures.value) in
+    let after =
+    c.count_vote.ensures
+    ∙ voters_add c.args.agreement.now c.args.instances.now c.args.reports.now c.loop-front.front c.as_mut_slice.result.now (get_or c.as_slice-in-loop-front.result.now c.loop-front.front unset)
+    unset c.loop-front-test.true before voter in
     let long_after = ap length after ∙ counted_length c.args.agreement.now c.args.instances.now (c.loop-front.front + 1) c.args.reports.now in
     let long_before = ap length c.loop-front.invariant.counted ∙ counted_length c.args.agreement.now c.args.instances.now c.loop-front.front c.args.reports.now in
     record {

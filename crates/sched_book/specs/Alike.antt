@@ -1,0 +1,23 @@
+-- Words. Reports with the same output, of which the first stands for all.
+use Rattle.std.specs.Prelude.{◌≡◌, ℕ, List, find, Option, Some, unwrap_or}
+use Rattle.std.specs.Cmp.Lexicographic.{slice_cmp}
+use Rattle.std.specs.List.{All, Contains}
+use Rattle.std.specs.List.Sorted.{IsSortedByKey}
+use Rattle.std.specs.Ordering.{nat_cmp}
+use Rattle.std.specs.Str.{bytes_eq}
+use Rattle.sched_book.specs.Count.{output_of}
+use Rattle.sched_book.specs.declared.instance.Instance.{Instance}
+
+-- the first of these reports with this output, if there is one
+abbrev pub first_with : List Instance → List ℕ → List ℕ → Option ℕ
+first_with xs reports text = find (λ j. bytes_eq (output_of xs j) text) reports
+
+-- the first of these reports with the output of report i, or i if there is none
+abbrev pub first_alike : List Instance → List ℕ → ℕ → ℕ
+first_alike xs reports i = unwrap_or (first_with xs reports (output_of xs i)) i
+
+-- these are the first of the reports with each output, in the order of their outputs
+pub record AreFirsts (xs : List Instance) (reports firsts : List ℕ) : Type 0 where
+  pub in_order : IsSortedByKey (output_of xs) (slice_cmp nat_cmp) firsts
+  pub first : All (λ j. first_with xs reports (output_of xs j) ≡ Some j) firsts
+  pub all : (text : List ℕ) (j : ℕ) → first_with xs reports text ≡ Some j → Contains firsts j

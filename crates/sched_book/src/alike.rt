@@ -1,0 +1,63 @@
+//! Reports with the same output: the first of them stands for all, so that outputs are compared as numbers.
+
+ghost use Rattle.std.specs.Prelude.{◌≡◌, ◌<◌, ◌≤◌, ◌+◌, [], length, take, slice_index};
+ghost use Rattle.std.specs.Cmp.Lexicographic.{slice_cmp};
+ghost use Rattle.std.specs.List.Sorted.{IsBinarySearchResult, IsSearchInRange};
+ghost use Rattle.std.specs.Ordering.{nat_cmp};
+ghost use Rattle.sched_book.specs.Alike.{first_alike, AreFirsts};
+ghost use Rattle.sched_book.specs.Count.{output_of};
+
+use crate::count::output_at;
+use crate::instance::Instance;
+use crate::limits::MOST_INSTANCES;
+use arrayvec::ArrayVec;
+use std::cmp::Ordering;
+
+/// The first report with each output, of the reports seen so far.
+#[derive(Drop)]
+pub(crate) struct Firsts {
+    /// The numbers of their instances, in the order of the outputs.
+    pub(crate) numbers: ArrayVec<usize, MOST_INSTANCES>,
+}
+
+impl Firsts {
+    /// Those of no report.
+    pub(crate) fn new() -> Firsts
+        ensures { result.numbers.items ≡ [] }
+    {
+        Firsts {
+            numbers: ArrayVec::new(),
+        }
+    }
+
+    /// The index of the report with this output, or the one at which it would be inserted.
+    fn search(&self, instances: &[Instance], output: &str) -> Result<usize, usize>
+        ensures place { IsBinarySearchResult (λ j. slice_cmp nat_cmp (output_of instances.now j) output.now) self.now.numbers.items result }
+        ensures within { IsSearchInRange result (length self.now.numbers.items) }
+    {
+        self.numbers.as_slice().binary_search_by(
+            |number: &usize| -> Ordering
+                ensures { result ≡ slice_cmp nat_cmp (output_of instances.entry.now number.now) output.entry.now }
+            { output_at(instances, *number).cmp(output) },
+        )
+    }
+
+    /// Sees the report at an index, once those before it were seen. Returns the first report with its output.
+    pub(crate) fn see(&mut self, instances: &[Instance], reports: &[usize], index: usize) -> usize
+        requires within { index < length reports.now }
+        requires room { (length self.old.numbers.items ≤ index) × (index < MOST_INSTANCES) }
+        requires seen { AreFirsts instances.now (take index reports.now) self.old.numbers.items }
+        ensures value { result ≡ first_alike instances.now reports.now (slice_index reports.now index) }
+        ensures seen { AreFirsts instances.now (take (index + 1) reports.now) self.new.numbers.items }
+        ensures few { length self.new.numbers.items ≤ index + 1 }
+    {
+        let number = reports[index];
+        match self.search(instances, output_at(instances, number)) {
+            Ok(spot) => self.numbers.as_slice()[spot],
+            Err(spot) => {
+                self.numbers.insert(spot, number);
+                number
+            }
+        }
+    }
+}
