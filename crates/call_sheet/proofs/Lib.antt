@@ -1,5 +1,5 @@
 pub mod SetRows
-pub mod Pages
-pub mod Leaves
-pub mod OnLeaves
+pub mod CallStates
+pub mod UnitStates
+pub mod OnUnitStates
 pub mod Sums

@@ -3,7 +3,7 @@ use Rattle.std.proofs.Common.{◌≡◌, ℕ, zero, suc, ◌+◌, ◌≤◌, ◌
 use Rattle.std.specs.Prelude.{◌||◌, option_map, slice_get, sum_by, unwrap_or}
 use Rattle.std.proofs.lemmas.Bool.Decides.{nat_tests}
 use Rattle.std.proofs.lemmas.List.Sums.{sum_by-cons}
-use Rattle.call_sheet.specs.Sheets.{is_among, AreAbove, AreRising}
+use Rattle.call_sheet.specs.WorkingSets.{is_among, AreAbove, AreRising}
 
 -- the sum of g over `count` numbers; n is the first
 unfoldable pub sum_from : (ℕ → ℕ) → ℕ → ℕ → ℕ

@@ -1,2 +1,2 @@
-pub mod Leaf
-pub mod Sheets
+pub mod UnitState
+pub mod WorkingSets

@@ -10,10 +10,10 @@ ghost use Rattle.sched_book.specs.Trusted.{Trusted};
 ghost use Rattle.sched_book.specs.declared.delta.Edit.{Edit};
 ghost use Rattle.sched_book.specs.declared.delta.Edit.TheVariants as edit;
 ghost use Rattle.sched_book.specs.declared.world.World.{World};
-ghost use Rattle.call_sheet.specs.Sheets.{IsLeafAt, IsReadAt, HasPlace, AreAllOf};
-ghost use Rattle.call_sheet.specs.Leaf.{Leaf};
+ghost use Rattle.call_sheet.specs.WorkingSets.{IsUnitStateAt, IsReadAt, HasPlace, AreAllOf};
+ghost use Rattle.call_sheet.specs.UnitState.{UnitState};
 
-use crate::leaf::Leaf;
+use crate::unit_state::UnitState;
 use sched_book::{
     Account, App, HostRow, Instance, Place, Placed, Settings, Unavailable, Units, Version,
 };
@@ -32,7 +32,7 @@ pub trait Draft: Units {
     ghost edits: { Self → List Edit };
 
     /// The workunits that were read.
-    ghost kept: { Self → ℕ → Option Leaf };
+    ghost kept: { Self → ℕ → Option UnitState };
 
     /// What a step of the call may do to it.
     ghost works: { Self → Self → Type 0 };
@@ -47,14 +47,14 @@ pub trait Draft: Units {
         ensures answer { Trusted Self.Units self.old self.new (
             OnOk result (IsReadAt (entry self.old) (Self.world self.old) unit (kept self.new unit))) };
 
-    /// The leaf of a workunit that was read.
-    fn leaf(&self, unit: u32) -> Option<&Leaf>
+    /// The state of a workunit that was read.
+    fn unit_state(&self, unit: u32) -> Option<&UnitState>
         ensures { option_copied result ≡ kept self.now unit };
 
-    /// Keeps what is decided of a workunit now, if it was read, so that its leaf need not decide it each time.
+    /// Keeps what is decided of a workunit now, if it was read, so that its unit state need not decide it each time.
     fn decide(&mut self, unit: u32)
         ensures reads { Self.reads self.old self.new }
-        ensures leaves { (n : ℕ) → kept self.new n ≡ kept self.old n };
+        ensures unit_states { (n : ℕ) → kept self.new n ≡ kept self.old n };
 
     /// The places of the workunits that were read, in order.
     fn units(&self, alloc: Global) -> Result<Vec<u32>, Memory>
@@ -147,8 +147,8 @@ pub trait Draft: Units {
 
     ghost names_stay: { (s : Self) → Self.well_kept s → (name : List ℕ) → unit_named (Self.world s) name ≡ unit_named (entry s) name };
 
-    // What was read is as the leaf says. What was not read was not changed.
-    ghost leaves_are: { (s : Self) → Self.well_kept s → (unit : ℕ) → IsLeafAt (entry s) (Self.world s) unit (kept s unit) };
+    // What was read is as the unit state says. What was not read was not changed.
+    ghost unit_states_are: { (s : Self) → Self.well_kept s → (unit : ℕ) → IsUnitStateAt (entry s) (Self.world s) unit (kept s unit) };
 
     // A read is work that changes nothing. Two pieces of work are together one. Work keeps the world that the call
     // found.

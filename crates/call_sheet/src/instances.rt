@@ -73,7 +73,7 @@ impl Instances {
             return Ok(());
         }
         if self.rows.len() >= MOST_INSTANCES {
-            return Err(Unavailable(Cause::Broken(Invariant::InstancesOnSheet)));
+            return Err(Unavailable(Cause::Broken(Invariant::InstancesOnWorkingSet)));
         }
         self.rows.push(row)?;
         Ok(())

@@ -1,21 +1,21 @@
-//! The sheet of a call: what the call read, each row once, and the edits that it makes.
+//! The working set of a call: what the call read, each row once, and the edits that it makes.
 //!
-//! A [`Page`] has what was read of a desk, and the edits so far. A [`Sheet`] is a desk with its page, and answers for
-//! the world with the edits made. A step of a call is generic in what a sheet does ([`Draft`]), decides by a [`Leaf`],
-//! and puts what it changes.
+//! A [`CallState`] has what was read of a desk, and the edits so far. A [`WorkingSet`] is a desk with its call state,
+//! and answers for the world with the edits made. A step of a call is generic in what a working set does ([`Draft`]),
+//! decides by a [`UnitState`], and puts what it changes.
 #![tactic(auto)]
 
 pub mod draft;
 pub mod instances;
-pub mod leaf;
-pub mod page;
+pub mod unit_state;
+pub mod call_state;
 mod reading;
-pub mod sheet;
-mod standing;
+pub mod working_set;
+mod by_name;
 
 pub use draft::Draft;
 pub use instances::Instances;
-pub use leaf::Leaf;
-pub use page::Page;
-pub use sheet::Sheet;
-pub use standing::{place_before, put_all};
+pub use unit_state::UnitState;
+pub use call_state::CallState;
+pub use working_set::WorkingSet;
+pub use by_name::{place_before, put_all};

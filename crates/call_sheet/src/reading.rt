@@ -1,4 +1,4 @@
-//! What a page asks of its desk.
+//! What a call state asks of its desk.
 
 ghost use Rattle.std.specs.Prelude.{◌≡◌, ◌≤◌, ◌+◌, ◌++◌, [], ◌∷◌, None, length, IfOk, OnOk, OnErr, IfSome};
 ghost use Rattle.std.specs.BTreeMap.{get};
@@ -7,16 +7,16 @@ ghost use Rattle.sched_book.specs.Places.{host_at};
 ghost use Rattle.sched_book.specs.Delta.{edited};
 ghost use Rattle.sched_book.specs.Trusted.{Trusted};
 ghost use Rattle.sched_book.specs.declared.delta.Edit.TheVariants as edit;
-ghost use Rattle.call_sheet.specs.Sheets.{IsPageOf, IsReadAt, HasPlace};
+ghost use Rattle.call_sheet.specs.WorkingSets.{IsCallStateOf, IsReadAt, HasPlace};
 
 use crate::instances::Instances;
-use crate::leaf::Leaf;
-use crate::page::Page;
+use crate::unit_state::UnitState;
+use crate::call_state::CallState;
 use sched_book::{Cause, Desk, HostRow, Invariant, Unavailable, copy_of};
 use std::alloc::Global;
 
 /// Asks for a workunit, its application's agreement and its instances.
-fn ask_leaf<D: Desk>(alloc: Global, desk: &mut D, unit: u32) -> Result<Option<Leaf>, Unavailable>
+fn ask_unit_state<D: Desk>(alloc: Global, desk: &mut D, unit: u32) -> Result<Option<UnitState>, Unavailable>
     ensures reads { D.reads desk.old desk.new }
     ensures answer { Trusted D.Units desk.old desk.new (IfOk result (IsReadAt (D.world desk.old) (D.world desk.old) unit)) }
 {
@@ -27,29 +27,29 @@ fn ask_leaf<D: Desk>(alloc: Global, desk: &mut D, unit: u32) -> Result<Option<Le
         return Err(Unavailable(Cause::Broken(Invariant::AppOfUnit)));
     };
     let instances = Instances::of(desk.instances_of(alloc, unit)?);
-    Ok(Some(Leaf::new(row, agreement, instances)?))
+    Ok(Some(UnitState::new(row, agreement, instances)?))
 }
 
-/// Reads a workunit onto the page, unless it is already there.
-pub(crate) fn read_leaf<D: Desk>(
+/// Reads a workunit into the call state, unless it is already there.
+pub(crate) fn read_unit_state<D: Desk>(
     alloc: Global,
     desk: &mut D,
-    page: &mut Page,
+    call_state: &mut CallState,
     unit: u32,
 ) -> Result<(), Unavailable>
     ensures reads { D.reads desk.old desk.new }
-    ensures page { Trusted D.Units desk.old desk.new (IsPageOf (D.world desk.old) page.old → IsPageOf (D.world desk.old) page.new) }
-    ensures answer { Trusted D.Units desk.old desk.new (IsPageOf (D.world desk.old) page.old → OnOk result (
-        IsReadAt (D.world desk.old) (edited (D.world desk.old) page.old.edits) unit (get nat_cmp page.new.leaves unit))) }
-    ensures edits { page.new.edits ≡ page.old.edits }
+    ensures call_state { Trusted D.Units desk.old desk.new (IsCallStateOf (D.world desk.old) call_state.old → IsCallStateOf (D.world desk.old) call_state.new) }
+    ensures answer { Trusted D.Units desk.old desk.new (IsCallStateOf (D.world desk.old) call_state.old → OnOk result (
+        IsReadAt (D.world desk.old) (edited (D.world desk.old) call_state.old.edits) unit (get nat_cmp call_state.new.unit_states unit))) }
+    ensures edits { call_state.new.edits ≡ call_state.old.edits }
 {
-    if page.leaf(unit).is_some() {
+    if call_state.unit_state(unit).is_some() {
         return Ok(());
     }
-    let Some(leaf) = ask_leaf(alloc, desk, unit)? else {
+    let Some(unit_state) = ask_unit_state(alloc, desk, unit)? else {
         return Ok(());
     };
-    page.keep_leaf(unit, leaf)?;
+    call_state.keep_unit_state(unit, unit_state)?;
     Ok(())
 }
 
@@ -57,22 +57,22 @@ pub(crate) fn read_leaf<D: Desk>(
 pub(crate) fn read_host<D: Desk>(
     alloc: Global,
     desk: &mut D,
-    page: &mut Page,
+    call_state: &mut CallState,
     number: u32,
 ) -> Result<Option<HostRow>, Unavailable>
     ensures reads { D.reads desk.old desk.new }
-    ensures page { Trusted D.Units desk.old desk.new (IsPageOf (D.world desk.old) page.old → IsPageOf (D.world desk.old) page.new) }
-    ensures answer { Trusted D.Units desk.old desk.new (IsPageOf (D.world desk.old) page.old →
-        IfOk result (λ r. r ≡ host_at (edited (D.world desk.old) page.old.edits) number)) }
-    ensures edits { page.new.edits ≡ page.old.edits }
+    ensures call_state { Trusted D.Units desk.old desk.new (IsCallStateOf (D.world desk.old) call_state.old → IsCallStateOf (D.world desk.old) call_state.new) }
+    ensures answer { Trusted D.Units desk.old desk.new (IsCallStateOf (D.world desk.old) call_state.old →
+        IfOk result (λ r. r ≡ host_at (edited (D.world desk.old) call_state.old.edits) number)) }
+    ensures edits { call_state.new.edits ≡ call_state.old.edits }
 {
-    if let Some(row) = page.host(number) {
+    if let Some(row) = call_state.host(number) {
         return Ok(Some(copy_of(row)?));
     }
     let Some(row) = desk.host_by_id(alloc, number)? else {
         return Ok(None);
     };
-    page.keep_host(number, copy_of(&row)?)?;
+    call_state.keep_host(number, copy_of(&row)?)?;
     Ok(Some(row))
 }
 
@@ -80,19 +80,19 @@ pub(crate) fn read_host<D: Desk>(
 pub(crate) fn put_host<D: Desk>(
     alloc: Global,
     desk: &mut D,
-    page: &mut Page,
+    call_state: &mut CallState,
     number: u32,
     row: &HostRow,
 ) -> Result<(), Unavailable>
     ensures reads { D.reads desk.old desk.new }
-    ensures page { Trusted D.Units desk.old desk.new (IsPageOf (D.world desk.old) page.old → IsPageOf (D.world desk.old) page.new) }
-    ensures edits { OnOk result (page.new.edits ≡ page.old.edits ++ edit.Host number row.now ∷ []) }
-    ensures err { OnErr result (page.new.edits ≡ page.old.edits) }
+    ensures call_state { Trusted D.Units desk.old desk.new (IsCallStateOf (D.world desk.old) call_state.old → IsCallStateOf (D.world desk.old) call_state.new) }
+    ensures edits { OnOk result (call_state.new.edits ≡ call_state.old.edits ++ edit.Host number row.now ∷ []) }
+    ensures err { OnErr result (call_state.new.edits ≡ call_state.old.edits) }
 {
-    let Some(_) = read_host(alloc, desk, page, number)? else {
+    let Some(_) = read_host(alloc, desk, call_state, number)? else {
         return Err(Unavailable(Cause::Broken(Invariant::ReplacedHost)));
     };
-    page.put_host(number, row)?;
+    call_state.put_host(number, row)?;
     Ok(())
 }
 
@@ -100,26 +100,26 @@ pub(crate) fn put_host<D: Desk>(
 /// change.
 pub(crate) fn add_host<D: Desk>(
     desk: &mut D,
-    page: &mut Page,
+    call_state: &mut CallState,
     row: &HostRow,
     most: u32,
 ) -> Result<Option<u32>, Unavailable>
     ensures reads { D.reads desk.old desk.new }
-    ensures page { Trusted D.Units desk.old desk.new (IsPageOf (D.world desk.old) page.old → IsPageOf (D.world desk.old) page.new) }
+    ensures call_state { Trusted D.Units desk.old desk.new (IsCallStateOf (D.world desk.old) call_state.old → IsCallStateOf (D.world desk.old) call_state.new) }
     ensures number { Trusted D.Units desk.old desk.new (
         IfOk result (λ n. IfSome n (λ number. (number ≡ length (D.world desk.old).hosts + 1) × (number ≤ most)))) }
     ensures full { Trusted D.Units desk.old desk.new (IfOk result (λ n. n ≡ None → most ≤ length (D.world desk.old).hosts)) }
-    ensures added { IfOk result (λ n. IfSome n (λ number. page.new.edits ≡ page.old.edits ++ edit.Host number row.now ∷ [])) }
-    ensures none { IfOk result (λ n. n ≡ None → page.new.edits ≡ page.old.edits) }
-    ensures err { OnErr result (page.new.edits ≡ page.old.edits) }
+    ensures added { IfOk result (λ n. IfSome n (λ number. call_state.new.edits ≡ call_state.old.edits ++ edit.Host number row.now ∷ [])) }
+    ensures none { IfOk result (λ n. n ≡ None → call_state.new.edits ≡ call_state.old.edits) }
+    ensures err { OnErr result (call_state.new.edits ≡ call_state.old.edits) }
 {
-    if !page.edits.is_empty() {
+    if !call_state.edits.is_empty() {
         return Err(Unavailable(Cause::Broken(Invariant::HostBeforeEdits)));
     }
     let count = desk.counts()?.hosts;
     if most <= count {
         return Ok(None);
     }
-    page.put_host(count + 1, row)?;
+    call_state.put_host(count + 1, row)?;
     Ok(Some(count + 1))
 }

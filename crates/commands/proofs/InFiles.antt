@@ -23,7 +23,7 @@ use Rattle.commands.specs.Messages.{AreOf}
 use Rattle.commands.specs.declared.database.Action.{Action}
 use Rattle.commands.specs.declared.database.Action.TheVariants as action
 use Rattle.commands.specs.declared.ending.Failure.{Failure}
-use Rattle.commands.specs.declared.ending.Outcome.{Outcome}
+use Rattle.commands.specs.declared.ending.Ending.{Ending}
 
 pub some_both : {A : Type 0} (P Q R : A → Type 0) → ((a : A) → P a → Q a → R a) → (o : Option A) → IfSome o P → IfSome o Q → IfSome o R
 some_both P Q R both None p q = tt
@@ -59,7 +59,7 @@ module _ {D : Type 0} {g : disk.Ghosts D} where
         in_files it (StandSince n w calls batches key points earlier) back
         (upgrades.stands opens.0 n is w calls batches key points earlier (subst (λ db. HoldWorldAt n db w calls batches) (sym same) it_holds.2.1) st) clean image may)
 
-    pub keeps_files : (a : Action) (ended : Result Outcome Failure) → LeavesDatabase over_files a ended (file_state c) it → KeepsFiles a ended before it
+    pub keeps_files : (a : Action) (ended : Result Ending Failure) → LeavesDatabase over_files a ended (file_state c) it → KeepsFiles a ended before it
     keeps_files (action.Create settings) ended makes = λ limits. in_files it _ back (makes limits)
     keeps_files action.Upgrade ended upgrades = upgrades_files upgrades
     keeps_files (action.Handle task) ended serves = serves_files (AreOf task ended) serves.0 serves.1 serves.2

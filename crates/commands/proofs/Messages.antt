@@ -11,7 +11,7 @@ use Rattle.commands.specs.Messages.{AreOf, IsOne, HasArrived}
 use Rattle.commands.specs.declared.answering.Task.{Task}
 use Rattle.commands.specs.declared.answering.Task.TheVariants as task
 use Rattle.commands.specs.declared.ending.Failure.{Failure}
-use Rattle.commands.specs.declared.ending.Outcome.{Outcome}
+use Rattle.commands.specs.declared.ending.Ending.{Ending}
 
 -- no message was handled, and the task failed
 pub none_of : (t : Task) (why : Failure) → AreOf t (Err why) []
@@ -21,7 +21,7 @@ none_of (task.Tick at) why = tt
 none_of (task.Statement host) why = tt
 
 -- a message that arrived so is the one of its order
-pub one_of : (ended : Result Outcome Failure) (c : Came) (now : ℕ) (bytes : List ℕ) (Is : List ℕ → Type 0) → HasArrived now bytes c → Is bytes → IsOne ended now Is (c ∷ [])
+pub one_of : (ended : Result Ending Failure) (c : Came) (now : ℕ) (bytes : List ℕ) (Is : List ℕ → Type 0) → HasArrived now bytes c → Is bytes → IsOne ended now Is (c ∷ [])
 one_of ended c now bytes Is arrived is = (arrived.now_is, subst Is (sym arrived.bytes_are) is)
 
 -- what became of a connection, by the result of serving it

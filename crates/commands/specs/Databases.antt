@@ -23,7 +23,7 @@ use Rattle.commands.specs.Messages.{AreOf}
 use Rattle.commands.specs.declared.database.Action.{Action}
 use Rattle.commands.specs.declared.database.Action.TheVariants as action
 use Rattle.commands.specs.declared.ending.Failure.{Failure}
-use Rattle.commands.specs.declared.ending.Outcome.{Outcome}
+use Rattle.commands.specs.declared.ending.Ending.{Ending}
 
 -- A store that a connection gave back. If the disk returned what was written, whatever a stop may leave is a database.
 pub record IsGivenBack {S : Type 0} (g : Ghosts S) (s : S) : Type 0 where
@@ -72,7 +72,7 @@ pub record UpgradesTables {S : Type 0} (g : Ghosts S) (old : State) (s : S) : Ty
 
 -- ---- what an action leaves
 
-abbrev pub LeavesDatabase : {S : Type 0} → Ghosts S → Action → Result Outcome Failure → State → S → Type 0
+abbrev pub LeavesDatabase : {S : Type 0} → Ghosts S → Action → Result Ending Failure → State → S → Type 0
 LeavesDatabase g (action.Create settings) ended old s = MakesTables g settings.now s
 LeavesDatabase g action.Upgrade ended old s = UpgradesTables g old s
 LeavesDatabase g (action.Handle task) ended old s = (came : List Came) × AreOf task ended came × ServesTables g came old s

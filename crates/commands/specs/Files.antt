@@ -25,7 +25,7 @@ use Rattle.commands.specs.Messages.{AreOf, IsOne, IsImport, IsTick, IsStatement}
 use Rattle.commands.specs.declared.database.Action.{Action}
 use Rattle.commands.specs.declared.database.Action.TheVariants as action
 use Rattle.commands.specs.declared.ending.Failure.{Failure}
-use Rattle.commands.specs.declared.ending.Outcome.{Outcome}
+use Rattle.commands.specs.declared.ending.Ending.{Ending}
 
 -- The two files of a database, its log and its database file, hold a database for which P is true. An opening finds it.
 abbrev pub FilesHold : (Database → Type 0) → Image → Type 0
@@ -61,7 +61,7 @@ module _ {D : Type 0} {g : disk.Ghosts D} where
       → LeavesInFiles (StandSince n w calls batches key upgrade_points earlier) it
 
   -- what an order that ended so leaves of the files that held these contents
-  abbrev pub LeavesFiles : Order → Result Outcome Failure → Image → FileStore D g → Type 0
+  abbrev pub LeavesFiles : Order → Result Ending Failure → Image → FileStore D g → Type 0
   LeavesFiles (order.Create settings tables) ended before it = MakesFiles it
   LeavesFiles (order.Upgrade tables) ended before it = UpgradesFiles before it
   LeavesFiles (order.Serve tables port count) ended before it = ServesFiles (λ came. length came ≤ count) before it
@@ -71,7 +71,7 @@ module _ {D : Type 0} {g : disk.Ghosts D} where
   LeavesFiles (order.Replay settings) ended before it = ⊥
 
   -- the same of an action
-  abbrev pub KeepsFiles : Action → Result Outcome Failure → Image → FileStore D g → Type 0
+  abbrev pub KeepsFiles : Action → Result Ending Failure → Image → FileStore D g → Type 0
   KeepsFiles (action.Create settings) ended before it =
       AreSettingsInLimits settings.now → LeavesInFiles (OpensAndStands settings.now.operator_key (new_upgrade_points this_era) []) it
   KeepsFiles action.Upgrade ended before it = UpgradesFiles before it

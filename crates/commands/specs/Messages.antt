@@ -5,7 +5,7 @@ use Rattle.sched_server.specs.Arrivals.{Came}
 use Rattle.commands.specs.declared.answering.Task.{Task}
 use Rattle.commands.specs.declared.answering.Task.TheVariants as task
 use Rattle.commands.specs.declared.ending.Failure.{Failure}
-use Rattle.commands.specs.declared.ending.Outcome.{Outcome}
+use Rattle.commands.specs.declared.ending.Ending.{Ending}
 
 -- a message of these bytes that arrived at this moment, with some answer
 pub record HasArrived (now : ℕ) (bytes : List ℕ) (c : Came) : Type 0 where
@@ -13,7 +13,7 @@ pub record HasArrived (now : ℕ) (bytes : List ℕ) (c : Came) : Type 0 where
   pub bytes_are : c.arrival.bytes ≡ bytes
 
 -- One message, which arrived at this moment, and this is true of its bytes. If the order failed, there may be none.
-abbrev pub IsOne : Result Outcome Failure → ℕ → (List ℕ → Type 0) → List Came → Type 0
+abbrev pub IsOne : Result Ending Failure → ℕ → (List ℕ → Type 0) → List Came → Type 0
 IsOne ended now Is [] = OnOk ended ⊥
 IsOne ended now Is (c ∷ []) = (c.arrival.now ≡ now) × Is c.arrival.bytes
 IsOne ended now Is (c ∷ d ∷ came) = ⊥
@@ -31,7 +31,7 @@ abbrev pub IsStatement : ℕ → List ℕ → Type 0
 IsStatement host bytes = (key : List ℕ) × (bytes ≡ statement_request key (decimal host))
 
 -- These may be all messages of a task that ended so: at most one of each connection, or the one that the task makes.
-abbrev pub AreOf : Task → Result Outcome Failure → List Came → Type 0
+abbrev pub AreOf : Task → Result Ending Failure → List Came → Type 0
 AreOf (task.Serve port count) ended came = length came ≤ count
 AreOf (task.Import kind batch file) ended came = IsOne ended 0 (IsImport kind.now batch.now) came
 AreOf (task.Tick at) ended came = IsOne ended at IsTick came

@@ -6,7 +6,7 @@ ghost use Rattle.sched_server.specs.Arrivals.{Came};
 ghost use Rattle.sched_server.specs.Serving.{ServesInTurn};
 ghost use Rattle.commands.specs.Messages.{AreOf, IsImport, IsTick, IsStatement, IsOne, HasArrived};
 
-use crate::ending::{Failure, Outcome};
+use crate::ending::{Failure, Ending};
 use crate::files::bytes_of;
 use crate::serving::serve_on;
 use http_requests::{import_request, statement_request, tick_request};
@@ -47,7 +47,7 @@ pub(crate) fn perform_by<S: Store>(
     rt: &HostRuntime,
     service: &mut Service<S>,
     task: &Task<'_>,
-) -> Result<Outcome, Failure>
+) -> Result<Ending, Failure>
     ensures { (came : List Came) × AreOf task.now result came × ServesInTurn S.Store came service.old service.new }
 {
     match task {
@@ -64,12 +64,12 @@ fn serve<S: Store>(
     service: &mut Service<S>,
     port: u16,
     count: u32,
-) -> Result<Outcome, Failure>
+) -> Result<Ending, Failure>
     ensures { (came : List Came) × (length came ≤ count) × ServesInTurn S.Store came service.old service.new }
 {
     let listener = TcpListener::bind(rt, ("127.0.0.1", port))?;
     serve_on(rt, service, &listener, count)?;
-    Ok(Outcome::Done)
+    Ok(Ending::Done)
 }
 
 /// Imports the batch in a file. Its moment is 0, since an import does not depend on it.
@@ -79,7 +79,7 @@ fn import<S: Store>(
     kind: &str,
     batch: &str,
     file: &str,
-) -> Result<Outcome, Failure>
+) -> Result<Ending, Failure>
     ensures { (came : List Came) × IsOne result 0 (IsImport kind.now batch.now) came × ServesInTurn S.Store came service.old service.new }
 {
     let message = import_message(rt, service.operator_key(), kind, batch, file)?;
@@ -106,7 +106,7 @@ fn tick<S: Store>(
     rt: &HostRuntime,
     service: &mut Service<S>,
     at: Moment,
-) -> Result<Outcome, Failure>
+) -> Result<Ending, Failure>
     ensures { (came : List Came) × IsOne result at IsTick came × ServesInTurn S.Store came service.old service.new }
 {
     let message = tick_request(rt.alloc(), service.operator_key())?;
@@ -118,7 +118,7 @@ fn statement<S: Store>(
     rt: &HostRuntime,
     service: &mut Service<S>,
     host: u32,
-) -> Result<Outcome, Failure>
+) -> Result<Ending, Failure>
     ensures { (came : List Came) × IsOne result 0 (IsStatement host) came × ServesInTurn S.Store came service.old service.new }
 {
     let message = statement_message(rt.alloc(), service.operator_key(), host)?;
@@ -147,7 +147,7 @@ fn answer<S: Store>(
     service: &mut Service<S>,
     now: u64,
     message: &[u8],
-) -> Result<Outcome, Failure>
+) -> Result<Ending, Failure>
     ensures { (c : Came) × HasArrived now message.now c × ServesInTurn S.Store (c ∷ []) service.old service.new }
 {
     let answer = Handler::handle(service, rt.alloc(), now, message);
@@ -155,12 +155,12 @@ fn answer<S: Store>(
 }
 
 /// Prints the body of an answer, and says how its order ended.
-fn outcome_of(rt: &HostRuntime, answer: &Answer) -> Result<Outcome, Failure> {
+fn outcome_of(rt: &HostRuntime, answer: &Answer) -> Result<Ending, Failure> {
     print(rt, answer)?;
     match answer.status() {
-        200 => Ok(Outcome::Done),
+        200 => Ok(Ending::Done),
         503 => Err(Failure::Unavailable),
-        _ => Ok(Outcome::Refused),
+        _ => Ok(Ending::Refused),
     }
 }
 

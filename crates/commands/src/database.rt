@@ -11,7 +11,7 @@ ghost use Rattle.commands.specs.Messages.{AreOf};
 ghost use Rattle.commands.specs.Databases.{IsGivenBack, LeavesDatabase, MakesTables, ServesTables, ServesStore, UpgradesTables};
 
 use crate::answering::{Task, perform_by};
-use crate::ending::{Failure, Outcome, Performed};
+use crate::ending::{Failure, Ending, Performed};
 use sched_book::Settings;
 use sched_server::Service;
 use sched_server::laws::new_stores_stand;
@@ -71,9 +71,9 @@ fn create<S: Alter + Drop>(
     Performed::leaving(ended, left)
 }
 
-fn print_created(rt: &HostRuntime) -> Result<Outcome, Failure> {
+fn print_created(rt: &HostRuntime) -> Result<Ending, Failure> {
     writeln!(io::writer(rt), "created")?;
-    Ok(Outcome::Done)
+    Ok(Ending::Done)
 }
 
 /// Upgrades the tables to the newest schema, and prints its number.
@@ -90,9 +90,9 @@ fn upgrade_tables<S: Alter + Drop>(rt: &HostRuntime, mut conn: Connection<S>) ->
     Performed::leaving(ended, conn.into_store())
 }
 
-fn print_schema(rt: &HostRuntime, schema: u32) -> Result<Outcome, Failure> {
+fn print_schema(rt: &HostRuntime, schema: u32) -> Result<Ending, Failure> {
     writeln!(io::writer(rt), "schema {schema}")?;
-    Ok(Outcome::Done)
+    Ok(Ending::Done)
 }
 
 /// Lets a service over the tables do a task.
@@ -117,7 +117,7 @@ fn perform_over<S: Store + Drop>(
     rt: &HostRuntime,
     store: S,
     task: &Task<'_>,
-) -> (Result<Outcome, Failure>, S)
+) -> (Result<Ending, Failure>, S)
     ensures { (came : List Came) × AreOf task.now result.0 came × ServesStore S.Store came store result.1 }
 {
     match Service::new(rt.alloc(), store) {

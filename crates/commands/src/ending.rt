@@ -3,7 +3,7 @@
 ghost use Rattle.std.specs.Prelude.{◌≡◌, Some, None};
 
 use replay_lines::Ended;
-use sched_tables::{OpenFault, Refused};
+use sched_tables::{OpenFault, OpenRefusal};
 use sqlite::{Alter, Error, ErrorCode};
 use std::io::ErrorKind;
 use std::{fmt, io};
@@ -11,19 +11,19 @@ use texts::Memory;
 
 /// How an order ended that was done.
 #[derive(Clone, Copy, Debug, PartialEq, Eq)]
-pub enum Outcome {
+pub enum Ending {
     /// All of it was done.
     Done,
     /// Its message was refused. The refusal is printed.
     Refused,
 }
 
-impl Outcome {
+impl Ending {
     /// The exit status of a program that ends so.
     pub fn status(self) -> u8 {
         match self {
-            Outcome::Done => 0,
-            Outcome::Refused => 1,
+            Ending::Done => 0,
+            Ending::Refused => 1,
         }
     }
 }
@@ -101,8 +101,8 @@ impl From<OpenFault> for Failure {
     }
 }
 
-impl<S: Alter + Drop> From<Refused<S>> for Failure {
-    fn from(refused: Refused<S>) -> Failure {
+impl<S: Alter + Drop> From<OpenRefusal<S>> for Failure {
+    fn from(refused: OpenRefusal<S>) -> Failure {
         Failure::from(OpenFault::from(refused))
     }
 }
@@ -111,14 +111,14 @@ impl<S: Alter + Drop> From<Refused<S>> for Failure {
 #[derive(Drop)]
 pub struct Performed<S> {
     /// How it ended.
-    pub ended: Result<Outcome, Failure>,
+    pub ended: Result<Ending, Failure>,
     /// The store under its tables, if they could be opened. The files are closed when this is dropped.
     pub left: Option<S>,
 }
 
 impl<S> Performed<S> {
     /// An order that opened no tables.
-    pub(crate) fn without_tables(ended: Result<Outcome, Failure>) -> Performed<S>
+    pub(crate) fn without_tables(ended: Result<Ending, Failure>) -> Performed<S>
         ensures ended { result.ended ≡ ended }
         ensures left { result.left ≡ None }
     {
@@ -126,7 +126,7 @@ impl<S> Performed<S> {
     }
 
     /// An order that leaves a store.
-    pub(crate) fn leaving(ended: Result<Outcome, Failure>, left: S) -> Performed<S>
+    pub(crate) fn leaving(ended: Result<Ending, Failure>, left: S) -> Performed<S>
         ensures ended { result.ended ≡ ended }
         ensures left { result.left ≡ Some left }
     {
@@ -138,9 +138,9 @@ impl<S> Performed<S> {
 }
 
 /// How a replay ended.
-pub(crate) fn ended(ended: Ended) -> Result<Outcome, Failure> {
+pub(crate) fn ended(ended: Ended) -> Result<Ending, Failure> {
     match ended {
-        Ended::Good => Ok(Outcome::Done),
+        Ended::Good => Ok(Ending::Done),
         Ended::Line(number) => Err(Failure::Line(number)),
         Ended::File => Err(Failure::File),
         Ended::Unavailable => Err(Failure::Unavailable),

@@ -3,7 +3,7 @@
 ghost use Rattle.std.specs.Prelude.{IfOk};
 ghost use Rattle.sched_book.specs.Limits.{AreSettingsInLimits};
 
-use crate::ending::{Failure, Outcome, ended};
+use crate::ending::{Failure, Ending, ended};
 use crate::files::settings_in;
 use replay_lines::replay;
 use sched_book::Settings;
@@ -16,7 +16,7 @@ use stores::Store;
 use texts::{Memory, Text};
 
 /// Answers the lines of standard input over tables in memory, with the settings in a file or the default ones.
-pub(crate) fn replay_input(rt: &HostRuntime, settings: Option<&Text>) -> Result<Outcome, Failure> {
+pub(crate) fn replay_input(rt: &HostRuntime, settings: Option<&Text>) -> Result<Ending, Failure> {
     let settings = match settings {
         Some(path) => settings_in(rt, path.as_str())?,
         None => default_settings(rt.alloc())?,
@@ -24,12 +24,12 @@ pub(crate) fn replay_input(rt: &HostRuntime, settings: Option<&Text>) -> Result<
     replay_under(rt, &settings)
 }
 
-fn replay_under(rt: &HostRuntime, settings: &Settings) -> Result<Outcome, Failure> {
+fn replay_under(rt: &HostRuntime, settings: &Settings) -> Result<Ending, Failure> {
     replay_over(rt, Tables::in_memory(rt.alloc(), settings)?)
 }
 
 /// Answers the lines of standard input over a store.
-fn replay_over<S: Store + Drop>(rt: &HostRuntime, store: S) -> Result<Outcome, Failure> {
+fn replay_over<S: Store + Drop>(rt: &HostRuntime, store: S) -> Result<Ending, Failure> {
     let Ok(mut service) = Service::new(rt.alloc(), store) else {
         return Err(Failure::Unavailable);
     };

@@ -12,7 +12,7 @@ use Rattle.stores.specs.declared.kind.Kind.{Kind}
 use Rattle.texts.specs.Words.{is_word}
 use Rattle.http_messages.specs.Bodies.{body_length, length_from_field, length_within}
 use Rattle.http_messages.specs.Deciding.{Asked, Decision, call, import, tick, statement, wrong_method, refused, decided_for, decided_length, is_operator, asked_on, asked_with, statement_of}
-use Rattle.http_messages.specs.Fields.{Told, absent, once, often, told, is_told}
+use Rattle.http_messages.specs.Fields.{Told, absent, once, often, field_named, is_told}
 use Rattle.http_messages.specs.Meaning.{Means}
 use Rattle.http_messages.specs.Numbers.{length_in, host_in}
 use Rattle.http_messages.specs.RouteKinds.{method_text, method_of, needs_key}
@@ -83,7 +83,7 @@ told_within (once value) = within (length_in value)
 told_within often = tt
 
 import_within : (fields : List (List ℕ × List ℕ)) → IsWithin (body_length at.Import fields)
-import_within fields = either IsWithin (is_told (told (codes "transfer-encoding") fields)) _ _ tt (told_within (told (codes "content-length") fields))
+import_within fields = either IsWithin (is_told (field_named (codes "transfer-encoding") fields)) _ _ tt (told_within (field_named (codes "content-length") fields))
 
 -- ---- what is asked
 

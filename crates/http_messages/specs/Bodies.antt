@@ -2,7 +2,7 @@
 use Rattle.std.specs.Prelude.{ℕ, nat_le, if◌then◌else◌, List, codes, Option, Some, None, Result, Ok, Err}
 use Rattle.rpc_records.specs.declared.fault.Fault.{Fault}
 use Rattle.rpc_records.specs.declared.fault.Fault.TheVariants.{BadHttp, LengthRequired, TooLarge}
-use Rattle.http_messages.specs.Fields.{Told, absent, once, often, told, is_told}
+use Rattle.http_messages.specs.Fields.{Told, absent, once, often, field_named, is_told}
 use Rattle.http_messages.specs.Numbers.{length_in}
 use Rattle.http_messages.specs.RouteKinds.{most_bytes}
 use Rattle.http_messages.specs.declared.route_kind.RouteKind.{RouteKind}
@@ -28,8 +28,8 @@ length_from_field route_kind often = Err BadHttp
 -- the length of a body that is sent
 abbrev pub sent_length : RouteKind → List (List ℕ × List ℕ) → Result ℕ Fault
 sent_length route_kind fields =
-    if is_told (told (codes "transfer-encoding") fields) then Err LengthRequired
-    else length_from_field route_kind (told (codes "content-length") fields)
+    if is_told (field_named (codes "transfer-encoding") fields) then Err LengthRequired
+    else length_from_field route_kind (field_named (codes "content-length") fields)
 
 -- the length of the body, from the head's fields; the body of a GET is not read
 abbrev pub body_length : RouteKind → List (List ℕ × List ℕ) → Result ℕ Fault

@@ -8,7 +8,7 @@ use Rattle.stores.specs.declared.kind.Kind.{Kind}
 use Rattle.rpc_records.specs.declared.fault.Fault.{Fault}
 use Rattle.rpc_records.specs.declared.fault.Fault.TheVariants.{BadHttp, NoRoute, NotOperator, NoSuchHost}
 use Rattle.http_messages.specs.Bodies.{body_length}
-use Rattle.http_messages.specs.Fields.{Told, absent, once, often, told}
+use Rattle.http_messages.specs.Fields.{Told, absent, once, often, field_named}
 use Rattle.http_messages.specs.Numbers.{host_in}
 use Rattle.http_messages.specs.RouteKinds.{method_text, method_of, needs_key}
 use Rattle.http_messages.specs.Routing as routing
@@ -36,7 +36,7 @@ is_key key (once value) = bytes_eq value key
 is_key key often = false
 
 abbrev pub is_operator : List ℕ → List (List ℕ × List ℕ) → Bool
-is_operator key fields = is_key key (told (codes "x-operator-key") fields)
+is_operator key fields = is_key key (field_named (codes "x-operator-key") fields)
 
 abbrev pub decided_length : Route → Result ℕ Fault → Decision
 decided_length route (Err fault) = at_once (refused fault)
@@ -54,8 +54,8 @@ decided_for key method fields None = at_once (refused NoRoute)
 decided_for key method fields (Some route) = decided_on key method fields route
 
 -- what a head decides, if this is the operator's key
-abbrev pub decided : List ℕ → RequestHead → Decision
-decided key h = decided_for key h.method (map name_and_value h.fields) (route_of (path_of h.target))
+abbrev pub head_decision : List ℕ → RequestHead → Decision
+head_decision key h = decided_for key h.method (map name_and_value h.fields) (route_of (path_of h.target))
 
 abbrev pub statement_of : Option ℕ → Asked
 statement_of None = refused NoSuchHost

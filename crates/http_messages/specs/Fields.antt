@@ -20,14 +20,14 @@ values_of name [] = []
 values_of name (field ∷ fields) =
     if is_same_name field.0 name then field.1 ∷ values_of name fields else values_of name fields
 
-abbrev pub told_by : List (List ℕ) → Told
-told_by [] = absent
-told_by (value ∷ []) = once value
-told_by (value ∷ other ∷ more) = often
+abbrev pub field_with : List (List ℕ) → Told
+field_with [] = absent
+field_with (value ∷ []) = once value
+field_with (value ∷ other ∷ more) = often
 
 -- what the fields of a name say
-abbrev pub told : List ℕ → List (List ℕ × List ℕ) → Told
-told name fields = told_by (values_of name fields)
+abbrev pub field_named : List ℕ → List (List ℕ × List ℕ) → Told
+field_named name fields = field_with (values_of name fields)
 
 -- some field has the name
 abbrev pub is_told : Told → Bool

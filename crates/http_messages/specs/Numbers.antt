@@ -9,8 +9,8 @@ abbrev pub are_digits : List ℕ → Bool
 are_digits text = nat_lt 0 (length text) && list_all is_ascii_digit text
 
 -- the number that digits say, if it is below 2^64
-abbrev pub number_in : List ℕ → Option ℕ
-number_in text = if are_digits text && nat_lt (digits_value 10 text) (2 ^ 64) then Some (digits_value 10 text) else None
+abbrev pub u64_in : List ℕ → Option ℕ
+u64_in text = if are_digits text && nat_lt (digits_value 10 text) (2 ^ 64) then Some (digits_value 10 text) else None
 
 -- the length that 1 to 10 digits say (RFC 9110, section 8.6)
 abbrev pub length_in : List ℕ → Option ℕ

@@ -46,7 +46,7 @@ fn is_same_name(name: &[u8], other: &[u8]) -> bool
 /// What the fields of `name` say, among those at `spans` in `front`.
 pub(crate) fn find<'b>(front: &'b [u8], spans: &[HeaderSpan], name: &[u8]) -> Found<'b>
     requires { All (IsHeaderWithin (length front.now)) spans.now }
-    ensures { spec.found_told result ≡ spec.told name.now (map (header_bytes front.now) spans.now) }
+    ensures { spec.found_told result ≡ spec.field_named name.now (map (header_bytes front.now) spans.now) }
 {
     let mut found = Found::Absent;
     for span in spans {

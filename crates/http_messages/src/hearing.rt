@@ -3,14 +3,14 @@
 ghost use Rattle.std.specs.Prelude.{◌≡◌};
 ghost use Rattle.httparse.specs.Grammar.{RequestHead};
 ghost use Rattle.httparse.specs.Spans.{IsRequestWithin, IsRequestAt};
-ghost use Rattle.http_messages.specs.Deciding.{decided};
+ghost use Rattle.http_messages.specs.Deciding.{head_decision};
 ghost use Rattle.http_messages.specs.Hearing.{decision_seen};
-ghost use Rattle.http_messages.specs.Meaning.{Means, IsSettled, Misses, MissesNoMore, message_seen};
+ghost use Rattle.http_messages.specs.Meaning.{Means, IsDetermined, Misses, MissesNoMore, message_seen};
 ghost use Rattle.http_messages.specs.Routers.{the_routes};
 
 use crate::deciding::{Decision, decide_for};
 use crate::heads::{HeadRead, MOST_FIELDS, head_room, read_head};
-use crate::message::{Heard, Message};
+use crate::message::{MessageSoFar, Message};
 use crate::route_kind::RouteKind;
 use crate::routes::{path_of, route_of};
 use httparse::spans::{EMPTY_HEADER_SPAN, HeaderSpan, RequestSpans};
@@ -28,7 +28,7 @@ fn decide<'b>(
 ) -> Decision<'b>
     requires routes { router.now ≡ the_routes }
     requires within { IsRequestWithin front.now fields.now spans }
-    ensures { (h : RequestHead) → IsRequestAt front.entry.now fields.now spans h → decision_seen result ≡ decided key.now h }
+    ensures { (h : RequestHead) → IsRequestAt front.entry.now fields.now spans h → decision_seen result ≡ head_decision key.now h }
 {
     let method = spans.method.of(front);
     let fields = &fields[..spans.headers];
@@ -55,10 +55,10 @@ fn decide<'b>(
 /// the peer sends, they must be heard again once so many more have come. If the head is whole, these are the rest of
 /// its body. If it is not, at least one byte is missing. Once the peer has stopped, the bytes mean what is returned
 /// here. For a request that is cut short, that is [`Fault::BadHttp`].
-pub fn hear<'b>(router: &Router<RouteKind>, key: &[u8], bytes: &'b [u8]) -> Heard<'b>
+pub fn hear<'b>(router: &Router<RouteKind>, key: &[u8], bytes: &'b [u8]) -> MessageSoFar<'b>
     requires { router.now ≡ the_routes }
     ensures meaning { Means key.now bytes.entry.now (message_seen result.message) }
-    ensures settled { result.missing ≡ 0 → IsSettled key.now bytes.entry.now (message_seen result.message) }
+    ensures settled { result.missing ≡ 0 → IsDetermined key.now bytes.entry.now (message_seen result.message) }
     ensures awaits { Misses key.now bytes.entry.now result.missing }
     ensures no_more { MissesNoMore key.now bytes.entry.now result.missing }
 {
@@ -67,16 +67,16 @@ pub fn hear<'b>(router: &Router<RouteKind>, key: &[u8], bytes: &'b [u8]) -> Hear
         HeadRead::Whole(spans) => {
             let decision = decide(router, key, head_room(bytes), &fields, spans);
             let rest = &bytes[spans.len..];
-            Heard {
+            MessageSoFar {
                 message: decision.message(rest),
                 missing: decision.missing(rest),
             }
         }
-        HeadRead::Partial => Heard {
+        HeadRead::Partial => MessageSoFar {
             message: Message::Refused(Fault::BadHttp),
             missing: 1,
         },
-        HeadRead::Refused => Heard {
+        HeadRead::Refused => MessageSoFar {
             message: Message::Refused(Fault::BadHttp),
             missing: 0,
         },

@@ -17,6 +17,6 @@ pub mod route_kind;
 mod routes;
 
 pub use hearing::hear;
-pub use message::{Heard, Message};
+pub use message::{MessageSoFar, Message};
 pub use route_kind::RouteKind;
 pub use routes::new_router;

@@ -27,7 +27,7 @@ pub enum Message<'b> {
 
 /// What bytes mean.
 #[derive(Clone, Copy)]
-pub struct Heard<'b> {
+pub struct MessageSoFar<'b> {
     pub message: Message<'b>,
     /// How many more bytes are needed at least before no further bytes can change the message; 0 if none can.
     pub missing: usize,

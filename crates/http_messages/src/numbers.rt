@@ -26,7 +26,7 @@ fn are_digits(text: &[u8]) -> bool
 
 /// The number that digits say, if it is below 2^64.
 fn number_in(text: &[u8]) -> Option<u64>
-    ensures { result ≡ spec.number_in text.now }
+    ensures { result ≡ spec.u64_in text.now }
 {
     if !are_digits(text) {
         return None;

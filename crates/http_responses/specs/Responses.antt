@@ -1,7 +1,7 @@
 -- Rule. Responses and their bytes: a status line, fields, an empty line, and the body (RFC 9112, section 2.1). Lines end with CR LF.
 use Rattle.std.specs.Prelude.{ℕ, List, [], ◌++◌, length, codes, decimal, unwrap_or, Option, Some, None}
 use Rattle.http.specs.StatusCode.{code_digits, reason_phrase}
-use Rattle.rpc_records.specs.Replies.{status_of, fault_text_of}
+use Rattle.rpc_records.specs.Replies.{http_status_of, fault_text_of}
 use Rattle.rpc_records.specs.declared.fault.Fault.{Fault}
 use Rattle.rpc_records.specs.declared.fault.Fault.TheVariants.{WrongMethod}
 use Rattle.http_responses.specs.Methods.{method_name}
@@ -64,7 +64,7 @@ statement_response body = record { status = 200; allow = None; media = Csv; body
 
 -- A refusal.
 abbrev pub refusal_response : Fault → Response
-refusal_response fault = record { status = status_of fault; allow = None; media = Json; body = fault_text_of fault }
+refusal_response fault = record { status = http_status_of fault; allow = None; media = Json; body = fault_text_of fault }
 
 -- The refusal of a method, if the target allows another.
 abbrev pub wrong_method_response : Method → Response

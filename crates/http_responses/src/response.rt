@@ -1,7 +1,7 @@
 //! The responses to messages.
 
 ghost use Rattle.std.specs.Prelude.{◌≡◌, IfOk};
-ghost use Rattle.rpc_records.specs.Replies.{status_of};
+ghost use Rattle.rpc_records.specs.Replies.{http_status_of};
 ghost use Rattle.http_responses.specs.Responses.{head_of, good_response, statement_response, refusal_response, wrong_method_response};
 
 use crate::head::{Head, head_of_size};
@@ -80,7 +80,7 @@ impl Response {
 }
 
 fn status_code(fault: Fault) -> StatusCode
-    ensures { result ≡ status_of fault }
+    ensures { result ≡ http_status_of fault }
 {
     match fault {
         Fault::BadHttp | Fault::BadJson | Fault::BadMember(_) | Fault::BadCsv { .. } => {

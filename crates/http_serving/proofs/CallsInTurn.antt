@@ -1,11 +1,11 @@
 -- Calls, one after another.
 use Rattle.std.proofs.Common.{ℕ, ◌+◌, refl, add-one}
-use Rattle.http_serving.specs.Streams.{Calls}
+use Rattle.http_serving.specs.Streams.{StepsInTurn}
 
-pub Calls-none : {S : Type 0} (step : S → S → Type 0) (a : S) → Calls step 0 a a
-unfolding Calls
-Calls-none step a = refl
+pub StepsInTurn-none : {S : Type 0} (step : S → S → Type 0) (a : S) → StepsInTurn step 0 a a
+unfolding StepsInTurn
+StepsInTurn-none step a = refl
 
-pub Calls-more : {S : Type 0} (step : S → S → Type 0) (n : ℕ) (a b c : S) → Calls step n a b → step b c → Calls step (n + 1) a c
-unfolding Calls
-Calls-more step n a b c calls last = rw (add-one n) (b, calls, last)
+pub StepsInTurn-more : {S : Type 0} (step : S → S → Type 0) (n : ℕ) (a b c : S) → StepsInTurn step n a b → step b c → StepsInTurn step (n + 1) a c
+unfolding StepsInTurn
+StepsInTurn-more step n a b c calls last = rw (add-one n) (b, calls, last)

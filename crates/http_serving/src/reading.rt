@@ -3,7 +3,7 @@
 ghost use Rattle.std.specs.Prelude.{◌≡◌, ◌<◌, ◌⊎◌, IfOk, OnErr};
 ghost use Rattle.http_serving.specs.Missing.{Misses};
 ghost use Rattle.http_serving.specs.Reading.{HeardSays, TurnSays};
-ghost use Rattle.http_serving.specs.Streams.{Calls};
+ghost use Rattle.http_serving.specs.Streams.{StepsInTurn};
 
 use crate::fault::IoFault;
 use crate::handler::Handler;
@@ -44,7 +44,7 @@ pub(crate) fn read_message<H: Handler, R: Source>(
 ) -> Result<Heard, IoFault>
     ensures ok { IfOk result (HeardSays (H.settled service.now) (H.wanting service.now) (R.left reader.old) (R.left reader.new)) }
     ensures fault { OnErr result (result ≡ Err IoFault.Read) }
-    ensures cause { OnErr result (R.has_failed reader.new ⊎ Calls R.steps 2_000_000 reader.old reader.new) }
+    ensures cause { OnErr result (R.has_failed reader.new ⊎ StepsInTurn R.steps 2_000_000 reader.old reader.new) }
 {
     let mut bytes = Vec::new(alloc);
     let mut missing = service.missing(&bytes);

@@ -3,7 +3,7 @@
 ghost use Rattle.std.specs.Prelude.{◌≡◌, ◌⊎◌, ℕ, List, IsErrOf, OnOk, OnErr};
 ghost use Rattle.std.specs.Io.KnownBytes.{Appends};
 ghost use Rattle.http_serving.specs.Serving.{Comes, IsAnswered};
-ghost use Rattle.http_serving.specs.Streams.{Calls, IsWritten};
+ghost use Rattle.http_serving.specs.Streams.{StepsInTurn, IsWritten};
 
 use crate::fault::IoFault;
 use crate::handler::Handler;
@@ -32,7 +32,7 @@ pub fn serve_one<H: Handler, R: Source, W: Sink>(
         × Appends (W.held writer.old) (W.held writer.new) answer) }
     ensures read_fault { IsErrOf result IoFault.Read
         → (service.new ≡ service.old) × (writer.new ≡ writer.old)
-        × (R.has_failed reader.new ⊎ Calls R.steps 2_000_000 reader.old reader.new) }
+        × (R.has_failed reader.new ⊎ StepsInTurn R.steps 2_000_000 reader.old reader.new) }
     ensures write_fault { IsErrOf result IoFault.Write
         → W.has_failed writer.new × ((bytes : List ℕ) × (answer : List ℕ)
         × Comes (H.wanting service.old) (R.left reader.old) (R.left reader.new) bytes

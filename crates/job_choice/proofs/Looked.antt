@@ -11,7 +11,7 @@ use Rattle.sched_book.specs.declared.instance.UnitBook.{UnitBook}
 use Rattle.sched_book.specs.declared.world.World.{World}
 use Rattle.sched_book.proofs.PlacesOf.{nth-suc}
 use Rattle.sched_book.specs.Skipping.{user_had_at}
-use Rattle.job_choice.specs.Past.{look_of, known_had, may_look, with_look, IsPast}
+use Rattle.job_choice.specs.Past.{look_of, known_had, may_look, with_look, IsUserPast}
 use Rattle.job_choice.specs.declared.past.LookedAt.{LookedAt}
 use Rattle.job_choice.specs.declared.past.UserPast.{UserPast}
 use Rattle.job_choice.specs.declared.past.UserPast.TheVariants.{InPart, Whole}
@@ -51,12 +51,12 @@ listed_is w account (suc i) =
 
 -- the list of all that the user had
 pub whole_is : (w : World) (account : ℕ) (units : List ℕ) (had : SeenSet ℕ) → units ≡ units_of_user w account
-    → ((key : ℕ) → has_seen nat_eq had key ≡ list_any (nat_eq key) units) → IsPast w account (Whole had)
+    → ((key : ℕ) → has_seen nat_eq had key ≡ list_any (nat_eq key) units) → IsUserPast w account (Whole had)
 whole_is w account units had listed seen = λ unit. seen unit ∙ ap (list_any (nat_eq unit)) listed ∙ listed_is w account unit
 
 -- one more look
 pub look_is : (w : World) (account : ℕ) (past : UserPast) (look : LookedAt) → look.had ≡ user_had_at w account look.unit
-    → IsPast w account past → IsPast w account (with_look past look)
+    → IsUserPast w account past → IsUserPast w account (with_look past look)
 look_is w account (Whole had) look is so = so
 look_is w account (InPart looks) look is so = λ unit.
     subst (λ o. IfSome (option_map (λ (l : LookedAt). l.had) o) (λ had. had ≡ user_had_at w account unit))
@@ -82,10 +82,10 @@ look_known (InPart looks) look may =
     by None false same = absurd cc
 
 -- nothing is known
-pub nothing_is : (w : World) (account : ℕ) → IsPast w account (InPart [])
+pub nothing_is : (w : World) (account : ℕ) → IsUserPast w account (InPart [])
 nothing_is w account = λ unit. tt
 
 -- what is known of a workunit
-pub had_is : (w : World) (account : ℕ) (past : UserPast) (unit : ℕ) (had : Bool) → IsPast w account past → known_had past unit ≡ Some had
+pub had_is : (w : World) (account : ℕ) (past : UserPast) (unit : ℕ) (had : Bool) → IsUserPast w account past → known_had past unit ≡ Some had
     → had ≡ user_had_at w account unit
 had_is w account past unit had so known = subst (λ o. IfSome o (λ had. had ≡ user_had_at w account unit)) known (so unit)

@@ -13,7 +13,7 @@ use Rattle.sched_book.specs.declared.instance.Place.{Place}
 use Rattle.sched_book.specs.declared.world.World.{World}
 use Rattle.sched_book.proofs.Newest.{none_in_nothing, in_front}
 use Rattle.job_choice.specs.Offered.{first_place}
-use Rattle.job_choice.specs.Past.{known_had, IsPast}
+use Rattle.job_choice.specs.Past.{known_had, IsUserPast}
 use Rattle.job_choice.specs.Seeking.{Seeks}
 use Rattle.job_choice.specs.declared.seeking.Seeking.{Seeking}
 use Rattle.job_choice.proofs.Candidates.{Before, before_from, after_first, Rising, rising_among, world_lists, stood}
@@ -26,7 +26,7 @@ module _ (w : World) (account : ℕ) where
   Sees = OrSkips (IsHadBy w account) Seeks
 
   -- it goes on at a candidate of a workunit that the user had, and stays as it is
-  goes_on : (old new : Seeking) (c : Candidate) → IsPast w account old.past.now → Sees old c GoOn new → IsHadBy w account c × (new ≡ old)
+  goes_on : (old new : Seeking) (c : Candidate) → IsUserPast w account old.past.now → Sees old c GoOn new → IsHadBy w account c × (new ≡ old)
   goes_on old new c past (inr (one, flow, same)) = (one, same)
   goes_on old new c past (inl (flow, is)) = by (known_had old.past.now c.place.unit) refl flow is
     where
@@ -46,7 +46,7 @@ module _ (w : World) (account : ℕ) where
       by false flow is = ap (λ (s : Seeking). s.first_new) is
 
   -- each candidate before the first new one is of a workunit that the user had
-  all_had : (cs : List Candidate) (old new : Seeking) (first_new : Place) → Rising cs → IsPast w account old.past.now → new.first_new ≡ Some first_new
+  all_had : (cs : List Candidate) (old new : Seeking) (first_new : Place) → Rising cs → IsUserPast w account old.past.now → new.first_new ≡ Some first_new
       → OffersAll Sees old cs new → (d : Candidate) → Contains cs d → Before d.place first_new → IsHadBy w account d
   all_had [] old new first_new rising past found h d among before = absurd (none_in_nothing d among)
   all_had (c ∷ cs) old new first_new rising past found (inl stopped) d among before =
@@ -60,11 +60,11 @@ module _ (w : World) (account : ℕ) where
       let on = goes_on old mid c past one in
       elim (in_front c cs d among) [
         | inl same ↦ subst (IsHadBy w account) same on.0
-        | inr later ↦ all_had cs mid new first_new rising.1 (subst (λ (s : Seeking). IsPast w account s.past.now) (sym on.1) past) found more d later before
+        | inr later ↦ all_had cs mid new first_new rising.1 (subst (λ (s : Seeking). IsUserPast w account s.past.now) (sym on.1) past) found more d later before
       ]
 
   -- Each place that waits is that of a candidate. So before the first candidate that is not known to be had, the user had them all.
-  pub had_before : (v : World) (old new : Seeking) (from first_new : Place) → v ≡ w → from ≡ first_place → IsPast w account old.past.now
+  pub had_before : (v : World) (old new : Seeking) (from first_new : Place) → v ≡ w → from ≡ first_place → IsUserPast w account old.past.now
       → OffersAll (OrSkips (IsHadBy v account) Seeks) old (unsent v from) new → new.first_new ≡ Some first_new → HadAllBefore w account first_new
   had_before v old new from first_new same first past offered found = λ p waiting before.
       let there = stood w (λ b x. is_open (status_of w b) && is_none x.owner) p waiting in

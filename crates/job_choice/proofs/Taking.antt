@@ -23,8 +23,8 @@ use Rattle.sched_book.specs.declared.world.World.{World}
 use Rattle.sched_book.proofs.Newest.{behind, front_of}
 use Rattle.job_choice.specs.Chosen.{places_of, IsJob, IsChoice}
 use Rattle.job_choice.specs.Choosing.{is_full, end_word_at, has_job_of, with_job, after_version}
-use Rattle.job_choice.specs.Offered.{limits_on, IsBegun, IsKnown, IsRight, IsReady, HasChosen, judged, Chooses, first_place}
-use Rattle.job_choice.specs.Past.{IsPast}
+use Rattle.job_choice.specs.Offered.{limits_on, IsBegun, IsKnown, IsRight, IsUpToDate, HasChosen, judged, Chooses, first_place}
+use Rattle.job_choice.specs.Past.{IsUserPast}
 use Rattle.job_choice.specs.declared.choosing.Choosing.{Choosing}
 use Rattle.job_choice.specs.declared.choosing.Known.{Known}
 use Rattle.job_choice.specs.declared.choosing.Limits.{Limits}
@@ -61,7 +61,7 @@ goes true h = absurd cc
 goes false h = refl
 
 -- before the first offer it is ready
-ready : (w : World) {h : HostRow} {limits : Limits} {wanted : ℕ} (t : Choosing) → IsBegun h limits wanted t → IsReady w t
+ready : (w : World) {h : HostRow} {limits : Limits} {wanted : ℕ} (t : Choosing) → IsBegun h limits wanted t → IsUpToDate w t
 ready w t begun = record {
   known = subst (IsRight w t.host.now) (sym begun.known) (record { past = nothing_is w t.host.now.account; apps = All-nil (IsKnown w t.host.now) });
   unjudged = begun.unjudged;
@@ -69,9 +69,9 @@ ready w t begun = record {
 
 -- if what is known of the user's past after the offers is then true, it is true, with another name for the world
 pub past_after : (w v : World) {h : HostRow} {limits : Limits} {wanted : ℕ} (t : Choosing) (past : UserPast) → v ≡ w → IsBegun h limits wanted t
-    → (IsReady v t → IsPast v t.host.now.account past) → IsPast w h.account past
+    → (IsUpToDate v t → IsUserPast v t.host.now.account past) → IsUserPast w h.account past
 past_after w v {h} t past same begun right =
-    subst (λ u. IsPast u h.account past) same (subst (λ (r : HostRow). IsPast v r.account past) begun.host (right (ready v t begun)))
+    subst (λ u. IsUserPast u h.account past) same (subst (λ (r : HostRow). IsUserPast v r.account past) begun.host (right (ready v t begun)))
 
 module _ (w : World) (q : Asking) where
   -- what was read is that of the world, and the jobs were taken by place
@@ -281,7 +281,7 @@ module _ (w : World) (q : Asking) where
 
   chosen : (old new : Choosing) (g : Grant)
       → IsBegun q.host (limits_on w q.number q.host q.held (q.now / 86400)) (q.asked - q.before) old
-      → (IsReady w old → HasChosen w old new) → g.jobs ≡ new.jobs → g.end_word ≡ end_word_at new → IsChoice w q g
+      → (IsUpToDate w old → HasChosen w old new) → g.jobs ≡ new.jobs → g.end_word ≡ end_word_at new → IsChoice w q g
   chosen old new g fresh offered jobs word =
       let on = begun old fresh in
       elim (offered (ready w old fresh)) [
@@ -293,10 +293,10 @@ module _ (w : World) (q : Asking) where
   -- the same, with other names for the world, the limits and the seconds
   pub chosen_at : (offered_in : World) (limits : Limits) (wanted day : ℕ) (old new : Choosing) (g : Grant)
       → offered_in ≡ w → day ≡ q.now / 86400 → limits ≡ limits_on w q.number q.host q.held day → wanted ≡ q.asked - q.before
-      → IsBegun q.host limits wanted old → (IsReady offered_in old → HasChosen offered_in old new) → g.jobs ≡ new.jobs → g.end_word ≡ end_word_at new → IsChoice w q g
+      → IsBegun q.host limits wanted old → (IsUpToDate offered_in old → HasChosen offered_in old new) → g.jobs ≡ new.jobs → g.end_word ≡ end_word_at new → IsChoice w q g
   chosen_at offered_in limits wanted day old new g same today limits_are wanted_is fresh offered jobs word =
       let known : limits ≡ limits_on w q.number q.host q.held (q.now / 86400) = limits_are ∙ ap (limits_on w q.number q.host q.held) today in
       chosen old new g
       (subst (λ n. IsBegun q.host (limits_on w q.number q.host q.held (q.now / 86400)) n old) wanted_is
       (subst (λ l. IsBegun q.host l wanted old) known fresh))
-      (subst (λ v. IsReady v old → HasChosen v old new) same offered) jobs word
+      (subst (λ v. IsUpToDate v old → HasChosen v old new) same offered) jobs word

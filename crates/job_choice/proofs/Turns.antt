@@ -12,8 +12,8 @@ use Rattle.sched_book.specs.declared.instance.Place.{Place}
 use Rattle.sched_book.specs.declared.rows.Version.{Version}
 use Rattle.sched_book.specs.declared.world.World.{World}
 use Rattle.job_choice.specs.Choosing.{is_full, has_job_of, known_of, unjudged_of, unjudged_at, with_job, after_past, after_version, after_app, after, Takes}
-use Rattle.job_choice.specs.Offered.{first_place, IsRight, IsReady, judged, Chooses, HasChosen}
-use Rattle.job_choice.specs.Past.{known_had, IsPast}
+use Rattle.job_choice.specs.Offered.{first_place, IsRight, IsUpToDate, judged, Chooses, HasChosen}
+use Rattle.job_choice.specs.Past.{known_had, IsUserPast}
 use Rattle.job_choice.specs.declared.choosing.Choosing.{Choosing}
 use Rattle.job_choice.specs.declared.choosing.Known.{Known}
 use Rattle.job_choice.specs.declared.choosing.KnownApp.{KnownApp}
@@ -26,7 +26,7 @@ use Rattle.job_choice.proofs.Taking.{goes}
 module _ (w : World) (account : ℕ) where
   -- it is ready, and its host is of the account
   abbrev IsReadyFor : Choosing → Type 0
-  IsReadyFor t = IsReady w t × (t.host.now.account ≡ account)
+  IsReadyFor t = IsUpToDate w t × (t.host.now.account ≡ account)
 
   -- A candidate, as a taker that is ready leaves it.
   module _ (t : Choosing) (c : Candidate) where
@@ -56,7 +56,7 @@ module _ (w : World) (account : ℕ) where
         same false = refl
 
     -- it is judged as the world says, or not at all
-    judged_or_not : (new : Choosing) → IsReady w t → new ≡ after t c → (new ≡ judged w t c) ⊎ (new ≡ unjudged_at t c)
+    judged_or_not : (new : Choosing) → IsUpToDate w t → new ≡ after t c → (new ≡ judged w t c) ⊎ (new ≡ unjudged_at t c)
     judged_or_not new ready is = by_job (has_job_of t.jobs c.place.unit) is
       where
         known_past : Option Bool
@@ -228,8 +228,8 @@ module _ (w : World) (account : ℕ) where
     )
 
     -- what is known of the user's past after it is true
-    pub past_is : new.unjudged ≡ None → IsPast w account new.known.past
-    past_is none = let last = (ended none).1 in subst (λ a. IsPast w a new.known.past) last.1 last.0.known.past
+    pub past_is : new.unjudged ≡ None → IsUserPast w account new.known.past
+    past_is none = let last = (ended none).1 in subst (λ a. IsUserPast w a new.known.past) last.1 last.0.known.past
 
     -- a turn that stopped at a candidate that could not be judged, after more was learned
     pub turns_go_on : (left : Option Unjudged) (at : Unjudged) (more : Known) → new.unjudged ≡ Some at → left ≡ None

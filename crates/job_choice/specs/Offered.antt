@@ -11,7 +11,7 @@ use Rattle.sched_book.specs.declared.instance.Place.{Place}
 use Rattle.sched_book.specs.declared.rows.HostRow.{HostRow}
 use Rattle.sched_book.specs.declared.world.World.{World}
 use Rattle.job_choice.specs.Choosing.{is_full, has_job_of, after_version}
-use Rattle.job_choice.specs.Past.{IsPast}
+use Rattle.job_choice.specs.Past.{IsUserPast}
 use Rattle.job_choice.specs.declared.choosing.Choosing.{Choosing}
 use Rattle.job_choice.specs.declared.choosing.Known.{Known}
 use Rattle.job_choice.specs.declared.choosing.KnownApp.{KnownApp}
@@ -47,11 +47,11 @@ IsKnown w h k = k.version ≡ version_for w h k.app
 
 -- what is known for the host is true
 pub record IsRight (w : World) (h : HostRow) (known : Known) : Type 0 where
-  pub past : IsPast w h.account known.past
+  pub past : IsUserPast w h.account known.past
   pub apps : All (IsKnown w h) known.apps
 
 -- what is known is true, and no candidate is left unjudged
-pub record IsReady (w : World) (t : Choosing) : Type 0 where
+pub record IsUpToDate (w : World) (t : Choosing) : Type 0 where
   pub known : IsRight w t.host.now t.known
   pub unjudged : t.unjudged ≡ None
 

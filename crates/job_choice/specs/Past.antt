@@ -18,8 +18,8 @@ known_had (InPart looks) unit = option_map (λ l. l.had) (look_of looks unit)
 known_had (Whole had) unit = Some (has_seen nat_eq had unit)
 
 -- what is known of each workunit is true
-abbrev pub IsPast : World → ℕ → UserPast → Type 0
-IsPast w account past = (unit : ℕ) → IfSome (known_had past unit) (λ had. had ≡ user_had_at w account unit)
+abbrev pub IsUserPast : World → ℕ → UserPast → Type 0
+IsUserPast w account past = (unit : ℕ) → IfSome (known_had past unit) (λ had. had ≡ user_had_at w account unit)
 
 -- it is known that the user had an instance of some workunit, or all is known
 abbrev pub has_had : UserPast → Bool

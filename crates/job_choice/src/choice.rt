@@ -5,8 +5,8 @@ ghost use Rattle.sched_book.specs.Fits.{version_for};
 ghost use Rattle.sched_book.specs.Trusted.{Trusted};
 ghost use Rattle.job_choice.specs.Chosen.{IsChoice};
 ghost use Rattle.job_choice.specs.Choosing.{known_runs, can_judge};
-ghost use Rattle.job_choice.specs.Past.{IsPast};
-ghost use Rattle.job_choice.specs.Offered.{first_place, limits_on, IsRight, IsReady, HasChosen};
+ghost use Rattle.job_choice.specs.Past.{IsUserPast};
+ghost use Rattle.job_choice.specs.Offered.{first_place, limits_on, IsRight, IsUpToDate, HasChosen};
 
 use crate::choosing::{Choosing, Known, KnownApp, Limits, Unjudged, begin, finish, is_done};
 use crate::granted::Grant;
@@ -134,10 +134,10 @@ fn offer_all<D: Desk>(
 ) -> Result<(), Unavailable>
     ensures reads { D.reads desk.old desk.new }
     ensures answer { Trusted D.Units desk.old desk.new (
-        OnOk result (IsReady (D.world desk.old) choosing.old → HasChosen (D.world desk.old) choosing.old choosing.new)) }
+        OnOk result (IsUpToDate (D.world desk.old) choosing.old → HasChosen (D.world desk.old) choosing.old choosing.new)) }
     ensures past { Trusted D.Units desk.old desk.new (
-        OnOk result (IsReady (D.world desk.old) choosing.old
-        → IsPast (D.world desk.old) choosing.old.host.now.account choosing.new.known.past)) }
+        OnOk result (IsUpToDate (D.world desk.old) choosing.old
+        → IsUserPast (D.world desk.old) choosing.old.host.now.account choosing.new.known.past)) }
 {
     if is_done(choosing) {
         return Ok(());

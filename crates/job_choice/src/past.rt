@@ -6,7 +6,7 @@ ghost use Rattle.std.specs.Option.{option_copied};
 ghost use Rattle.sched_book.specs.Places.{is_of_user};
 ghost use Rattle.sched_book.specs.Trusted.{Trusted};
 ghost use Rattle.sched_book.specs.Skipping.{user_had_at};
-ghost use Rattle.job_choice.specs.Past.{look_of, known_had, has_had, may_look, with_look, IsPast};
+ghost use Rattle.job_choice.specs.Past.{look_of, known_had, has_had, may_look, with_look, IsUserPast};
 ghost use Rattle.job_choice.specs.declared.past.UserPast.TheVariants.{Whole};
 
 use sched_book::{Desk, Instance, Unavailable};
@@ -152,7 +152,7 @@ fn units_had<D: Desk>(
 ) -> Result<SeenSet<u32>, Unavailable>
     ensures reads { D.reads desk.old desk.new }
     ensures answer { Trusted D.Units desk.old desk.new (
-        IfOk result (λ had. IsPast (D.world desk.old) account (Whole had))) }
+        IfOk result (λ had. IsUserPast (D.world desk.old) account (Whole had))) }
 {
     let units = desk.units_of_user(alloc, account)?;
     Ok(SeenSet::of(alloc, units.as_slice())?)
@@ -169,7 +169,7 @@ pub(crate) fn look_at<D: Desk>(
 ) -> Result<(), Unavailable>
     ensures reads { D.reads desk.old desk.new }
     ensures answer { Trusted D.Units desk.old desk.new (
-        OnOk result (IsPast (D.world desk.old) account past.old → IsPast (D.world desk.old) account past.new)) }
+        OnOk result (IsUserPast (D.world desk.old) account past.old → IsUserPast (D.world desk.old) account past.new)) }
     ensures known { OnOk result (IsTrue (is_some (known_had past.new unit))) }
 {
     if past.user_had(unit).is_some() {

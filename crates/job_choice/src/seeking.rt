@@ -3,7 +3,7 @@
 
 ghost use Rattle.std.specs.Prelude.{◌≡◌, false, unwrap_or};
 ghost use Rattle.sched_book.specs.Trusted.{Trusted};
-ghost use Rattle.job_choice.specs.Past.{known_had, IsPast};
+ghost use Rattle.job_choice.specs.Past.{known_had, IsUserPast};
 
 use crate::choice::first_place;
 use crate::past::UserPast;
@@ -55,7 +55,7 @@ pub(crate) fn note_had<D: Desk>(
 ) -> Result<(), Unavailable>
     ensures honest { D.honest desk.new → D.honest desk.old }
     ensures reads { (begun : D) → D.reads begun desk.old
-        → Trusted D.Units begun desk.new (IsPast (D.world begun) account past.now) → D.reads begun desk.new }
+        → Trusted D.Units begun desk.new (IsUserPast (D.world begun) account past.now) → D.reads begun desk.new }
 {
     if !past.has_had() {
         return Ok(());

@@ -1,5 +1,5 @@
 pub mod Standing
-pub mod OnLeaves
+pub mod OnUnitStates
 pub mod Holding
 pub mod Reported
 pub mod Fated

@@ -1,6 +1,6 @@
 pub mod Fates
 pub mod Holding
 pub mod Fated
-pub mod Leaves
+pub mod UnitStates
 pub mod Laws
 pub mod Requested

@@ -4,25 +4,25 @@ ghost use Rattle.std.specs.Prelude.{◌≡◌, IfOk};
 ghost use Rattle.std.specs.Option.{option_copied};
 ghost use Rattle.sched_book.specs.Lost.{is_aborted, aborts};
 ghost use Rattle.sched_book.specs.Trusted.{Trusted};
-ghost use Rattle.lost_jobs.specs.Leaves.{is_aborted_on};
+ghost use Rattle.lost_jobs.specs.UnitStates.{is_aborted_on};
 
-use call_sheet::{Draft, Leaf};
+use call_sheet::{Draft, UnitState};
 use rpc_records::Request;
 use sched_book::{Unavailable, first_of_each, place_named};
 use std::alloc::Global;
 use texts::{Listed, Text};
 
-/// Whether the client of the host may forget the instance of this number on a leaf: it awaits no report of the host, or
-/// its workunit has failed.
-fn is_aborted_on(leaf: Option<&Leaf>, host: u32, number: u32) -> bool
-    ensures { result ≡ is_aborted_on (option_copied leaf.entry) host number }
+/// Whether the client of the host may forget the instance of this number in a unit state: it awaits no report of the
+/// host, or its workunit has failed.
+fn is_aborted_on(unit_state: Option<&UnitState>, host: u32, number: u32) -> bool
+    ensures { result ≡ is_aborted_on (option_copied unit_state.entry) host number }
 {
-    let Some(leaf) = leaf else {
+    let Some(unit_state) = unit_state else {
         return true;
     };
-    match leaf.present().get(number as usize) {
+    match unit_state.present().get(number as usize) {
         Some(instance) if instance.awaits_report_of(host) => {
-            leaf.decided_now().status.has_failed()
+            unit_state.decided_now().status.has_failed()
         }
         _ => true,
     }
@@ -31,22 +31,22 @@ fn is_aborted_on(leaf: Option<&Leaf>, host: u32, number: u32) -> bool
 /// Whether the client of the host may forget this name.
 fn is_aborted<S: Draft>(
     alloc: Global,
-    sheet: &mut S,
+    working_set: &mut S,
     host: u32,
     name: &str,
 ) -> Result<bool, Unavailable>
-    ensures reads { S.reads sheet.old sheet.new }
-    ensures answer { Trusted S.Units sheet.old sheet.new (
-        IfOk result (λ aborted. aborted ≡ is_aborted (S.world sheet.old) host name.now)) }
+    ensures reads { S.reads working_set.old working_set.new }
+    ensures answer { Trusted S.Units working_set.old working_set.new (
+        IfOk result (λ aborted. aborted ≡ is_aborted (S.world working_set.old) host name.now)) }
 {
-    let Some(place) = place_named(alloc, sheet, name)? else {
+    let Some(place) = place_named(alloc, working_set, name)? else {
         return Ok(true);
     };
-    sheet.read(alloc, place.unit)?;
-    Ok(is_aborted_on(sheet.leaf(place.unit), host, place.number))
+    working_set.read(alloc, place.unit)?;
+    Ok(is_aborted_on(working_set.unit_state(place.unit), host, place.number))
 }
 
-/// The names in the client's list that it may forget, each once, in their order, on the sheet of its call.
+/// The names in the client's list that it may forget, each once, in their order, in the working set of its call.
 ///
 /// A client may forget the name of no instance of its host, of one that was reported, and of one of a failed workunit.
 ///
@@ -55,13 +55,13 @@ fn is_aborted<S: Draft>(
 /// [`Unavailable`] if there is no memory or the desk is unavailable.
 pub fn aborts_on<S: Draft>(
     alloc: Global,
-    sheet: &mut S,
+    working_set: &mut S,
     host: u32,
     request: &Request,
 ) -> Result<Listed<Text>, Unavailable>
-    ensures reads { S.reads sheet.old sheet.new }
-    ensures answer { Trusted S.Units sheet.old sheet.new (
-        IfOk result (λ names. names ≡ aborts (S.world sheet.old) host request.now.other_results)) }
+    ensures reads { S.reads working_set.old working_set.new }
+    ensures answer { Trusted S.Units working_set.old working_set.new (
+        IfOk result (λ names. names ≡ aborts (S.world working_set.old) host request.now.other_results)) }
 {
     let Some(names) = &request.other_results else {
         return Ok(Listed::new(alloc));
@@ -69,7 +69,7 @@ pub fn aborts_on<S: Draft>(
     let firsts = first_of_each(alloc, names.as_slice())?;
     let mut aborted = Listed::new(alloc);
     for &name in firsts.as_slice() {
-        if is_aborted(alloc, sheet, host, name.as_str())? {
+        if is_aborted(alloc, working_set, host, name.as_str())? {
             aborted.push(name.clone()?)?;
         }
     }

@@ -4,10 +4,10 @@ ghost use Rattle.std.specs.Prelude.{◌≡◌, ◌++◌, fold, filter_map, IfOk,
 ghost use Rattle.std.specs.Option.{option_copied};
 ghost use Rattle.sched_book.specs.Trusted.{Trusted};
 ghost use Rattle.lost_jobs.specs.Fated.{fated, with_fate, fate_change, AreByPlace};
-ghost use Rattle.lost_jobs.specs.Leaves.{change_on};
+ghost use Rattle.lost_jobs.specs.UnitStates.{change_on};
 
 use crate::fates::Fate;
-use call_sheet::{Draft, Leaf, put_all};
+use call_sheet::{Draft, UnitState, put_all};
 use sched_book::{Edit, Instance, Lapse, Owner, Unavailable};
 use std::alloc::Global;
 use texts::{Listed, Memory};
@@ -24,15 +24,15 @@ fn fated(resent: Option<u64>, instance: &Instance) -> Result<Instance, Memory>
     Ok(row)
 }
 
-/// What a fate changes on a leaf; nothing if there is no instance.
-fn change_on(leaf: Option<&Leaf>, fate: Fate) -> Result<Option<Edit>, Memory>
-    ensures { IfOk result (λ change. change ≡ change_on (option_copied leaf.entry) fate) }
+/// What a fate changes in a unit state; nothing if there is no instance.
+fn change_on(unit_state: Option<&UnitState>, fate: Fate) -> Result<Option<Edit>, Memory>
+    ensures { IfOk result (λ change. change ≡ change_on (option_copied unit_state.entry) fate) }
 {
     let place = fate.place;
-    let Some(leaf) = leaf else {
+    let Some(unit_state) = unit_state else {
         return Ok(None);
     };
-    match leaf.present().get(place.number as usize) {
+    match unit_state.present().get(place.number as usize) {
         None => Ok(None),
         Some(instance) => Ok(Some(Edit::Instance {
             place,
@@ -41,23 +41,23 @@ fn change_on(leaf: Option<&Leaf>, fate: Fate) -> Result<Option<Edit>, Memory>
     }
 }
 
-/// Puts what these fates change on the sheet of a call. Two fates of one place must be the same.
+/// Puts what these fates change in the working set of a call. Two fates of one place must be the same.
 ///
 /// # Errors
 ///
 /// [`Unavailable`] if there is no memory or the desk is unavailable.
-#[tactic(auto, using(crate::proofs::OnLeaves::change_steps))]
-pub fn put_fates<S: Draft>(alloc: Global, sheet: &mut S, fates: &[Fate]) -> Result<(), Unavailable>
-    ensures works { S.works sheet.old sheet.new }
-    ensures put { Trusted S.Units sheet.old sheet.new (
-        OnOk result (AreByPlace fates.now → S.world sheet.new ≡ fold with_fate (S.world sheet.old) fates.now)) }
-    ensures edits { Trusted S.Units sheet.old sheet.new (
-        OnOk result (S.edits sheet.new ≡ S.edits sheet.old ++ filter_map (fate_change (S.world sheet.old)) fates.now)) }
+#[tactic(auto, using(crate::proofs::OnUnitStates::change_steps))]
+pub fn put_fates<S: Draft>(alloc: Global, working_set: &mut S, fates: &[Fate]) -> Result<(), Unavailable>
+    ensures works { S.works working_set.old working_set.new }
+    ensures put { Trusted S.Units working_set.old working_set.new (
+        OnOk result (AreByPlace fates.now → S.world working_set.new ≡ fold with_fate (S.world working_set.old) fates.now)) }
+    ensures edits { Trusted S.Units working_set.old working_set.new (
+        OnOk result (S.edits working_set.new ≡ S.edits working_set.old ++ filter_map (fate_change (S.world working_set.old)) fates.now)) }
 {
     let mut more = Listed::new(alloc);
     for fate in fates {
-        sheet.read(alloc, fate.place.unit)?;
-        more.push_some(change_on(sheet.leaf(fate.place.unit), *fate)?)?;
+        working_set.read(alloc, fate.place.unit)?;
+        more.push_some(change_on(working_set.unit_state(fate.place.unit), *fate)?)?;
     }
-    put_all(alloc, sheet, more.as_slice())
+    put_all(alloc, working_set, more.as_slice())
 }

@@ -6,57 +6,57 @@ ghost use Rattle.sched_book.specs.Places.{held_by};
 ghost use Rattle.sched_book.specs.Lost.{lost};
 ghost use Rattle.sched_book.specs.Trusted.{Trusted};
 ghost use Rattle.lost_jobs.specs.Holding.{HoldsNoMore};
-ghost use Rattle.lost_jobs.specs.Leaves.{is_missing_on};
+ghost use Rattle.lost_jobs.specs.UnitStates.{is_missing_on};
 
-use call_sheet::{Draft, Leaf};
+use call_sheet::{Draft, UnitState};
 use rpc_records::Request;
 use sched_book::{Place, Unavailable, instance_name};
 use std::alloc::Global;
 use texts::{Listed, Memory, SeenSet, Text};
 
-/// Whether the host holds the instance of this number on a leaf, and its name is not listed.
+/// Whether the host holds the instance of this number in a unit state, and its name is not listed.
 fn is_missing_on(
     alloc: Global,
     host: u32,
     listed: &SeenSet<Text>,
-    leaf: Option<&Leaf>,
+    unit_state: Option<&UnitState>,
     number: u32,
 ) -> Result<bool, Memory>
-    ensures { IfOk result (λ missing. missing ≡ is_missing_on host listed.now (option_copied leaf.entry) number) }
+    ensures { IfOk result (λ missing. missing ≡ is_missing_on host listed.now (option_copied unit_state.entry) number) }
 {
-    let Some(leaf) = leaf else {
+    let Some(unit_state) = unit_state else {
         return Ok(false);
     };
-    match leaf.present().get(number as usize) {
+    match unit_state.present().get(number as usize) {
         Some(instance) if instance.is_held_by(host) => {
-            let name = instance_name(alloc, leaf.unit().name.as_str(), number)?;
+            let name = instance_name(alloc, unit_state.unit().name.as_str(), number)?;
             Ok(!listed.has(&name))
         }
         _ => Ok(false),
     }
 }
 
-/// The jobs of the host that its client lost, on the sheet of its call, by place. Of the places that the host held when
-/// the call came, they are those that it still holds and does not list. There are none if lost jobs are not sent again,
-/// or if the client sent no list.
+/// The jobs of the host that its client lost, in the working set of its call, by place. Of the places that the host
+/// held when the call came, they are those that it still holds and does not list. There are none if lost jobs are not
+/// sent again, or if the client sent no list.
 ///
 /// # Errors
 ///
 /// [`Unavailable`] if there is no memory or the desk is unavailable.
-#[tactic(auto, using(crate::proofs::OnLeaves::missing_steps))]
+#[tactic(auto, using(crate::proofs::OnUnitStates::missing_steps))]
 pub fn lost_on<S: Draft>(
     alloc: Global,
-    sheet: &mut S,
+    working_set: &mut S,
     host: u32,
     held: &[Place],
     request: &Request,
 ) -> Result<Listed<Place>, Unavailable>
-    ensures reads { S.reads sheet.old sheet.new }
-    ensures answer { Trusted S.Units sheet.old sheet.new (IfOk result (λ places.
-        held.now ≡ held_by (S.entry sheet.old) host → HoldsNoMore (S.entry sheet.old) (S.world sheet.old) host →
-        places ≡ lost (S.world sheet.old) host request.now.other_results)) }
+    ensures reads { S.reads working_set.old working_set.new }
+    ensures answer { Trusted S.Units working_set.old working_set.new (IfOk result (λ places.
+        held.now ≡ held_by (S.entry working_set.old) host → HoldsNoMore (S.entry working_set.old) (S.world working_set.old) host →
+        places ≡ lost (S.world working_set.old) host request.now.other_results)) }
 {
-    if !sheet.settings().resend_lost_results {
+    if !working_set.settings().resend_lost_results {
         return Ok(Listed::new(alloc));
     }
     let listed = match &request.other_results {
@@ -65,8 +65,8 @@ pub fn lost_on<S: Draft>(
     };
     let mut missing = Listed::new(alloc);
     for place in held {
-        sheet.read(alloc, place.unit)?;
-        if is_missing_on(alloc, host, &listed, sheet.leaf(place.unit), place.number)? {
+        working_set.read(alloc, place.unit)?;
+        if is_missing_on(alloc, host, &listed, working_set.unit_state(place.unit), place.number)? {
             missing.push(*place)?;
         }
     }

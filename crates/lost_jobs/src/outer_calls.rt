@@ -1,5 +1,5 @@
-//! Calls that the program does not make. They are for a caller that has a desk and no sheet: tests, or another
-//! scheduler. [`lost`] and [`resend_or_drop`] open a sheet for the steps that the program runs, [`lost_on`] and
+//! Calls that the program does not make. They are for a caller that has a desk and no working set: tests, or another
+//! scheduler. [`lost`] and [`resend_or_drop`] open a working set for the steps that the program runs, [`lost_on`] and
 //! [`fates_on`]; [`aborts`] needs no desk.
 
 ghost use Rattle.std.specs.Prelude.{◌≡◌, map, IfOk};
@@ -12,7 +12,7 @@ ghost use Rattle.lost_jobs.specs.Requested.{RecordsReports, AreLostBy};
 
 use crate::fates::{Fate, fates_on};
 use crate::missing::lost_on;
-use call_sheet::{Draft, Page, Sheet, put_all};
+use call_sheet::{Draft, CallState, WorkingSet, put_all};
 use rpc_records::Request;
 use sched_book::{
     Desk, Edits, HostRow, Moment, Place, Unavailable, Units, first_of_each, place_named, status_at,
@@ -39,14 +39,14 @@ pub fn lost<D: Desk>(
         RecordsReports (D.world desk.old) edits.now host request.now →
         AreLostBy (D.world desk.old) host request.now places)) }
 {
-    let mut page = Page::new(alloc, desk.settings(alloc)?);
-    let mut sheet = Sheet {
+    let mut call_state = CallState::new(alloc, desk.settings(alloc)?);
+    let mut working_set = WorkingSet {
         desk,
-        page: &mut page,
+        call_state: &mut call_state,
     };
-    put_all(alloc, &mut sheet, edits.as_slice())?;
-    let held = sheet.held_before(alloc, host)?;
-    lost_on(alloc, &mut sheet, host, held.as_slice(), request)
+    put_all(alloc, &mut working_set, edits.as_slice())?;
+    let held = working_set.held_before(alloc, host)?;
+    lost_on(alloc, &mut working_set, host, held.as_slice(), request)
 }
 
 /// What happens to these lost jobs of a host, as its call describes it.
@@ -64,12 +64,12 @@ pub fn resend_or_drop<D: Desk>(
     ensures answer { Trusted D.Units desk.old desk.new (
         IfOk result (λ fates. fates ≡ map (fate (D.world desk.old) host.now now) lost.now)) }
 {
-    let mut page = Page::new(alloc, desk.settings(alloc)?);
-    let mut sheet = Sheet {
+    let mut call_state = CallState::new(alloc, desk.settings(alloc)?);
+    let mut working_set = WorkingSet {
         desk,
-        page: &mut page,
+        call_state: &mut call_state,
     };
-    fates_on(alloc, &mut sheet, host, lost, now)
+    fates_on(alloc, &mut working_set, host, lost, now)
 }
 
 /// Whether the client of the host may forget this name: no instance of the name awaits a report of the host, or its

@@ -35,18 +35,18 @@ use Rattle.pasts.specs.Leaves.{host_of_key}
 use Rattle.pasts.specs.Messages.{Rpc, key_of, heard_now}
 use Rattle.sched_book.specs.Limits.{last_moment}
 use Rattle.pasts.specs.Told.{told_fresh, told_heard, answer_from_kept, told_call, told_account, told_number}
-use Rattle.pasts.specs.declared.answer.Answer.{Answer}
-use Rattle.pasts.specs.declared.answer.Answer.TheVariants.{Good, Refusal}
+use Rattle.pasts.specs.declared.answer.AnswerContent.{AnswerContent}
+use Rattle.pasts.specs.declared.answer.AnswerContent.TheVariants.{Good, Refusal}
 use Rattle.pasts.proofs.ByNumber.{at_number, kept_by_number}
 use Rattle.pasts.proofs.ToldNone.{beside_none}
-use Rattle.message_engine.specs.Calls.{IsNamed, told_caller, MayAct, ServesCall, IsCallServed, entry_of_call}
+use Rattle.message_engine.specs.Calls.{IsNamedCaller, told_caller, MayAct, ServesCall, IsCallServed, entry_of_call}
 use Rattle.message_engine.proofs.EntriesKept.{told_serves, step_serves, IsStep}
 use Rattle.message_engine.proofs.KeptStanding.{call_may_be_kept}
 
 -- ---- who calls
 
 -- the number of a named caller's key is that of its host
-number_named : (w : World) (c : Caller) (r : Request) → IsNamed w c r → host_of_key w (key_of r) ≡ c.host
+number_named : (w : World) (c : Caller) (r : Request) → IsNamedCaller w c r → host_of_key w (key_of r) ≡ c.host
 number_named w c r named =
     ap (option_and_then (λ account. known_host w account r.host.host_cpid)) named.0.account ∙ named.0.host
 
@@ -54,7 +54,7 @@ abbrev room_for : World → Caller → Bool
 room_for w c = has_host_room w.settings.max_hosts c.host (length w.hosts)
 
 -- the answer to a named caller follows from the place of its call among its host's kept calls, and from room
-told_named : (w : World) (c : Caller) (r : Request) (kept : List Kept) → IsNamed w c r
+told_named : (w : World) (c : Caller) (r : Request) (kept : List Kept) → IsNamedCaller w c r
     → told_call w kept r ≡ answer_from_kept (room_for w c) kept r.rpc_seqno (canonical_text r)
 told_named w c r kept named =
     ap (told_account w kept r) named.0.account
@@ -64,13 +64,13 @@ told_named w c r kept named =
 
 -- ---- compared with the kept calls, with the room apart
 
-heard_some : (room : Bool) (kept : List Kept) (h : Heard) (answer : Answer) → told_heard true kept h ≡ Some answer → told_heard room kept h ≡ Some answer
+heard_some : (room : Bool) (kept : List Kept) (h : Heard) (answer : AnswerContent) → told_heard true kept h ≡ Some answer → told_heard room kept h ≡ Some answer
 heard_some room kept heard.Fresh answer is = absurd (none-some answer is)
 heard_some room kept (heard.Repeat place) answer is = is
 heard_some room kept (heard.Reused last) answer is = is
 heard_some room kept (heard.Stale last) answer is = is
 
-beside_some : (room : Bool) (kept : List Kept) (seqno : ℕ) (text : List ℕ) (answer : Answer) → answer_from_kept true kept seqno text ≡ Some answer
+beside_some : (room : Bool) (kept : List Kept) (seqno : ℕ) (text : List ℕ) (answer : AnswerContent) → answer_from_kept true kept seqno text ≡ Some answer
     → answer_from_kept room kept seqno text ≡ Some answer
 beside_some room kept seqno text answer is = heard_some room kept (heard kept seqno text) answer is
 
@@ -120,8 +120,8 @@ module _ (old new : Held) (w : World) (world_is : old.world ≡ w) (left : IsLef
       told_serves (heard_now now (Rpc r)) (Refusal fault.HostsFull) old new
       (told_acting old c r may ∙ ap told_fresh (no_room old.world.settings.max_hosts (length old.world.hosts) c.host full.0 full.1)) left
 
-  pub again_serves : (c : Caller) (text : List ℕ) (told : Option Answer) (answer : Answer)
-      → text ≡ canonical_text r → told ≡ Some answer → told ≡ told_caller old.calls c r.rpc_seqno text → IsNamed old.world c r → ServesCall r now answer old new
+  pub again_serves : (c : Caller) (text : List ℕ) (told : Option AnswerContent) (answer : AnswerContent)
+      → text ≡ canonical_text r → told ≡ Some answer → told ≡ told_caller old.calls c r.rpc_seqno text → IsNamedCaller old.world c r → ServesCall r now answer old new
   again_serves c text told answer spelt is told_is named =
       told_serves (heard_now now (Rpc r)) answer old new
       (told_named old.world c r (calls_by_number old.world old.calls (key_of r)) named
@@ -135,7 +135,7 @@ module _ (old new : Held) (w : World) (world_is : old.world ≡ w) (left : IsLef
 -- a call that the kept ones do not answer is above them
 above_kept : (kept : List Kept) (seqno : ℕ) (text : List ℕ) → answer_from_kept true kept seqno text ≡ None → is_above_all seqno kept ≡ true
 above_kept kept seqno text none =
-    (and_parts (is_above_all seqno kept) true (sym (beside_none true kept seqno text) ∙ ap (λ (o : Option Answer). is_none o) none)).0
+    (and_parts (is_above_all seqno kept) true (sym (beside_none true kept seqno text) ∙ ap (λ (o : Option AnswerContent). is_none o) none)).0
 
 -- a call that may act is the newest of its host, even if the host is still to be made
 call_newest : (held : Held) (c : Caller) (r : Request) → MayAct held c r → AreOfHosts held.world held.calls
@@ -183,7 +183,7 @@ module _ (old new : Held) (w : World) (world_is : old.world ≡ w) (c : Caller) 
       (commits (record { fits = here.fits sound.world admitted; newest = newest }) (here.sound sound.world admitted))) sound
 
   -- its reply is kept with it
-  pub kept_serves : {E : Type 0} (result : Result Answer E) → IfOk result (λ answer. answer ≡ Good (reply_text_of reply))
+  pub kept_serves : {E : Type 0} (result : Result AnswerContent E) → IfOk result (λ answer. answer ≡ Good (reply_text_of reply))
       → OnOk result (MayBeCommitted delta (entry_of_call r.rpc_seqno text reply) old
       → IsCommitted delta (entry_of_call r.rpc_seqno text reply) old new)
       → IfOk result (λ answer. MayAct old c r → ServesCall r now answer old new)
@@ -199,6 +199,6 @@ module _ (old new : Held) (w : World) (world_is : old.world ≡ w) (c : Caller) 
 -- ---- what was looked at before
 
 -- a fresh call of a named caller may act
-pub may_act : (held : Held) (c : Caller) (r : Request) (text : List ℕ) (told : Option Answer) → text ≡ canonical_text r → told ≡ None
-    → told ≡ told_caller held.calls c r.rpc_seqno text → IsNamed held.world c r → MayAct held c r
+pub may_act : (held : Held) (c : Caller) (r : Request) (text : List ℕ) (told : Option AnswerContent) → text ≡ canonical_text r → told ≡ None
+    → told ≡ told_caller held.calls c r.rpc_seqno text → IsNamedCaller held.world c r → MayAct held c r
 may_act held c r text told spelt fresh told_is named = (named, ap (told_caller held.calls c r.rpc_seqno) (sym spelt) ∙ sym told_is ∙ fresh)

@@ -19,8 +19,8 @@ use Rattle.pasts.specs.ByNumber.{calls_by_number, AreOfHosts}
 use Rattle.pasts.specs.Messages.{Message}
 use Rattle.pasts.specs.Runs.{SaysCall, IsInLimits}
 use Rattle.pasts.specs.Stands.{Same, ServesAs, told_by}
-use Rattle.pasts.specs.declared.answer.Answer.{Answer}
-use Rattle.pasts.specs.declared.answer.Answer.TheVariants.{Good}
+use Rattle.pasts.specs.declared.answer.AnswerContent.{AnswerContent}
+use Rattle.pasts.specs.declared.answer.AnswerContent.TheVariants.{Good}
 use Rattle.message_engine.specs.Stores.{tables_by, IsSoundStore, MayBeSaid, ServesIn}
 use Rattle.message_engine.proofs.KeptStanding.{stands_with}
 
@@ -50,9 +50,9 @@ committed_sound delta e old new done = subst IsSoundStore (λ i. record {
 })
 
 -- a message that is answered without a step leaves everything as it was
-pub told_serves : (m : Message) (answer : Answer) (old new : Held) → told_by (tables_by old) m.said ≡ Some answer → IsLeft old new → ServesIn m answer old new
+pub told_serves : (m : Message) (answer : AnswerContent) (old new : Held) → told_by (tables_by old) m.said ≡ Some answer → IsLeft old new → ServesIn m answer old new
 told_serves m answer old new told left sound =
-    let P : Option Answer → Type 0 = λ o. ServesAs o (tables_by old) m answer (tables_by new) in
+    let P : Option AnswerContent → Type 0 = λ o. ServesAs o (tables_by old) m answer (tables_by new) in
     record {
       serves = subst P (sym told) (refl, left_same old new left);
       sound = left_sound old new left sound;
@@ -77,7 +77,7 @@ pub step_serves : (m : Message) (c : Call) (answered : Answered) (delta : Delta)
     → IsCommitted delta e old new
     → ServesIn m (Good (body_of answered m.said)) old new
 step_serves m c answered delta e old new told is_call limits step after numbered batched fits done sound =
-    let P : Option Answer → Type 0 = λ o. ServesAs o (tables_by old) m (Good (body_of answered m.said)) (tables_by new) in
+    let P : Option AnswerContent → Type 0 = λ o. ServesAs o (tables_by old) m (Good (body_of answered m.said)) (tables_by new) in
     let Q : World → Type 0 = λ x. Step old.world c m.now x answered in
     record {
       serves = subst P (sym told) (record {

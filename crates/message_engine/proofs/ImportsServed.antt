@@ -25,8 +25,8 @@ use Rattle.stores.specs.Held.{Batches, Held, IsCommitted, IsKeptSoundly, IsLeft,
 use Rattle.pasts.specs.Answers.{imported_text}
 use Rattle.stores.specs.Kinds.{kind_name}
 use Rattle.pasts.specs.Told.{told_import}
-use Rattle.pasts.specs.declared.answer.Answer.{Answer}
-use Rattle.pasts.specs.declared.answer.Answer.TheVariants.{Good, Refusal}
+use Rattle.pasts.specs.declared.answer.AnswerContent.{AnswerContent}
+use Rattle.pasts.specs.declared.answer.AnswerContent.TheVariants.{Good, Refusal}
 use Rattle.stores.specs.declared.batch.KeptBatch.{KeptBatch}
 use Rattle.stores.specs.declared.kind.Kind.{Kind}
 use Rattle.pasts.proofs.ByNumber.{kept_by_number}
@@ -41,7 +41,7 @@ looked_up : (batches : Batches) (kind : Kind) (batch name : List ℕ) (looked ke
     → looked ≡ kept → name ≡ batch → looked ≡ batches kind name → batches kind batch ≡ kept
 looked_up batches kind batch name looked kept is same there = ap (batches kind) (sym same) ∙ sym there ∙ is
 
-pub again_serves : (now : ℕ) (kind : Kind) (batch text name : List ℕ) (looked : Option KeptBatch) (kept : KeptBatch) (answer : Answer) (old new : Held)
+pub again_serves : (now : ℕ) (kind : Kind) (batch text name : List ℕ) (looked : Option KeptBatch) (kept : KeptBatch) (answer : AnswerContent) (old new : Held)
     → looked ≡ Some kept → name ≡ batch → looked ≡ old.batches kind name → answer ≡ (if bytes_eq kept.text text then Good kept.answer else Refusal fault.BatchReused)
     → IsLeft old new → ServesImport now kind batch text answer old new
 again_serves now kind batch text name looked kept answer old new found same there is left =
@@ -109,7 +109,7 @@ module _ (now count : ℕ) (kind : Kind) (batch text : List ℕ) (new_rows : Row
       sound.hosts)
       (λ k b. refl) (λ says. says) (done (record { fits = here.fits sound.world checked; newest = tt }) (here.sound sound.world checked)) sound
 
-  pub rows_done : {E : Type 0} (result : Result Answer E) → IfOk result (λ answer. answer ≡ Good (imported_text (kind_name kind) batch count))
+  pub rows_done : {E : Type 0} (result : Result AnswerContent E) → IfOk result (λ answer. answer ≡ Good (imported_text (kind_name kind) batch count))
       → OnOk result (MayBeCommitted delta (entry_of_batch kind batch text count) old → IsCommitted delta (entry_of_batch kind batch text count) old new)
       → IfOk result (λ answer. old.batches kind batch ≡ None → fault_of_rows (shelf_of old.world) new_rows ≡ None
       → ServesIn (import_of now kind batch text (Ok new_rows)) answer old new)
@@ -124,7 +124,7 @@ module _ (now count : ℕ) (kind : Kind) (batch text : List ℕ) (new_rows : Row
 
 -- ---- rows that were read, and then imported
 
-pub read_on : {E : Type 0} (now : ℕ) (kind : Kind) (batch text : List ℕ) (rows : Rows) (old new : Held) (result : Result Answer E) → Says (reading_of kind) text (Ok rows)
+pub read_on : {E : Type 0} (now : ℕ) (kind : Kind) (batch text : List ℕ) (rows : Rows) (old new : Held) (result : Result AnswerContent E) → Says (reading_of kind) text (Ok rows)
     → IfOk result (λ answer. old.batches kind batch ≡ None → ServesIn (import_of now kind batch text (Ok rows)) answer old new)
     → IfOk result (λ answer. old.batches kind batch ≡ None → ServesImport now kind batch text answer old new)
 read_on now kind batch text rows old new (Ok answer) says serves = λ none. (Ok rows, (Ok rows, says, refl), serves none)

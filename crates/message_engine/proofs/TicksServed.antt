@@ -13,8 +13,8 @@ use Rattle.stores.specs.Held.{Held, IsCommitted, IsKeptSoundly, MayBeCommitted}
 use Rattle.stores.specs.declared.entry.Entry.TheVariants as entry
 use Rattle.pasts.specs.Answers.{lapsed_text}
 use Rattle.pasts.specs.Messages.{Tick, heard_now}
-use Rattle.pasts.specs.declared.answer.Answer.{Answer}
-use Rattle.pasts.specs.declared.answer.Answer.TheVariants.{Good}
+use Rattle.pasts.specs.declared.answer.AnswerContent.{AnswerContent}
+use Rattle.pasts.specs.declared.answer.AnswerContent.TheVariants.{Good}
 use Rattle.pasts.proofs.ByNumber.{kept_by_number}
 use Rattle.message_engine.specs.Stores.{IsServed, ServesIn}
 use Rattle.message_engine.proofs.EntriesKept.{step_serves, IsStep}
@@ -29,7 +29,7 @@ module _ (now count : ℕ) (delta : Delta) (old new : Held) (w : World) (world_i
       (kept_by_number old.world (applied old.world delta) Tick call.Tick now (answered.Lapsed count) sound.world tt (here.step sound.world tt) this_era old.calls sound.hosts)
       (λ kind batch. refl) (λ says. tt) (done (record { fits = here.fits sound.world tt; newest = tt }) (here.sound sound.world tt)) sound
 
-  pub tick_done : {E : Type 0} (result : Result Answer E) → IfOk result (λ answer. answer ≡ Good (lapsed_text count))
+  pub tick_done : {E : Type 0} (result : Result AnswerContent E) → IfOk result (λ answer. answer ≡ Good (lapsed_text count))
       → OnOk result (MayBeCommitted delta entry.Nothing old → IsCommitted delta entry.Nothing old new)
       → IfOk result (λ answer. ServesIn (heard_now now Tick) answer old new)
   tick_done (Ok answer) is done = subst (λ a. ServesIn (heard_now now Tick) a old new) (sym is) (tick_serves (λ may_be soundly. done may_be))

@@ -15,7 +15,7 @@ use Rattle.stores.specs.declared.kind.Kind.{Kind}
 use Rattle.stores.specs.declared.kind.Kind.TheVariants.{Accounts, Apps, Versions, Workunits}
 use Rattle.pasts.specs.Answers.{imported_text}
 use Rattle.pasts.specs.Messages.{Import, Message, heard_now}
-use Rattle.pasts.specs.declared.answer.Answer.{Answer}
+use Rattle.pasts.specs.declared.answer.AnswerContent.{AnswerContent}
 use Rattle.message_engine.specs.Stores.{ServesIn, IsServed}
 
 -- How the records of a text are read as rows of a kind, by the formats of an era. Before the second upgrade versions had no classes, and
@@ -39,8 +39,8 @@ as_refusal (Err fault) = Err (refusal_of fault)
 abbrev pub ReadsIn : ℕ → Kind → List ℕ → Result Rows Fault → Type 0
 ReadsIn era kind text read = (said : Result Rows RowsFault) × Says (reading_in era kind) text said × (read ≡ as_refusal said)
 
-abbrev pub Reads : Kind → List ℕ → Result Rows Fault → Type 0
-Reads = ReadsIn this_era
+abbrev pub ReadsInThisEra : Kind → List ℕ → Result Rows Fault → Type 0
+ReadsInThisEra = ReadsIn this_era
 
 -- the message of an import of a text of a kind, which reads as this
 abbrev pub import_of : ℕ → Kind → List ℕ → List ℕ → Result Rows Fault → Message
@@ -51,10 +51,10 @@ abbrev pub entry_of_batch : Kind → List ℕ → List ℕ → ℕ → Entry
 entry_of_batch kind batch text count = Batch kind batch (record { text = text; answer = imported_text (kind_name kind) batch count })
 
 -- the text of an import reads as something, and the import is served as that
-abbrev pub ServesImport : ℕ → Kind → List ℕ → List ℕ → Answer → Held → Held → Type 0
+abbrev pub ServesImport : ℕ → Kind → List ℕ → List ℕ → AnswerContent → Held → Held → Type 0
 ServesImport now kind batch text answer old new =
-    (read : Result Rows Fault) × Reads kind text read × ServesIn (import_of now kind batch text read) answer old new
+    (read : Result Rows Fault) × ReadsInThisEra kind text read × ServesIn (import_of now kind batch text read) answer old new
 
 -- the same, with some answer
 abbrev pub IsImportServed : ℕ → Kind → List ℕ → List ℕ → Held → Held → Type 0
-IsImportServed now kind batch text old new = (read : Result Rows Fault) × Reads kind text read × IsServed (import_of now kind batch text read) old new
+IsImportServed now kind batch text old new = (read : Result Rows Fault) × ReadsInThisEra kind text read × IsServed (import_of now kind batch text read) old new

@@ -27,20 +27,20 @@ abbrev pub batch_at : List Batch → Kind → List ℕ → Option KeptBatch
 batch_at batches kind name = option_map (λ b. b.kept) (find (is_batch kind name) batches)
 
 -- the world that a store holds, and everything that it holds
-abbrev pub world_of : ListStore → World
-world_of store = store.desk
+abbrev pub world_of_list : ListStore → World
+world_of_list store = store.desk
 
-abbrev pub held_of : ListStore → Held
-held_of store = record { world = world_of store; calls = calls_at store.calls.items; batches = batch_at store.batches.items }
+abbrev pub held_of_list : ListStore → Held
+held_of_list store = record { world = world_of_list store; calls = calls_at store.calls.items; batches = batch_at store.batches.items }
 
 -- a store that is as it was holds what it held
-pub stays_left_alone : (a b : ListStore) → a ≡ b → IsLeft (held_of a) (held_of b)
+pub stays_left_alone : (a b : ListStore) → a ≡ b → IsLeft (held_of_list a) (held_of_list b)
 stays_left_alone a b same = record {
-  world_is = λ i. (held_of (sym same i)).world;
-  calls_are = λ host. λ i. (held_of (sym same i)).calls host;
-  batches_are = λ kind batch. λ i. (held_of (sym same i)).batches kind batch;
+  world_is = λ i. (held_of_list (sym same i)).world;
+  calls_are = λ host. λ i. (held_of_list (sym same i)).calls host;
+  batches_are = λ kind batch. λ i. (held_of_list (sym same i)).batches kind batch;
 }
 
 -- and can be opened again if it could before
-pub stays_standing : (a b : ListStore) → a ≡ b → MayStand (held_of a) → MayStand (held_of b)
-stays_standing a b same stands = subst (λ s. MayStand (held_of s)) same stands
+pub stays_standing : (a b : ListStore) → a ≡ b → MayStand (held_of_list a) → MayStand (held_of_list b)
+stays_standing a b same stands = subst (λ s. MayStand (held_of_list s)) same stands

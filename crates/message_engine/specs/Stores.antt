@@ -7,7 +7,7 @@ use Rattle.stores.specs.Standing.{MayStand, most_import_bytes}
 use Rattle.pasts.specs.ByNumber.{calls_by_number, AreOfHosts}
 use Rattle.pasts.specs.Messages.{Message, Said, Rpc, Import, Tick, Read, Refused}
 use Rattle.pasts.specs.Stands.{Tables, Serves}
-use Rattle.pasts.specs.declared.answer.Answer.{Answer}
+use Rattle.pasts.specs.declared.answer.AnswerContent.{AnswerContent}
 
 -- what a store holds, as tables
 abbrev pub tables_by : Held → Tables
@@ -28,14 +28,14 @@ MayBeSaid (Refused fault) = Unit {0}
 
 -- What one message does to a sound store. The store stays sound. If what the message says may be kept, a store that could be opened again
 -- still can be.
-pub record ServesSoundly (m : Message) (answer : Answer) (old new : Held) : Type 0 where
+pub record ServesSoundly (m : Message) (answer : AnswerContent) (old new : Held) : Type 0 where
   pub serves : Serves (tables_by old) m answer (tables_by new)
   pub sound : IsSoundStore new
   pub stands : MayBeSaid m.said → MayStand old → MayStand new
 
-abbrev pub ServesIn : Message → Answer → Held → Held → Type 0
+abbrev pub ServesIn : Message → AnswerContent → Held → Held → Type 0
 ServesIn m answer old new = IsSoundStore old → ServesSoundly m answer old new
 
 -- the message was served, with some answer
 abbrev pub IsServed : Message → Held → Held → Type 0
-IsServed m old new = (answer : Answer) × ServesIn m answer old new
+IsServed m old new = (answer : AnswerContent) × ServesIn m answer old new

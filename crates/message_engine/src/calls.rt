@@ -11,11 +11,11 @@ ghost use Rattle.stores.specs.Held.{IsCommitted, IsKeptSoundly, MayBeCommitted};
 ghost use Rattle.stores.specs.declared.entry.Entry.TheVariants as entry;
 ghost use Rattle.pasts.specs.ByNumber.{kept_at};
 ghost use Rattle.pasts.specs.Told.{answer_from_kept};
-ghost use Rattle.pasts.specs.declared.answer.Answer.TheVariants.{Good};
-ghost use Rattle.message_engine.specs.Calls.{IsNamed, IsCallServed, MayAct, ServesCall, entry_of_call, told_caller};
+ghost use Rattle.pasts.specs.declared.answer.AnswerContent.TheVariants.{Good};
+ghost use Rattle.message_engine.specs.Calls.{IsNamedCaller, IsCallServed, MayAct, ServesCall, entry_of_call, told_caller};
 
 use crate::commits::commit_and_answer;
-use pasts::Answer;
+use pasts::AnswerContent;
 use reply_register::{Heard, Kept, classify};
 use rpc_records::{Fault, Reply, Request, reply_text, request_text};
 use sched_book::{Caller, Delta, Moment, Unavailable};
@@ -25,22 +25,22 @@ use stores::{Entry, Store, confirmed};
 use texts::{Listed, Memory, Text};
 
 /// Returns the reply of the kept call at this place again.
-fn kept_reply(kept: &[Kept], place: usize) -> Result<Answer, Memory>
+fn kept_reply(kept: &[Kept], place: usize) -> Result<AnswerContent, Memory>
     requires { place < length kept.now }
     ensures { IfOk result (λ answer. answer ≡ Good (reply_at kept.now place)) }
 {
-    Ok(Answer::Good(kept[place].reply.clone()?))
+    Ok(AnswerContent::Good(kept[place].reply.clone()?))
 }
 
 /// The answer to a call of this number and canonical text from the kept calls of its host; `None` if it is fresh.
-fn answer_from_kept(kept: &[Kept], seqno: u32, text: &str) -> Result<Option<Answer>, Memory>
+fn answer_from_kept(kept: &[Kept], seqno: u32, text: &str) -> Result<Option<AnswerContent>, Memory>
     ensures { IfOk result (λ told. told ≡ answer_from_kept true kept.now seqno text.now) }
 {
     match classify(kept, seqno, text) {
         Heard::Fresh => Ok(None),
         Heard::Repeat(place) => Ok(Some(kept_reply(kept, place)?)),
-        Heard::Reused(last) => Ok(Some(Answer::Refusal(Fault::Reused(last)))),
-        Heard::Stale(last) => Ok(Some(Answer::Refusal(Fault::Stale(last)))),
+        Heard::Reused(last) => Ok(Some(AnswerContent::Refusal(Fault::Reused(last)))),
+        Heard::Stale(last) => Ok(Some(AnswerContent::Refusal(Fault::Stale(last)))),
     }
 }
 
@@ -66,7 +66,7 @@ fn told_kept<S: Store>(
     caller: &Caller,
     seqno: u32,
     text: &str,
-) -> Result<Option<Answer>, Unavailable>
+) -> Result<Option<AnswerContent>, Unavailable>
     ensures reads { S.reads store.old store.new }
     ensures told { Trusted S.Units store.old store.new (IfOk result (λ told.
         told ≡ told_caller (S.holds store.old).calls caller.now seqno text.now)) }
@@ -91,7 +91,7 @@ fn keep<S: Store>(
     reply: &Reply,
     seqno: u32,
     text: Text,
-) -> Result<Answer, Unavailable>
+) -> Result<AnswerContent, Unavailable>
     ensures acts { ActsWhole S.Store (is_ok result) (IsKeptSoundly delta.now (entry_of_call seqno text reply.now) (S.holds store.old)) store.old store.new }
     ensures answer { IfOk result (λ answer. answer ≡ Good (reply_text_of reply.now)) }
     ensures made { Trusted S.Units store.old store.new (OnOk result (MayBeCommitted delta.now (entry_of_call seqno text reply.now) (S.holds store.old) →
@@ -110,7 +110,7 @@ fn call_fresh<S: Store>(
     request: &Request,
     text: Text,
     now: Moment,
-) -> Result<Answer, Unavailable>
+) -> Result<AnswerContent, Unavailable>
     requires in_range { IsInRange request.now }
     requires text { text ≡ canonical_text request.now }
     ensures acts { ActsWhole S.Store (is_ok result) (λ h.
@@ -120,7 +120,7 @@ fn call_fresh<S: Store>(
 {
     match step_call(alloc, store, caller, request, now) {
         Ok((delta, reply)) => keep(alloc, store, &delta, &reply, request.rpc_seqno, text),
-        Err(StepError::HostsFull) => confirmed(store, Answer::Refusal(Fault::HostsFull)),
+        Err(StepError::HostsFull) => confirmed(store, AnswerContent::Refusal(Fault::HostsFull)),
         Err(StepError::Unavailable(cause)) => Err(Unavailable(cause)),
     }
 }
@@ -132,12 +132,12 @@ fn call_admitted<S: Store>(
     caller: &Caller,
     request: &Request,
     now: Moment,
-) -> Result<Answer, Unavailable>
+) -> Result<AnswerContent, Unavailable>
     requires in_range { IsInRange request.now }
     ensures acts { ActsWhole S.Store (is_ok result) (λ h.
-        IsNamed (S.holds store.old).world caller.now request.now → IsCallServed request.now now (S.holds store.old) h) store.old store.new }
+        IsNamedCaller (S.holds store.old).world caller.now request.now → IsCallServed request.now now (S.holds store.old) h) store.old store.new }
     ensures exact { Trusted S.Units store.old store.new (IfOk result (λ answer.
-        IsNamed (S.holds store.old).world caller.now request.now → ServesCall request.now now answer (S.holds store.old) (S.holds store.new))) }
+        IsNamedCaller (S.holds store.old).world caller.now request.now → ServesCall request.now now answer (S.holds store.old) (S.holds store.new))) }
 {
     let text = request_text(alloc, request)?;
     match told_kept(alloc, store, caller, request.rpc_seqno, text.as_str())? {
@@ -158,7 +158,7 @@ pub fn call<S: Store>(
     store: &mut S,
     request: Request,
     now: Moment,
-) -> Result<Answer, Unavailable>
+) -> Result<AnswerContent, Unavailable>
     requires in_range { IsInRange request }
     ensures acts { ActsWhole S.Store (is_ok result) (IsCallServed request now (S.holds store.old)) store.old store.new }
     ensures exact { Trusted S.Units store.old store.new (IfOk result (λ answer.
@@ -166,8 +166,8 @@ pub fn call<S: Store>(
 {
     match caller_of(alloc, store, &request) {
         Ok(caller) => call_admitted(alloc, store, &caller, &request, now),
-        Err(AdmissionError::BadAccount) => confirmed(store, Answer::Refusal(Fault::BadAccount)),
-        Err(AdmissionError::BadHost) => confirmed(store, Answer::Refusal(Fault::BadHost)),
+        Err(AdmissionError::BadAccount) => confirmed(store, AnswerContent::Refusal(Fault::BadAccount)),
+        Err(AdmissionError::BadHost) => confirmed(store, AnswerContent::Refusal(Fault::BadHost)),
         Err(AdmissionError::Unavailable(cause)) => Err(Unavailable(cause)),
     }
 }

@@ -12,7 +12,7 @@ ghost use Rattle.stores.specs.Held.{IsCommitted, IsKeptSoundly, MayBeCommitted};
 ghost use Rattle.stores.specs.Kinds.{kind_name};
 ghost use Rattle.stores.specs.declared.entry.Entry.TheVariants as entry;
 ghost use Rattle.pasts.specs.Answers.{imported_text};
-ghost use Rattle.pasts.specs.declared.answer.Answer.TheVariants as answers;
+ghost use Rattle.pasts.specs.declared.answer.AnswerContent.TheVariants as answers;
 ghost use Rattle.message_engine.specs.Imports.{reading_of, import_of, entry_of_batch, ServesImport, IsImportServed};
 ghost use Rattle.message_engine.specs.Stores.{IsServed, ServesIn};
 
@@ -21,7 +21,7 @@ use crate::commits::commit_and_answer;
 use office_files::{
     RowsFault, check_rows, read_accounts, read_apps, read_versions, read_workunits,
 };
-use pasts::Answer;
+use pasts::AnswerContent;
 use rpc_records::Fault;
 use sched_book::{Moment, Rows, Unavailable};
 use sched_machine::step_import;
@@ -44,13 +44,13 @@ fn read_rows(alloc: Global, kind: Kind, text: &[u8]) -> Result<Rows, RowsFault>
 }
 
 /// The answer to a kept batch whose name comes again with these bytes.
-fn told_again(kept: KeptBatch, text: &[u8]) -> Answer
+fn told_again(kept: KeptBatch, text: &[u8]) -> AnswerContent
     ensures { result ≡ (if bytes_eq kept.text text.now then answers.Good kept.answer else answers.Refusal fault.BatchReused) }
 {
     if kept.text.as_slice() == text {
-        Answer::Good(kept.answer)
+        AnswerContent::Good(kept.answer)
     } else {
-        Answer::Refusal(Fault::BatchReused)
+        AnswerContent::Refusal(Fault::BatchReused)
     }
 }
 
@@ -80,7 +80,7 @@ fn add_rows<S: Store>(
     text: &[u8],
     rows: Rows,
     now: Moment,
-) -> Result<Answer, Unavailable>
+) -> Result<AnswerContent, Unavailable>
     requires limits { AreRowsInLimits rows }
     ensures acts { ActsWhole S.Store (is_ok result) (λ h.
         (S.holds store.old).batches kind batch.now ≡ None → fault_of_rows (shelf_of (S.holds store.old).world) rows ≡ None →
@@ -103,7 +103,7 @@ fn import_new<S: Store>(
     batch: &Text,
     text: &[u8],
     now: Moment,
-) -> Result<Answer, Unavailable>
+) -> Result<AnswerContent, Unavailable>
     ensures acts { ActsWhole S.Store (is_ok result) (λ h. (S.holds store.old).batches kind batch.now ≡ None →
         IsImportServed now kind batch.now text.now (S.holds store.old) h) store.old store.new }
     ensures exact { Trusted S.Units store.old store.new (IfOk result (λ answer. (S.holds store.old).batches kind batch.now ≡ None →
@@ -112,12 +112,12 @@ fn import_new<S: Store>(
     let rows = match read_rows(alloc, kind, text) {
         Ok(rows) => rows,
         Err(RowsFault::Unavailable(cause)) => return Err(Unavailable(cause)),
-        Err(fault) => return confirmed(store, Answer::Refusal(fault.fault())),
+        Err(fault) => return confirmed(store, AnswerContent::Refusal(fault.fault())),
     };
     match check_rows(alloc, store, &rows) {
         Ok(()) => add_rows(alloc, store, kind, batch, text, rows, now),
         Err(RowsFault::Unavailable(cause)) => Err(Unavailable(cause)),
-        Err(fault) => confirmed(store, Answer::Refusal(fault.fault())),
+        Err(fault) => confirmed(store, AnswerContent::Refusal(fault.fault())),
     }
 }
 
@@ -135,7 +135,7 @@ pub fn import<S: Store>(
     batch: &Text,
     text: &[u8],
     now: Moment,
-) -> Result<Answer, Unavailable>
+) -> Result<AnswerContent, Unavailable>
     ensures acts { ActsWhole S.Store (is_ok result) (IsImportServed now kind batch.now text.now (S.holds store.old)) store.old store.new }
     ensures exact { Trusted S.Units store.old store.new (IfOk result (λ answer.
         ServesImport now kind batch.now text.now answer (S.holds store.old) (S.holds store.new))) }

@@ -6,7 +6,7 @@ ghost use Rattle.sched_book.specs.declared.delta.Delta.TheVariants as kinds;
 ghost use Rattle.sched_book.specs.Desk.{counts, agreement_at, unit_status};
 ghost use Rattle.sched_book.specs.Places.{unit_named, known_host, held_by, sent_on_day, host_credit, user_credit};
 ghost use Rattle.stores.specs.Held.{IsCommitted, IsLeft, IsNew};
-ghost use Rattle.message_engine.specs.ListStores.{calls_at, is_batch, world_of, held_of};
+ghost use Rattle.message_engine.specs.ListStores.{calls_at, is_batch, world_of_list, held_of_list};
 
 use crate::copies::copy_batch;
 use reply_register::{Kept, MOST_KEPT, copy_kept};
@@ -70,7 +70,7 @@ fn find_batch<'a>(batches: &'a [Batch], kind: Kind, name: &str) -> Option<&'a Ba
 impl ListStore {
     /// Returns a new store with these settings, which has heard nothing.
     pub fn new(alloc: Global, settings: &Settings) -> Result<ListStore, Memory>
-        ensures { IfOk result (λ store. IsNew settings.now (held_of store)) }
+        ensures { IfOk result (λ store. IsNew settings.now (held_of_list store)) }
     {
         Ok(ListStore {
             alloc,
@@ -82,8 +82,8 @@ impl ListStore {
 
     /// Keeps an entry, or leaves everything as it was.
     fn keep(&mut self, entry: &Entry) -> Result<(), Memory>
-        ensures ok { OnOk result (IsCommitted (kinds.Edits []) entry.now (held_of self.old) (held_of self.new)) }
-        ensures err { OnErr result (IsLeft (held_of self.old) (held_of self.new)) }
+        ensures ok { OnOk result (IsCommitted (kinds.Edits []) entry.now (held_of_list self.old) (held_of_list self.new)) }
+        ensures err { OnErr result (IsLeft (held_of_list self.old) (held_of_list self.new)) }
     {
         match entry {
             Entry::Kept(host, kept) => {
@@ -110,7 +110,7 @@ impl ListStore {
 impl Units for ListStore {
     ghost use Rattle.std.proofs.Common.{rules};
 
-    ghost world = { world_of };
+    ghost world = { world_of_list };
 
     ghost honest = { λ _. ⊤ };
 
@@ -120,7 +120,7 @@ impl Units for ListStore {
 
     fn unit_by_name(&mut self, name: &str) -> Result<Option<u32>, Unavailable>
         ensures reads { self.new ≡ self.old }
-        ensures answer { result ≡ Ok (unit_named (world_of self.old) name.now) }
+        ensures answer { result ≡ Ok (unit_named (world_of_list self.old) name.now) }
     {
         self.desk.unit_by_name(name)
     }
@@ -131,7 +131,7 @@ impl Units for ListStore {
 
     fn agreement_of(&mut self, alloc: Global, unit: u32) -> Result<Option<Agreement>, Unavailable>
         ensures reads { self.new ≡ self.old }
-        ensures answer { result ≡ Ok (agreement_at (world_of self.old) unit) }
+        ensures answer { result ≡ Ok (agreement_at (world_of_list self.old) unit) }
     {
         self.desk.agreement_of(alloc, unit)
     }
@@ -167,7 +167,7 @@ impl Desk for ListStore {
 
     fn counts(&mut self) -> Result<Counts, Unavailable>
         ensures reads { self.new ≡ self.old }
-        ensures answer { result ≡ Ok (counts (world_of self.old)) }
+        ensures answer { result ≡ Ok (counts (world_of_list self.old)) }
     {
         self.desk.counts()
     }
@@ -190,7 +190,7 @@ impl Desk for ListStore {
 
     fn host_by_key(&mut self, account: u32, cpid: &str) -> Result<Option<u32>, Unavailable>
         ensures reads { self.new ≡ self.old }
-        ensures answer { result ≡ Ok (known_host (world_of self.old) account cpid.now) }
+        ensures answer { result ≡ Ok (known_host (world_of_list self.old) account cpid.now) }
     {
         self.desk.host_by_key(account, cpid)
     }
@@ -201,7 +201,7 @@ impl Desk for ListStore {
 
     fn status_of(&mut self, unit: u32) -> Result<Option<Status>, Unavailable>
         ensures reads { self.new ≡ self.old }
-        ensures answer { result ≡ Ok (unit_status (world_of self.old) unit) }
+        ensures answer { result ≡ Ok (unit_status (world_of_list self.old) unit) }
     {
         self.desk.status_of(unit)
     }
@@ -212,7 +212,7 @@ impl Desk for ListStore {
 
     fn held_count(&mut self, host: u32) -> Result<u32, Unavailable>
         ensures reads { self.new ≡ self.old }
-        ensures answer { result ≡ Ok (length (held_by (world_of self.old) host)) }
+        ensures answer { result ≡ Ok (length (held_by (world_of_list self.old) host)) }
     {
         self.desk.held_count(host)
     }
@@ -223,7 +223,7 @@ impl Desk for ListStore {
 
     fn sent_on_day(&mut self, host: u32, day: u64) -> Result<u32, Unavailable>
         ensures reads { self.new ≡ self.old }
-        ensures answer { result ≡ Ok (sent_on_day (world_of self.old) host day) }
+        ensures answer { result ≡ Ok (sent_on_day (world_of_list self.old) host day) }
     {
         self.desk.sent_on_day(host, day)
     }
@@ -234,14 +234,14 @@ impl Desk for ListStore {
 
     fn credit_of_host(&mut self, host: u32) -> Result<u64, Unavailable>
         ensures reads { self.new ≡ self.old }
-        ensures answer { result ≡ Ok (host_credit (world_of self.old) host) }
+        ensures answer { result ≡ Ok (host_credit (world_of_list self.old) host) }
     {
         self.desk.credit_of_host(host)
     }
 
     fn credit_of_user(&mut self, account: u32) -> Result<u64, Unavailable>
         ensures reads { self.new ≡ self.old }
-        ensures answer { result ≡ Ok (user_credit (world_of self.old) account) }
+        ensures answer { result ≡ Ok (user_credit (world_of_list self.old) account) }
     {
         self.desk.credit_of_user(account)
     }
@@ -294,7 +294,7 @@ impl Store for ListStore {
     ghost use Rattle.stores.specs.Standing.{MayStand};
     ghost use Rattle.message_engine.specs.ListStores.{stays_left_alone, stays_standing};
 
-    ghost holds = { held_of };
+    ghost holds = { held_of_list };
 
     // nothing it uses can fail, and nothing is left of lists in memory
     ghost clean = { λ _. ⊤ };
@@ -303,7 +303,7 @@ impl Store for ListStore {
 
     ghost may_leave = { λ store held. ⊥ };
 
-    ghost reopens = { λ store. MayStand (held_of store) };
+    ghost reopens = { λ store. MayStand (held_of_list store) };
 
     fn kept(&mut self, alloc: Global, host: u32) -> Result<Listed<Kept>, Unavailable> {
         Ok(calls_of(alloc, self.calls.as_slice(), host)?)

@@ -7,12 +7,12 @@ ghost use Rattle.stores.specs.Held.{IsCommitted, IsKeptSoundly, MayBeCommitted};
 ghost use Rattle.stores.specs.declared.entry.Entry.TheVariants as entry;
 ghost use Rattle.pasts.specs.Answers.{lapsed_text};
 ghost use Rattle.pasts.specs.Messages.{Tick, heard_now};
-ghost use Rattle.pasts.specs.declared.answer.Answer.TheVariants as answers;
+ghost use Rattle.pasts.specs.declared.answer.AnswerContent.TheVariants as answers;
 ghost use Rattle.message_engine.specs.Stores.{IsServed, ServesIn};
 
 use crate::bodies::lapsed;
 use crate::commits::commit_and_answer;
-use pasts::Answer;
+use pasts::AnswerContent;
 use sched_book::{Delta, Moment, Unavailable};
 use sched_machine::step_tick;
 use std::alloc::Global;
@@ -24,7 +24,7 @@ fn make_lapse<S: Store>(
     store: &mut S,
     delta: &Delta,
     count: u32,
-) -> Result<Answer, Unavailable>
+) -> Result<AnswerContent, Unavailable>
     ensures acts { ActsWhole S.Store (is_ok result) (IsKeptSoundly delta.now entry.Nothing (S.holds store.old)) store.old store.new }
     ensures answer { IfOk result (λ answer. answer ≡ answers.Good (lapsed_text count)) }
     ensures made { Trusted S.Units store.old store.new (OnOk result (MayBeCommitted delta.now entry.Nothing (S.holds store.old) →
@@ -40,7 +40,7 @@ fn make_lapse<S: Store>(
 /// # Errors
 ///
 /// [`Unavailable`] leaves everything as it was, unless a fault has shut the store.
-pub fn tick<S: Store>(alloc: Global, store: &mut S, now: Moment) -> Result<Answer, Unavailable>
+pub fn tick<S: Store>(alloc: Global, store: &mut S, now: Moment) -> Result<AnswerContent, Unavailable>
     ensures acts { ActsWhole S.Store (is_ok result) (IsServed (heard_now now Tick) (S.holds store.old)) store.old store.new }
     ensures exact { Trusted S.Units store.old store.new (IfOk result (λ answer.
         ServesIn (heard_now now Tick) answer (S.holds store.old) (S.holds store.new))) }

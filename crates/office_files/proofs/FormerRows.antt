@@ -9,7 +9,7 @@ use Rattle.sched_book.specs.declared.rows.ClassRule.TheVariants.{Any}
 use Rattle.sched_book.specs.declared.rows.Rows.{Rows}
 use Rattle.sched_book.specs.declared.rows.Rows.TheVariants as rows
 use Rattle.office_files.specs.Columns.{rule_in}
-use Rattle.office_files.specs.Importing.{column_of, column_or, accounts_in, apps_in, former_version_header, version_of, versions_under, former_versions_in, former_workunit_header, workunit_of, workunits_under, former_workunits_in, header_fault, row_of, rows_from, rows_under, rows_in}
+use Rattle.office_files.specs.Importing.{column_of, column_or, accounts_in, apps_in, former_version_header, version_of, versions_under, former_versions_in, former_workunit_header, workunit_of, workunits_under, former_workunits_in, header_fault, row_of, rows_from, rows_under, rows_of_records}
 use Rattle.office_files.specs.Records.{Record}
 use Rattle.office_files.specs.declared.fault.RowsFault.{RowsFault}
 use Rattle.office_files.specs.declared.fault.RowsFault.TheVariants.{BadCsv}
@@ -88,7 +88,7 @@ sized P reads count h row fields = cases (length fields == count) refl
 -- each row of an import with one header has the property
 of_import : {X : Type 0} (P : X → Type 0) (reads : ℕ → Record → Result X RowsFault) (names : Record)
     → ((row : ℕ) (fields : Record) → length fields ≡ length names → IfOk (reads row fields) P)
-    → (records : List Record) → IfOk (rows_in reads (λ count. names) records) (All P)
+    → (records : List Record) → IfOk (rows_of_records reads (λ count. names) records) (All P)
 of_import P reads names h [] = tt
 of_import P reads names h (fields ∷ records) = under (header_fault names fields)
   where
@@ -115,11 +115,11 @@ apps_are_unclassed records = whatever _ _ _ (λ xs. tt)
 pub former_versions_are_unclassed : (records : List Record) → IfOk (former_versions_in records) AreUnclassed
 unfolding versions_under
 former_versions_are_unclassed records =
-    as_rows IsOfItsPlatform rows.Versions (λ xs all. all) (rows_in version_of former_version_header records)
+    as_rows IsOfItsPlatform rows.Versions (λ xs all. all) (rows_of_records version_of former_version_header records)
     (of_import IsOfItsPlatform version_of (former_version_header 3) version_of_platform records)
 
 pub former_workunits_are_unclassed : (records : List Record) → IfOk (former_workunits_in records) AreUnclassed
 unfolding workunits_under
 former_workunits_are_unclassed records =
-    as_rows IsUnmarked rows.Workunits (λ xs all. all) (rows_in workunit_of former_workunit_header records)
+    as_rows IsUnmarked rows.Workunits (λ xs all. all) (rows_of_records workunit_of former_workunit_header records)
     (of_import IsUnmarked workunit_of (former_workunit_header 12) workunit_unmarked records)

@@ -4,7 +4,7 @@ use Rattle.std.specs.Prelude.{IfErr, ok_or, option_and_then, nat_le, ◌-◌, �
 use Rattle.csv.specs.Records.{field_at}
 use Rattle.sched_book.specs.Limits.{most_instances, most_delay, most_amount, most_credit, most_version_num}
 use Rattle.sched_book.specs.declared.rows.ClassRule.TheVariants.{Any}
-use Rattle.office_files.specs.Columns.{name_in, number_in, agreement_in, rule_in}
+use Rattle.office_files.specs.Columns.{name_in, count_within, agreement_in, rule_in}
 use Rattle.office_files.specs.Records.{Record}
 use Rattle.office_files.specs.Importing.{column_of, column_or, account_header, account_of, app_header, app_of, former_version_header, version_header, version_of, former_workunit_header, workunit_header, workunit_of, row_of, rows_from, rows_under}
 use Rattle.office_files.specs.Laws.{AllRead, IsFirstFault, ReadsInOrder, ImportsReadInOrder}
@@ -52,7 +52,7 @@ unfolding version_of
 version_tells row fields =
     next row _ _ (at_column row 1 word_of fields) (λ a.
     next row _ _ (at_column row 2 word_of fields) (λ b.
-    next row _ _ (at_column row 3 (number_in 1 most_version_num) fields) (λ c.
+    next row _ _ (at_column row 3 (count_within 1 most_version_num) fields) (λ c.
     next row _ _ (at_column_or row 4 word_of b fields) (λ d. tt))))
 
 workunit_tells : (row : ℕ) (fields : Record) → TellsRow row (workunit_of row fields)
@@ -60,16 +60,16 @@ unfolding workunit_of
 workunit_tells row fields =
     next row _ _ (at_column row 1 word_of fields) (λ name.
     next row _ _ (at_column row 2 word_of fields) (λ app.
-    next row _ _ (at_column row 3 (number_in 1 most_instances) fields) (λ quorum.
-    next row _ _ (at_column row 4 (number_in quorum most_instances) fields) (λ target.
-    next row _ _ (at_column row 5 (number_in 0 most_instances) fields) (λ errors.
-    next row _ _ (at_column row 6 (number_in target most_instances) fields) (λ total.
-    next row _ _ (at_column row 7 (number_in 0 most_instances) fields) (λ successes.
-    next row _ _ (at_column row 8 (number_in 1 most_delay) fields) (λ delay.
-    next row _ _ (at_column row 9 (number_in 1 most_amount) fields) (λ work.
-    next row _ _ (at_column row 10 (number_in 0 most_amount) fields) (λ memory.
-    next row _ _ (at_column row 11 (number_in 0 most_amount) fields) (λ disk.
-    next row _ _ (at_column row 12 (number_in 0 most_credit) fields) (λ credit.
+    next row _ _ (at_column row 3 (count_within 1 most_instances) fields) (λ quorum.
+    next row _ _ (at_column row 4 (count_within quorum most_instances) fields) (λ target.
+    next row _ _ (at_column row 5 (count_within 0 most_instances) fields) (λ errors.
+    next row _ _ (at_column row 6 (count_within target most_instances) fields) (λ total.
+    next row _ _ (at_column row 7 (count_within 0 most_instances) fields) (λ successes.
+    next row _ _ (at_column row 8 (count_within 1 most_delay) fields) (λ delay.
+    next row _ _ (at_column row 9 (count_within 1 most_amount) fields) (λ work.
+    next row _ _ (at_column row 10 (count_within 0 most_amount) fields) (λ memory.
+    next row _ _ (at_column row 11 (count_within 0 most_amount) fields) (λ disk.
+    next row _ _ (at_column row 12 (count_within 0 most_credit) fields) (λ credit.
     next row _ _ (at_column_or row 13 rule_in Any fields) (λ rule. tt)))))))))))))
 
 module _ {X : Type 0} (reads : ℕ → Record → Result X RowsFault) where

@@ -17,7 +17,7 @@ use Rattle.sched_book.proofs.ByPlace.{all_get}
 use Rattle.office_files.specs.Civil.{last_civil}
 use Rattle.office_files.specs.Statements.{line_at, line_by, line_in, sent_of}
 use Rattle.office_files.specs.StatementLaws.{HaveTexts, MomentsHaveTexts}
-use Rattle.office_files.specs.declared.statement.line.Line.{Line}
+use Rattle.office_files.specs.declared.statement.line.StatementLine.{StatementLine}
 
 each_kept : {X Y : Type 0} (P : Y → Type 0) (h : X → Option Y) → ((x : X) (y : Y) → h x ≡ Some y → P y) → (xs : List X) → All P (filter_map h xs)
 each_kept P h each [] = All-nil P
@@ -35,7 +35,7 @@ due_early : (o : Option Owner) → IfSome o (λ (owner : Owner). owner.deadline 
 due_early None h = omega arith
 due_early (Some owner) h = omega (arith, h)
 
-in_book : (w : World) (b : UnitBook) (number : ℕ) (line : Line) (o : Option Instance) → All IsInstanceInLimits b.instances → slice_get b.instances number ≡ o
+in_book : (w : World) (b : UnitBook) (number : ℕ) (line : StatementLine) (o : Option Instance) → All IsInstanceInLimits b.instances → slice_get b.instances number ≡ o
     → option_map (λ x. line_by (verdict (agreement_of w b) b.unit b.instances x) b.unit number x) o ≡ Some line → HaveTexts line
 in_book w b number line None all stands is = absurd (let never : None ≡ Some line = is in cc)
 in_book w b number line (Some x) all stands is =
@@ -43,7 +43,7 @@ in_book w b number line (Some x) all stands is =
     subst HaveTexts (same_Some (line_by (verdict (agreement_of w b) b.unit b.instances x) b.unit number x) line is)
     (sent_early x.owner limits.sent, due_early x.owner limits.deadline)
 
-in_world : (w : World) (unit number : ℕ) (line : Line) (o : Option UnitBook) → Sound w → unit_at w unit ≡ o
+in_world : (w : World) (unit number : ℕ) (line : StatementLine) (o : Option UnitBook) → Sound w → unit_at w unit ≡ o
     → option_and_then (λ (b : UnitBook). line_in (agreement_of w b) b.unit b.instances number) o ≡ Some line → HaveTexts line
 in_world w unit number line None sound stands is = absurd (let never : None ≡ Some line = is in cc)
 in_world w zero number line (Some b) sound stands is = absurd (let never : None ≡ Some b = stands in cc)

@@ -16,7 +16,7 @@ use Rattle.sched_book.specs.declared.world.World.{World}
 use Rattle.sched_book.proofs.PlacesOf.{nth-suc}
 use Rattle.office_files.specs.Statements.{line_at, line_by, line_in, lines_at, total_credit}
 use Rattle.office_files.specs.StatementLaws.{StatementsAreWhole}
-use Rattle.office_files.specs.declared.statement.line.Line.{Line}
+use Rattle.office_files.specs.declared.statement.line.StatementLine.{StatementLine}
 
 share : (b : Bool) (c k : ℕ) → cond b c 0 + c * k ≡ c * (cond {A = ℕ} b 1 0 + k)
 share true c k = grind arith
@@ -27,11 +27,11 @@ module _ (w : World) (host : ℕ) where
   abbrev Tell : List Place → ℕ → Type 0
   Tell places credit = (length (lines_at w places) ≡ length places) × (total_credit (lines_at w places) ≡ credit)
 
-  one_more : (p : Place) (line : Line) (places : List Place) (credit : ℕ) → line_at w p ≡ Some line → Tell places credit → Tell (p ∷ places) (line.credit + credit)
+  one_more : (p : Place) (line : StatementLine) (places : List Place) (credit : ℕ) → line_at w p ≡ Some line → Tell places credit → Tell (p ∷ places) (line.credit + credit)
   one_more p line places credit is tell =
       let lines : lines_at w (p ∷ places) ≡ line ∷ lines_at w places = ap (λ o. cons_option o (lines_at w places)) is in (
         ap length lines ∙ ap suc tell.0,
-        ap total_credit lines ∙ sum_by-cons (λ (l : Line). l.credit) line (lines_at w places) ∙ ap (λ n. line.credit + n) tell.1,
+        ap total_credit lines ∙ sum_by-cons (λ (l : StatementLine). l.credit) line (lines_at w places) ∙ ap (λ n. line.credit + n) tell.1,
       )
 
   together : (ps qs : List Place) (c d : ℕ) → Tell ps c → Tell qs d → Tell (ps ++ qs) (c + d)
@@ -40,7 +40,7 @@ module _ (w : World) (host : ℕ) where
       let long = length-append (lines_at w ps) (lines_at w qs) in
       let long_places = length-append ps qs in (
         ap length lines ∙ omega (arith, long, long_places, tell.0, tell_too.0),
-        ap total_credit lines ∙ sum_by-append (λ (l : Line). l.credit) (lines_at w ps) (lines_at w qs) ∙ omega (arith, tell.1, tell_too.1),
+        ap total_credit lines ∙ sum_by-append (λ (l : StatementLine). l.credit) (lines_at w ps) (lines_at w qs) ∙ omega (arith, tell.1, tell_too.1),
       )
 
   module _ (a : Agreement) (unit : Workunit) (all : List Instance) (u : ℕ) where

@@ -27,14 +27,14 @@ abbrev pub within : ℕ → ℕ → ℕ → Option ℕ
 within least most n = if nat_le least n && nat_le n most then Some n else None
 
 -- the same, if it is in a range
-abbrev pub number_in : ℕ → ℕ → List ℕ → Option ℕ
-number_in least most field = option_and_then (within least most) (count_in field)
+abbrev pub count_within : ℕ → ℕ → List ℕ → Option ℕ
+count_within least most field = option_and_then (within least most) (count_in field)
 
 -- `exact`, or `within:` and a count text up to 1,000,000,000
 abbrev pub agreement_in : List ℕ → Option Agreement
 agreement_in field =
     if bytes_eq field (codes "exact") then Some Exact
-    else (if starts_with nat_eq field (codes "within:") then option_map Within (number_in 0 most_distance (drop 7 field)) else None)
+    else (if starts_with nat_eq field (codes "within:") then option_map Within (count_within 0 most_distance (drop 7 field)) else None)
 
 -- the mark of a workunit: `0` for one that versions of any class may do, `1` for one that keeps to the class of its first
 abbrev pub rule_in : List ℕ → Option ClassRule

@@ -24,5 +24,5 @@ IsOfReading TableFull = ⊥
 IsOfReading (Unavailable cause) = ⊤
 
 -- The result is what the reading says, unless there was no memory.
-abbrev pub Gives : {A : Type 0} → Result A RowsFault → Result A RowsFault → Type 0
-Gives result reading = IfErr result IsOfReading × GivesUnless (Unavailable Memory) result reading
+abbrev pub GivesReading : {A : Type 0} → Result A RowsFault → Result A RowsFault → Type 0
+GivesReading result reading = IfErr result IsOfReading × GivesUnless (Unavailable Memory) result reading

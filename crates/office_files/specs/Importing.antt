@@ -12,7 +12,7 @@ use Rattle.sched_book.specs.declared.rows.Rows.{Rows}
 use Rattle.sched_book.specs.declared.rows.Rows.TheVariants as rows
 use Rattle.sched_book.specs.declared.rows.Version.{Version}
 use Rattle.sched_book.specs.declared.rows.Workunit.{Workunit}
-use Rattle.office_files.specs.Columns.{name_in, number_in, agreement_in, rule_in}
+use Rattle.office_files.specs.Columns.{name_in, count_within, agreement_in, rule_in}
 use Rattle.office_files.specs.Records.{Record, AreRecordsOf}
 use Rattle.office_files.specs.declared.fault.RowsFault.{RowsFault}
 use Rattle.office_files.specs.declared.fault.RowsFault.TheVariants.{BadCsv, DuplicateName, UnknownReference, TableFull, Unavailable}
@@ -57,7 +57,7 @@ unfoldable pub version_of : ℕ → Record → Result Version RowsFault
 version_of row fields = do
   app ← column_of row 1 word_of fields
   platform ← column_of row 2 word_of fields
-  version_num ← column_of row 3 (number_in 1 most_version_num) fields
+  version_num ← column_of row 3 (count_within 1 most_version_num) fields
   class ← column_or row 4 word_of platform fields
   Ok (record { app = app; platform = platform; version_num = version_num; class = class })
 
@@ -75,16 +75,16 @@ unfoldable pub workunit_of : ℕ → Record → Result Workunit RowsFault
 workunit_of row fields = do
   name ← column_of row 1 word_of fields
   app ← column_of row 2 word_of fields
-  min_quorum ← column_of row 3 (number_in 1 most_instances) fields
-  target_nresults ← column_of row 4 (number_in min_quorum most_instances) fields
-  max_error_results ← column_of row 5 (number_in 0 most_instances) fields
-  max_total_results ← column_of row 6 (number_in target_nresults most_instances) fields
-  max_success_results ← column_of row 7 (number_in 0 most_instances) fields
-  delay_bound ← column_of row 8 (number_in 1 most_delay) fields
-  rsc_fpops_est ← column_of row 9 (number_in 1 most_amount) fields
-  rsc_memory_bound ← column_of row 10 (number_in 0 most_amount) fields
-  rsc_disk_bound ← column_of row 11 (number_in 0 most_amount) fields
-  credit ← column_of row 12 (number_in 0 most_credit) fields
+  min_quorum ← column_of row 3 (count_within 1 most_instances) fields
+  target_nresults ← column_of row 4 (count_within min_quorum most_instances) fields
+  max_error_results ← column_of row 5 (count_within 0 most_instances) fields
+  max_total_results ← column_of row 6 (count_within target_nresults most_instances) fields
+  max_success_results ← column_of row 7 (count_within 0 most_instances) fields
+  delay_bound ← column_of row 8 (count_within 1 most_delay) fields
+  rsc_fpops_est ← column_of row 9 (count_within 1 most_amount) fields
+  rsc_memory_bound ← column_of row 10 (count_within 0 most_amount) fields
+  rsc_disk_bound ← column_of row 11 (count_within 0 most_amount) fields
+  credit ← column_of row 12 (count_within 0 most_credit) fields
   rule ← column_or row 13 rule_in Any fields
   Ok (record {
     name = name;
@@ -134,29 +134,29 @@ rows_under reads header records (Some column) = Err (BadCsv 0 column)
 
 -- The rows of an import with such headers. The number of fields of the first record decides which header it has, and each row must have as
 -- many.
-abbrev pub rows_in : {X : Type 0} → (ℕ → Record → Result X RowsFault) → (ℕ → Record) → List Record → Result (List X) RowsFault
-rows_in reads header [] = Err (BadCsv 0 0)
-rows_in reads header (fields ∷ records) = rows_under reads (header (length fields)) records (header_fault (header (length fields)) fields)
+abbrev pub rows_of_records : {X : Type 0} → (ℕ → Record → Result X RowsFault) → (ℕ → Record) → List Record → Result (List X) RowsFault
+rows_of_records reads header [] = Err (BadCsv 0 0)
+rows_of_records reads header (fields ∷ records) = rows_under reads (header (length fields)) records (header_fault (header (length fields)) fields)
 
 -- what the records of the four imports say
 unfoldable pub accounts_in : List Record → Result Rows RowsFault
 accounts_in records = do
-  accounts ← rows_in account_of account_header records
+  accounts ← rows_of_records account_of account_header records
   Ok (rows.Accounts accounts)
 
 unfoldable pub apps_in : List Record → Result Rows RowsFault
 apps_in records = do
-  apps ← rows_in app_of app_header records
+  apps ← rows_of_records app_of app_header records
   Ok (rows.Apps apps)
 
 unfoldable pub versions_under : (ℕ → Record) → List Record → Result Rows RowsFault
 versions_under header records = do
-  versions ← rows_in version_of header records
+  versions ← rows_of_records version_of header records
   Ok (rows.Versions versions)
 
 unfoldable pub workunits_under : (ℕ → Record) → List Record → Result Rows RowsFault
 workunits_under header records = do
-  workunits ← rows_in workunit_of header records
+  workunits ← rows_of_records workunit_of header records
   Ok (rows.Workunits workunits)
 
 abbrev pub versions_in : List Record → Result Rows RowsFault

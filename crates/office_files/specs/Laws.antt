@@ -1,7 +1,7 @@
 -- Rule. Laws of the definitions of imports.
 use Rattle.std.specs.Prelude.{◌≡◌, ℕ, ◌+◌, List, [], ◌∷◌, ◌++◌, length, None, Result, Ok, Err, ⊤}
 use Rattle.office_files.specs.Records.{Record, AreRecordsOf}
-use Rattle.office_files.specs.Importing.{account_header, account_of, app_header, app_of, former_version_header, version_header, version_of, former_workunit_header, workunit_header, workunit_of, header_fault, row_of, rows_in}
+use Rattle.office_files.specs.Importing.{account_header, account_of, app_header, app_of, former_version_header, version_header, version_of, former_workunit_header, workunit_header, workunit_of, header_fault, row_of, rows_of_records}
 use Rattle.office_files.specs.declared.fault.RowsFault.{RowsFault}
 use Rattle.office_files.specs.declared.fault.RowsFault.TheVariants.{BadCsv}
 
@@ -31,9 +31,9 @@ pub record IsFirstFault {X : Type 0} (reads : ℕ → Record → Result X RowsFa
 -- under a good header, either every record is read as a row, or the first faulty one is named
 pub record ReadsInOrder {X : Type 0} (reads : ℕ → Record → Result X RowsFault) (header : ℕ → Record) : Type 0 where
   pub good : (first : Record) (records : List Record) (rows : List X) → header_fault (header (length first)) first ≡ None
-      → rows_in reads header (first ∷ records) ≡ Ok rows → AllRead (row_of reads (length (header (length first)))) 1 records rows
+      → rows_of_records reads header (first ∷ records) ≡ Ok rows → AllRead (row_of reads (length (header (length first)))) 1 records rows
   pub faulty : (first : Record) (records : List Record) (row column : ℕ) → header_fault (header (length first)) first ≡ None
-      → rows_in reads header (first ∷ records) ≡ Err (BadCsv row column)
+      → rows_of_records reads header (first ∷ records) ≡ Err (BadCsv row column)
       → IsFirstFault (row_of reads (length (header (length first)))) records row column
 
 pub record ImportsReadInOrder : Type 0 where

@@ -7,7 +7,7 @@ use Rattle.sched_book.specs.Sound.{Sound}
 use Rattle.sched_book.specs.declared.world.World.{World}
 use Rattle.office_files.specs.Civil.{civil_text, last_civil}
 use Rattle.office_files.specs.Statements.{lines_at, total_credit}
-use Rattle.office_files.specs.declared.statement.line.Line.{Line}
+use Rattle.office_files.specs.declared.statement.line.StatementLine.{StatementLine}
 
 -- each instance that the host was given has its line, and the last line has the host's credit
 pub record IsWhole (w : World) (host : ℕ) : Type 0 where
@@ -18,7 +18,7 @@ abbrev pub StatementsAreWhole : Type 0
 StatementsAreWhole = (w : World) (host : ℕ) → IsWhole w host
 
 -- in a sound world each moment of a line has a text, so no statement is refused
-abbrev pub HaveTexts : Line → Type 0
+abbrev pub HaveTexts : StatementLine → Type 0
 HaveTexts line = (line.sent ≤ last_civil) × (line.deadline ≤ last_civil)
 
 abbrev pub MomentsHaveTexts : Type 0

@@ -17,7 +17,7 @@ use Rattle.sched_book.specs.declared.rows.HostRow.{HostRow}
 use Rattle.sched_book.specs.declared.rows.Workunit.{Workunit}
 use Rattle.sched_book.specs.declared.world.World.{World}
 use Rattle.office_files.specs.Civil.{civil_text}
-use Rattle.office_files.specs.declared.statement.line.Line.{Line}
+use Rattle.office_files.specs.declared.statement.line.StatementLine.{StatementLine}
 
 -- The numbers of the three states are BOINC's.
 
@@ -49,7 +49,7 @@ abbrev pub credit_by : Option Verdict → Workunit → ℕ
 credit_by v unit = if is_valid v then unit.credit else 0
 
 -- what a line says of an instance with this verdict
-abbrev pub line_by : Option Verdict → Workunit → ℕ → Instance → Line
+abbrev pub line_by : Option Verdict → Workunit → ℕ → Instance → StatementLine
 line_by v unit number x = record {
   result = instance_name unit.name number;
   app = unit.app;
@@ -62,14 +62,14 @@ line_by v unit number x = record {
 }
 
 -- the line of the instance with a number of a workunit, if there is one
-abbrev pub line_in : Agreement → Workunit → List Instance → ℕ → Option Line
+abbrev pub line_in : Agreement → Workunit → List Instance → ℕ → Option StatementLine
 line_in a unit xs number = option_map (λ x. line_by (verdict a unit xs x) unit number x) (slice_get xs number)
 
-abbrev pub line_at : World → Place → Option Line
+abbrev pub line_at : World → Place → Option StatementLine
 line_at w p = option_and_then (λ b. line_in (agreement_of w b) b.unit b.instances p.number) (unit_at w p.unit)
 
 -- the lines of these places, in order; a place with no instance has none
-abbrev pub lines_at : World → List Place → List Line
+abbrev pub lines_at : World → List Place → List StatementLine
 lines_at w places = filter_map (line_at w) places
 
 -- a number in three digits, with zeros in front, and millicredits as credits: 5000 is `5.000`
@@ -80,12 +80,12 @@ abbrev pub credit_text : ℕ → List ℕ
 credit_text millicredits = decimal (millicredits / 1000) ++ 46 ∷ three_digits (millicredits % 1000)
 
 -- the fields of a line whose moments and credit have these texts
-abbrev pub fields_with : Line → List ℕ → List ℕ → List ℕ → List (List ℕ)
+abbrev pub fields_with : StatementLine → List ℕ → List ℕ → List ℕ → List (List ℕ)
 fields_with line sent deadline credit =
     line.result ∷ line.app ∷ sent ∷ deadline
     ∷ decimal line.server_state ∷ decimal line.outcome ∷ decimal line.validate_state ∷ credit ∷ []
 
-abbrev pub fields_of_line : Line → List (List ℕ)
+abbrev pub fields_of_line : StatementLine → List (List ℕ)
 fields_of_line line = fields_with line (civil_text line.sent) (civil_text line.deadline) (credit_text line.credit)
 
 abbrev pub header : List (List ℕ)
@@ -97,14 +97,14 @@ header =
 abbrev pub total_fields : ℕ → List (List ℕ)
 total_fields credit = codes "total" ∷ [] ∷ [] ∷ [] ∷ [] ∷ [] ∷ [] ∷ credit_text credit ∷ []
 
-abbrev pub line_text : Line → List ℕ
+abbrev pub line_text : StatementLine → List ℕ
 line_text line = row_text default_writer (fields_of_line line)
 
-abbrev pub total_credit : List Line → ℕ
-total_credit lines = sum_by (λ (line : Line). line.credit) lines
+abbrev pub total_credit : List StatementLine → ℕ
+total_credit lines = sum_by (λ (line : StatementLine). line.credit) lines
 
 -- the text of a statement of these lines
-abbrev pub text_of_lines : List Line → List ℕ
+abbrev pub text_of_lines : List StatementLine → List ℕ
 text_of_lines lines =
     row_text default_writer header ++ flat_map line_text lines ++ row_text default_writer (total_fields (total_credit lines))
 

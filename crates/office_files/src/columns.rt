@@ -58,7 +58,7 @@ fn value_of_count(field: &[u8]) -> Option<u64>
 
 /// The number of a count text, if it is from `least` to `most`.
 pub(crate) fn number_in(field: &[u8], least: u64, most: u64) -> Option<u64>
-    ensures value { result ≡ spec.number_in least most field.now }
+    ensures value { result ≡ spec.count_within least most field.now }
     ensures range { IfSome result (λ n. (least ≤ n) × (n ≤ most)) }
 {
     if !is_count_text(field) {

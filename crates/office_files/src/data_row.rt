@@ -5,8 +5,8 @@ ghost use Rattle.csv.specs.Records.{fields_of};
 ghost use Rattle.texts.specs.Words.{IsWord};
 ghost use Rattle.sched_book.specs.Classes.{class_of, first_rule};
 ghost use Rattle.sched_book.specs.Limits.{most_distance, is_user_name, distance_of};
-ghost use Rattle.office_files.specs.Columns.{name_in, number_in, agreement_in, rule_in};
-ghost use Rattle.office_files.specs.Faults.{Gives};
+ghost use Rattle.office_files.specs.Columns.{name_in, count_within, agreement_in, rule_in};
+ghost use Rattle.office_files.specs.Faults.{GivesReading};
 ghost use Rattle.office_files.specs.Importing.{column_of, column_or};
 ghost use Rattle.sched_book.specs.declared.rows.ClassRule.TheVariants.{Any};
 ghost use Rattle.texts.specs.Words as words;
@@ -40,7 +40,7 @@ impl<'a> DataRow<'a> {
     #[tactic(auto, unfolding(crate::specs::Importing::column_of))]
     pub(crate) fn word(&self, alloc: Global, column: usize) -> Result<Text, RowsFault>
         requires { 1 ≤ column }
-        ensures said { Gives result (column_of self.now.number column words.word_of (fields_of self.now.record.now)) }
+        ensures said { GivesReading result (column_of self.now.number column words.word_of (fields_of self.now.record.now)) }
         ensures range { IfOk result IsWord }
     {
         let word = self
@@ -60,7 +60,7 @@ impl<'a> DataRow<'a> {
         other: &Text,
     ) -> Result<Text, RowsFault>
         requires { 1 ≤ column }
-        ensures said { Gives result (column_or self.now.number column words.word_of other.now (fields_of self.now.record.now)) }
+        ensures said { GivesReading result (column_or self.now.number column words.word_of other.now (fields_of self.now.record.now)) }
         ensures range { IsWord other.now → IfOk result IsWord }
     {
         if column <= self.record.len() {
@@ -74,7 +74,7 @@ impl<'a> DataRow<'a> {
     #[tactic(auto, unfolding(crate::specs::Importing::column_of))]
     pub(crate) fn name(&self, alloc: Global, column: usize) -> Result<Text, RowsFault>
         requires { 1 ≤ column }
-        ensures said { Gives result (column_of self.now.number column name_in (fields_of self.now.record.now)) }
+        ensures said { GivesReading result (column_of self.now.number column name_in (fields_of self.now.record.now)) }
         ensures range { IfOk result (λ name. IsTrue (is_user_name name)) }
     {
         let name = self
@@ -89,7 +89,7 @@ impl<'a> DataRow<'a> {
     #[tactic(auto, unfolding(crate::specs::Importing::column_of))]
     pub(crate) fn agreement(&self, column: usize) -> Result<Agreement, RowsFault>
         requires { 1 ≤ column }
-        ensures said { Gives result (column_of self.now.number column agreement_in (fields_of self.now.record.now)) }
+        ensures said { GivesReading result (column_of self.now.number column agreement_in (fields_of self.now.record.now)) }
         ensures range { IfOk result (λ agreement. distance_of agreement ≤ most_distance) }
     {
         self.record
@@ -103,7 +103,7 @@ impl<'a> DataRow<'a> {
     #[tactic(auto, unfolding(crate::specs::Importing::column_of, crate::specs::Importing::column_or))]
     pub(crate) fn rule(&self, column: usize) -> Result<ClassRule, RowsFault>
         requires { 1 ≤ column }
-        ensures said { Gives result (column_or self.now.number column rule_in Any (fields_of self.now.record.now)) }
+        ensures said { GivesReading result (column_or self.now.number column rule_in Any (fields_of self.now.record.now)) }
         ensures first { IfOk result (λ rule. (class_of rule ≡ None) × (first_rule rule ≡ rule)) }
     {
         if self.record.len() < column {
@@ -119,7 +119,7 @@ impl<'a> DataRow<'a> {
     #[tactic(auto, unfolding(crate::specs::Importing::column_of))]
     pub(crate) fn number(&self, column: usize, least: u64, most: u64) -> Result<u64, RowsFault>
         requires { 1 ≤ column }
-        ensures said { Gives result (column_of self.now.number column (number_in least most) (fields_of self.now.record.now)) }
+        ensures said { GivesReading result (column_of self.now.number column (count_within least most) (fields_of self.now.record.now)) }
         ensures range { IfOk result (λ n. (least ≤ n) × (n ≤ most)) }
     {
         self.record
@@ -131,7 +131,7 @@ impl<'a> DataRow<'a> {
     /// The same for a number of 32 bits.
     pub(crate) fn small(&self, column: usize, least: u32, most: u32) -> Result<u32, RowsFault>
         requires { 1 ≤ column }
-        ensures said { Gives result (column_of self.now.number column (number_in least most) (fields_of self.now.record.now)) }
+        ensures said { GivesReading result (column_of self.now.number column (count_within least most) (fields_of self.now.record.now)) }
         ensures range { IfOk result (λ n. (least ≤ n) × (n ≤ most)) }
     {
         Ok(self.number(column, u64::from(least), u64::from(most))? as u32)

@@ -3,7 +3,7 @@
 ghost use Rattle.std.specs.Prelude.{◌≡◌, List, ℕ, Result, IfOk, length, map};
 ghost use Rattle.csv.specs.Records.{fields_of};
 ghost use Rattle.sched_book.specs.Limits.{IsAccountInLimits, IsAppInLimits, IsVersionInLimits, IsNewUnit};
-ghost use Rattle.office_files.specs.Faults.{Gives};
+ghost use Rattle.office_files.specs.Faults.{GivesReading};
 ghost use Rattle.office_files.specs.Importing as spec;
 
 use crate::data_row::DataRow;
@@ -52,7 +52,7 @@ pub(crate) trait ImportRow: Drop {
 
     /// Reads a data row with this number of fields.
     fn read(alloc: Global, row: &DataRow) -> Result<Self, RowsFault>
-        ensures said { Gives result (reads row.now.number (fields_of row.now.record.now)) }
+        ensures said { GivesReading result (reads row.now.number (fields_of row.now.record.now)) }
         ensures limits { IfOk result is_in_limits };
 }
 

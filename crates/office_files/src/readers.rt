@@ -3,8 +3,8 @@
 ghost use Rattle.std.specs.Prelude.{◌+◌, All, IfOk, IfErr, Ok, Err, map};
 ghost use Rattle.csv.specs.Records.{fields_of};
 ghost use Rattle.sched_book.specs.Limits.{AreRowsInLimits};
-ghost use Rattle.office_files.specs.Faults.{Gives};
-ghost use Rattle.office_files.specs.Importing.{row_of, rows_from, rows_in, accounts_in, apps_in, versions_in, workunits_in, Says, Refuses};
+ghost use Rattle.office_files.specs.Faults.{GivesReading};
+ghost use Rattle.office_files.specs.Importing.{row_of, rows_from, rows_of_records, accounts_in, apps_in, versions_in, workunits_in, Says, Refuses};
 
 use crate::data_row::DataRow;
 use crate::fault::RowsFault;
@@ -18,7 +18,7 @@ use texts::Listed;
 /// Reads a data row, which has as many fields as its header.
 #[tactic(auto, unfolding(crate::specs::Importing::row_of))]
 fn read_row<R: ImportRow>(alloc: Global, field_count: usize, row: &DataRow) -> Result<R, RowsFault>
-    ensures said { Gives result (row_of R.reads field_count row.now.number (fields_of row.now.record.now)) }
+    ensures said { GivesReading result (row_of R.reads field_count row.now.number (fields_of row.now.record.now)) }
     ensures limits { IfOk result R.is_in_limits }
 {
     if row.record.len() != field_count {
@@ -37,7 +37,7 @@ fn read_data<R: ImportRow>(
     field_count: usize,
     records: &[ByteRecord],
 ) -> Result<Listed<R>, RowsFault>
-    ensures said { Gives result (rows_from (row_of R.reads field_count) 1 (map fields_of records.now)) }
+    ensures said { GivesReading result (rows_from (row_of R.reads field_count) 1 (map fields_of records.now)) }
     ensures limits { IfOk result (All R.is_in_limits) }
 {
     let mut rows = Listed::new(alloc);
@@ -50,7 +50,7 @@ fn read_data<R: ImportRow>(
 
 /// Reads the records of an import.
 fn read_records<R: ImportRow>(alloc: Global, records: &[ByteRecord]) -> Result<Listed<R>, RowsFault>
-    ensures said { Gives result (rows_in R.reads R.header (map fields_of records.now)) }
+    ensures said { GivesReading result (rows_of_records R.reads R.header (map fields_of records.now)) }
     ensures limits { IfOk result (All R.is_in_limits) }
 {
     let [header, records @ ..] = records else {
@@ -64,8 +64,8 @@ fn read_records<R: ImportRow>(alloc: Global, records: &[ByteRecord]) -> Result<L
 
 /// Reads the text of an import.
 fn read_text<R: ImportRow>(alloc: Global, text: &[u8]) -> Result<Listed<R>, RowsFault>
-    ensures ok { IfOk result (λ rows. Says (rows_in R.reads R.header) text.now (Ok rows)) }
-    ensures err { IfErr result (Refuses (rows_in R.reads R.header) text.now) }
+    ensures ok { IfOk result (λ rows. Says (rows_of_records R.reads R.header) text.now (Ok rows)) }
+    ensures err { IfErr result (Refuses (rows_of_records R.reads R.header) text.now) }
     ensures limits { IfOk result (All R.is_in_limits) }
 {
     let records = records_of(alloc, text)?;

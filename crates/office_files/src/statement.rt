@@ -24,7 +24,7 @@ mod lines;
 mod rows;
 mod states;
 
-pub use line::Line;
+pub use line::StatementLine;
 use lines::lines_at;
 use rows::text_of_lines;
 use sched_book::{Desk, Place, Unavailable};

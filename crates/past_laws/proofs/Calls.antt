@@ -18,8 +18,8 @@ use Rattle.pasts.specs.Messages.{Said, Rpc, Import, Tick, Read, Refused, Message
 use Rattle.pasts.specs.Runs.{SaysCall}
 use Rattle.pasts.specs.Many.{ServesAll}
 use Rattle.pasts.specs.Stands.{Heard, Tables, Commits, Serves, ServesAs, told_by}
-use Rattle.pasts.specs.declared.answer.Answer.{Answer}
-use Rattle.pasts.specs.declared.answer.Answer.TheVariants.{Good}
+use Rattle.pasts.specs.declared.answer.AnswerContent.{AnswerContent}
+use Rattle.pasts.specs.declared.answer.AnswerContent.TheVariants.{Good}
 use Rattle.sched_machine.specs.Runs.{owner_at, OwnersStay, IsSentAgain}
 use Rattle.sched_machine.proofs.Held.Named as named
 use Rattle.sched_machine.proofs.Runs.Deadlines as deadlines
@@ -54,7 +54,7 @@ sent_again old new m call.Tick answer is step p o again = absurd again
 pub deadlines_move_by_resends_alone : DeadlinesMoveByResendsAlone
 deadlines_move_by_resends_alone old new m answer serves p o owned = cases (told_by old m.said) serves
   where
-    cases : (told : Option Answer) → ServesAs told old m answer new
+    cases : (told : Option AnswerContent) → ServesAs told old m answer new
         → (deadline_at new.world p ≡ deadline_at old.world p) ⊎ IsSentAgainBy old.world m p o
     cases (Some told) quiet = inl (ap (λ w. deadline_at w p) quiet.1.world)
     cases None c =
@@ -64,10 +64,10 @@ deadlines_move_by_resends_alone old new m answer serves p o owned = cases (told_
         ]
 
 -- through a message an instance that was given to a host stays that host's
-owner_stays : (old new : Tables) (m : Message) (answer : Answer) → Serves old m answer new → OwnersStay old.world new.world
+owner_stays : (old new : Tables) (m : Message) (answer : AnswerContent) → Serves old m answer new → OwnersStay old.world new.world
 owner_stays old new m answer serves = cases (told_by old m.said) serves
   where
-    cases : (told : Option Answer) → ServesAs told old m answer new → OwnersStay old.world new.world
+    cases : (told : Option AnswerContent) → ServesAs told old m answer new → OwnersStay old.world new.world
     cases (Some told) quiet = λ p o owned. (o, ap (λ w. owner_at w p) quiet.1.world ∙ owned, refl, refl)
     cases None c = owners_stay_in_step old.world new.world c.call m.now c.answered c.step
 
@@ -101,7 +101,7 @@ deadlines_move_by_resends_over_messages old new (h ∷ more) all p o owned =
 
 -- ---- held jobs
 
-in_sight : (old new : World) (said : Said) (r : Request) (now : ℕ) (names : List (List ℕ)) (answer : Answer) (c : Call) (a : Answered) → Sound old
+in_sight : (old new : World) (said : Said) (r : Request) (now : ℕ) (names : List (List ℕ)) (answer : AnswerContent) (c : Call) (a : Answered) → Sound old
     → old.settings.resend_lost_results ≡ true → r.other_results ≡ Some names → said ≡ Rpc r → SaysCall said c → Step old c now new a
     → answer ≡ Good (body_of a said) → IsInSight old new r names answer
 in_sight old new said r now names answer c a sound resends lists says is step answer_is =
@@ -128,6 +128,6 @@ in_sight old new said r now names answer c a sound resends lists says is step an
 
 pub no_held_job_drops_from_sight : NoHeldJobDropsFromSight
 no_held_job_drops_from_sight old new m answer r names stood says first serves resends lists =
-    let P : Option Answer → Type 0 = λ told. ServesAs told old m answer new in
+    let P : Option AnswerContent → Type 0 = λ told. ServesAs told old m answer new in
     let c : Commits old m answer new = subst P first serves in
     in_sight old.world new.world m.said r m.now names answer c.call c.answered (what_stands_is_sound old stood) resends lists says c.is_call c.step c.answer_is

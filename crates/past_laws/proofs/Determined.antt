@@ -14,10 +14,10 @@ use Rattle.sched_book.specs.declared.world.World.{World}
 use Rattle.sched_machine.proofs.Runs.One.{a_step_is_determined}
 use Rattle.pasts.specs.FirstHeard.{is_first_heard, first_heard}
 use Rattle.pasts.specs.Messages.{Said, Rpc, Import, Tick, Read, Refused, Message}
-use Rattle.pasts.specs.Runs.{Turn, SaysCall, IsTurn, turn_body, world_of, kept_of, batch_of}
+use Rattle.pasts.specs.Runs.{Turn, SaysCall, IsTurn, turn_body, world_of_run, kept_of, batch_of}
 use Rattle.pasts.specs.Stands.{Heard, Past, Answers, messages_in}
 use Rattle.pasts.specs.Told.{told}
-use Rattle.pasts.specs.declared.answer.Answer.TheVariants.{Good}
+use Rattle.pasts.specs.declared.answer.AnswerContent.TheVariants.{Good}
 use Rattle.pasts.proofs.ByNumber.{caller_of}
 use Rattle.pasts.proofs.Rising.{head_of}
 use Rattle.past_laws.specs.Laws.{TablesAreDetermined}
@@ -63,7 +63,7 @@ one_turn : (s : Settings) (turn other : Turn) (older : List Turn) → turn.messa
 one_turn s turn other older same one is =
     let P : Message → Type 0 = λ m. IsTurn s (record { message = m; call = other.call; answered = other.answered; after = other.after }) older in
     let second = subst P (sym same) is in
-    let w : World = world_of s older in
+    let w : World = world_of_run s older in
     let call : turn.call ≡ other.call =
     one_call w turn.after other.after turn.message.said turn.call other.call turn.message.now turn.answered other.answered
     one.is_call second.is_call one.step second.step in
@@ -92,7 +92,7 @@ newest s h g past other_past turns others m rest below (inr quiet) (inl acted) =
 newest s h g past other_past turns others m rest below (inr (first, tells, one)) (inr (second, says, other)) =
     let under = below turns others one other in
     let both : Some h.answer ≡ Some g.answer =
-    sym tells ∙ (λ i. told (world_of s (under.0 i)) (kept_of (under.0 i)) (batch_of (under.0 i)) (m i).said) ∙ says in
+    sym tells ∙ (λ i. told (world_of_run s (under.0 i)) (kept_of (under.0 i)) (batch_of (under.0 i)) (m i).said) ∙ says in
     let answer : h.answer ≡ g.answer = cc in
     (under.0, λ i. record { message = m i; answer = answer i } ∷ under.1 i)
 
@@ -114,7 +114,7 @@ tables_are_determined one other past other_past stands agrees same messages =
     let P : Settings → Type 0 = λ z. Answers z other_past agrees.0 in
     let run = one_run s past other_past stands.0 agrees.0 messages stands.1.answers (subst P (sym same) agrees.1.answers) in (
       record {
-        world = stands.1.world ∙ (λ i. world_of (same i) (run.0 i)) ∙ sym agrees.1.world;
+        world = stands.1.world ∙ (λ i. world_of_run (same i) (run.0 i)) ∙ sym agrees.1.world;
         calls = λ key. stands.1.calls key ∙ ap (λ ts. kept_of ts key) run.0 ∙ sym (agrees.1.calls key);
         batches = λ kind batch. stands.1.batches kind batch ∙ ap (λ ts. batch_of ts kind batch) run.0 ∙ sym (agrees.1.batches kind batch);
       },

@@ -7,7 +7,7 @@ use Rattle.sched_book.specs.declared.machine.Answered.{Answered}
 use Rattle.sched_book.specs.declared.machine.Call.{Call}
 use Rattle.sched_book.specs.declared.settings.Settings.{Settings}
 use Rattle.sched_book.specs.declared.world.World.{World}
-use Rattle.pasts.specs.Laws.{calls_in, worlds_in, last_world, IsRunTo, RunsTo}
+use Rattle.pasts.specs.Laws.{calls_of_run, worlds_in, last_world, IsRunTo, RunsTo}
 use Rattle.pasts.specs.Many.{ServesAll, followed}
 use Rattle.pasts.specs.Runs.{Turn}
 use Rattle.pasts.specs.Stands.{Heard, Tables, Same}
@@ -77,9 +77,9 @@ where_tables_stand : (P : World → Type 0) → HoldsAlways P → HoldsWhereTabl
 where_tables_stand P holds t stood =
     let s : Settings = t.world.settings in
     let turns : List Turn = stood.stands.0 in
-    let run : IsRunTo (empty_world s) (calls_in turns) (worlds_in turns) t.world = is_one_run t stood.past turns stood.stands.1 in
-    let all = holds (empty_world s) (calls_in turns) (worlds_in turns) (the_empty_world_is_sound s stood.settings)
-    (calls_in_limits (calls_in turns) run.limits) run.trace in
+    let run : IsRunTo (empty_world s) (calls_of_run turns) (worlds_in turns) t.world = is_one_run t stood.past turns stood.stands.1 in
+    let all = holds (empty_world s) (calls_of_run turns) (worlds_in turns) (the_empty_world_is_sound s stood.settings)
+    (calls_in_limits (calls_of_run turns) run.limits) run.trace in
     subst P run.last (last_after P (empty_world s) (worlds_in turns) all.0 all.1)
 
 -- the settings stay in each message, from any tables

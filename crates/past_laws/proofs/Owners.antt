@@ -16,9 +16,9 @@ use Rattle.sched_book.specs.declared.settings.Settings.{Settings}
 use Rattle.sched_book.specs.declared.world.World.{World}
 use Rattle.pasts.specs.Many.{ServesAll}
 use Rattle.pasts.specs.Messages.{Message}
-use Rattle.pasts.specs.Runs.{Turn, SaysCall, world_of}
+use Rattle.pasts.specs.Runs.{Turn, SaysCall, world_of_run}
 use Rattle.pasts.specs.Stands.{ServesAs, told_by}
-use Rattle.pasts.specs.declared.answer.Answer.{Answer}
+use Rattle.pasts.specs.declared.answer.AnswerContent.{AnswerContent}
 use Rattle.pasts.proofs.Carried.{run_of, same_itself}
 use Rattle.pasts.proofs.RunLeaves.{IsRun}
 use Rattle.sched_machine.specs.Classes.{ClassesStay, IsGiven, HadOwner}
@@ -51,7 +51,7 @@ given_by old new m call.Tick answer is step p o given = absurd given
 pub owners_are_of_classes_at_a_message : OwnersAreOfClassesAtAMessage
 owners_are_of_classes_at_a_message old new m answer stood serves p o owned = cases (told_by old m.said) serves
   where
-    cases : (told : Option Answer) → ServesAs told old m answer new → HadOwner old.world p o ⊎ IsGivenByMessage old.world new.world m p o
+    cases : (told : Option AnswerContent) → ServesAs told old m answer new → HadOwner old.world p o ⊎ IsGivenByMessage old.world new.world m p o
     cases (Some told) quiet = inl (o, ap (λ w. owner_at w p) (sym quiet.1.world) ∙ owned, refl, refl)
     cases None c =
         elim (classes.owners_are_of_classes old.world new.world c.call m.now c.answered (what_stands_is_sound old stood) c.step p o owned) [
@@ -87,10 +87,10 @@ owners_are_of_classes_over_messages old new (h ∷ more) all stood p o owned =
 -- ---- what is stored
 
 -- a run leaves a sound world
-run_sound : (s : Settings) (turns : List Turn) → AreSettingsInLimits s → IsRun s turns → Sound (world_of s turns)
+run_sound : (s : Settings) (turns : List Turn) → AreSettingsInLimits s → IsRun s turns → Sound (world_of_run s turns)
 run_sound s [] limits run = the_empty_world_is_sound s limits
 run_sound s (turn ∷ older) limits run =
-    step_keeps_sound (world_of s older) turn.after turn.call turn.message.now turn.answered (run_sound s older limits run.2) run.1.limits.request run.1.limits.moment run.1.step
+    step_keeps_sound (world_of_run s older) turn.after turn.call turn.message.now turn.answered (run_sound s older limits run.2) run.1.limits.request run.1.limits.moment run.1.step
 
 nobody_owns : (s : Settings) (p : Place) (o : Owner) → owner_at (empty_world s) p ≡ Some o → ⊥
 nobody_owns s p o owned = cases (eqb p.unit 0) owned
@@ -100,11 +100,11 @@ nobody_owns s p o owned = cases (eqb p.unit 0) owned
     cases true none = absurd cc
     cases false none = absurd cc
 
-given_in_run : (s : Settings) (turns : List Turn) → AreSettingsInLimits s → IsRun s turns → (later : World) → ClassesStay (world_of s turns) later
-    → (p : Place) (m o : Owner) → m.host ≡ o.host → m.sent ≡ o.sent → owner_at (world_of s turns) p ≡ Some m → IsGivenByATurn s later turns p o
+given_in_run : (s : Settings) (turns : List Turn) → AreSettingsInLimits s → IsRun s turns → (later : World) → ClassesStay (world_of_run s turns) later
+    → (p : Place) (m o : Owner) → m.host ≡ o.host → m.sent ≡ o.sent → owner_at (world_of_run s turns) p ≡ Some m → IsGivenByATurn s later turns p o
 given_in_run s [] limits run later stay p m o host sent owned = nobody_owns s p m owned
 given_in_run s (turn ∷ older) limits run later stay p m o host sent owned =
-    let w : World = world_of s older in
+    let w : World = world_of_run s older in
     let now : ℕ = turn.message.now in
     elim (classes.owners_are_of_classes w turn.after turn.call now turn.answered (run_sound s older limits run.2) run.1.step p m owned) [
       | inl before ↦ inr (given_in_run s older limits run.2 later

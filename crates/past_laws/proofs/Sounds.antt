@@ -6,7 +6,7 @@ use Rattle.sched_book.specs.declared.machine.Answered.{Answered}
 use Rattle.sched_book.specs.declared.machine.Call.{Call}
 use Rattle.sched_book.specs.declared.settings.Settings.{Settings}
 use Rattle.sched_book.specs.declared.world.World.{World}
-use Rattle.pasts.specs.Laws.{calls_in, worlds_in, AreInLimits, last_world, IsRunTo}
+use Rattle.pasts.specs.Laws.{calls_of_run, worlds_in, AreInLimits, last_world, IsRunTo}
 use Rattle.pasts.specs.Runs.{Turn}
 use Rattle.pasts.proofs.OneRun.{is_one_run}
 use Rattle.sched_machine.specs.Laws.{AreCallsInLimits, AllSound}
@@ -34,8 +34,8 @@ pub what_stands_is_sound : StandsIsSound
 what_stands_is_sound t stood =
     let s : Settings = t.world.settings in
     let turns : List Turn = stood.stands.0 in
-    let run : IsRunTo (empty_world s) (calls_in turns) (worlds_in turns) t.world = is_one_run t stood.past turns stood.stands.1 in
+    let run : IsRunTo (empty_world s) (calls_of_run turns) (worlds_in turns) t.world = is_one_run t stood.past turns stood.stands.1 in
     let first : Sound (empty_world s) = the_empty_world_is_sound s stood.settings in
     subst Sound run.last
     (last_sound (empty_world s) (worlds_in turns) first
-    (runs_keep_sound (empty_world s) (calls_in turns) (worlds_in turns) first (calls_in_limits (calls_in turns) run.limits) run.trace))
+    (runs_keep_sound (empty_world s) (calls_of_run turns) (worlds_in turns) first (calls_in_limits (calls_of_run turns) run.limits) run.trace))

@@ -12,9 +12,9 @@ use Rattle.sched_book.specs.declared.settings.Settings.{Settings}
 use Rattle.sched_book.specs.declared.world.World.{World}
 use Rattle.pasts.specs.Many.{ServesAll}
 use Rattle.pasts.specs.Messages.{Rpc, Message}
-use Rattle.pasts.specs.Runs.{Turn, world_of}
+use Rattle.pasts.specs.Runs.{Turn, world_of_run}
 use Rattle.pasts.specs.Stands.{Heard, Past, Tables, Serves, StandsBy}
-use Rattle.pasts.specs.declared.answer.Answer.{Answer}
+use Rattle.pasts.specs.declared.answer.AnswerContent.{AnswerContent}
 use Rattle.sched_machine.specs.Classes.{IsGiven, HadOwner}
 use Rattle.sched_machine.specs.Runs.{owner_at}
 use Rattle.past_laws.specs.Laws.{HaveStood}
@@ -31,7 +31,7 @@ pub record IsGivenByMessage (w later : World) (m : Message) (p : Place) (o : Own
 -- if a host owns an instance after a message, it owned it before, or the message gives it
 abbrev pub OwnersAreOfClassesAtAMessage : Type 0
 OwnersAreOfClassesAtAMessage =
-    (old new : Tables) (m : Message) (answer : Answer) → HaveStood old → Serves old m answer new → (p : Place) (o : Owner)
+    (old new : Tables) (m : Message) (answer : AnswerContent) → HaveStood old → Serves old m answer new → (p : Place) (o : Owner)
     → owner_at new.world p ≡ Some o → HadOwner old.world p o ⊎ IsGivenByMessage old.world new.world m p o
 
 -- one of these messages gives the instance at a place; the class is read in a later world
@@ -50,7 +50,7 @@ OwnersAreOfClassesOverMessages =
 abbrev pub IsGivenByATurn : Settings → World → List Turn → Place → Owner → Type 0
 IsGivenByATurn s later [] p o = ⊥
 IsGivenByATurn s later (turn ∷ older) p o =
-    IsGiven (world_of s older) later turn.call turn.message.now p o ⊎ IsGivenByATurn s later older p o
+    IsGiven (world_of_run s older) later turn.call turn.message.now p o ⊎ IsGivenByATurn s later older p o
 
 -- if tables agree with a past, some turn of their run gave each owner its instance; the class is read in the world at the end
 abbrev pub OwnersWereGiven : Type 0

@@ -14,8 +14,8 @@ use Rattle.sched_book.specs.declared.world.World.{World}
 use Rattle.pasts.specs.Many.{ServesAll}
 use Rattle.pasts.specs.Messages.{Rpc, Message}
 use Rattle.pasts.specs.Stands.{Heard, Past, Tables, Same, Stands, Serves, messages_in, told_by}
-use Rattle.pasts.specs.declared.answer.Answer.{Answer}
-use Rattle.pasts.specs.declared.answer.Answer.TheVariants.{Good}
+use Rattle.pasts.specs.declared.answer.AnswerContent.{AnswerContent}
+use Rattle.pasts.specs.declared.answer.AnswerContent.TheVariants.{Good}
 use Rattle.sched_machine.specs.Held.{IsHeldByName}
 use Rattle.sched_machine.specs.Runs.{owner_at, IsSentAgain}
 
@@ -41,7 +41,7 @@ HoldsWhereTablesStand P = (t : Tables) → HaveStood t → P t.world
 
 -- R holds between the world before a message and the world after it
 abbrev pub HoldsAtAMessage : (World → World → Type 0) → Type 0
-HoldsAtAMessage R = (old new : Tables) (m : Message) (answer : Answer) → HaveStood old → Serves old m answer new → R old.world new.world
+HoldsAtAMessage R = (old new : Tables) (m : Message) (answer : AnswerContent) → HaveStood old → Serves old m answer new → R old.world new.world
 
 -- R holds between any two worlds of many messages, the earlier first: the one after some of them, and the one after more
 abbrev pub HoldsOverMessages : (World → World → Type 0) → Type 0
@@ -66,7 +66,7 @@ pub record IsSentAgainBy (w : World) (m : Message) (p : Place) (o : Owner) : Typ
 -- through a message the deadline of an instance with an owner stays, or its host's call has the instance sent again
 abbrev pub DeadlinesMoveByResendsAlone : Type 0
 DeadlinesMoveByResendsAlone =
-    (old new : Tables) (m : Message) (answer : Answer) → Serves old m answer new → (p : Place) (o : Owner) → owner_at old.world p ≡ Some o
+    (old new : Tables) (m : Message) (answer : AnswerContent) → Serves old m answer new → (p : Place) (o : Owner) → owner_at old.world p ≡ Some o
     → (deadline_at new.world p ≡ deadline_at old.world p) ⊎ IsSentAgainBy old.world m p o
 
 -- one of these messages is a call of a host, which has the instance at a place sent again
@@ -81,7 +81,7 @@ DeadlinesMoveByResendsOverMessages =
     → (deadline_at new.world p ≡ deadline_at old.world p) ⊎ IsSentAgainBySome old more new all p o
 
 -- A call of this host was answered by this reply, and its host holds just what is listed or named.
-pub record IsInSight (old new : World) (r : Request) (names : List (List ℕ)) (answer : Answer) : Type 0 where
+pub record IsInSight (old new : World) (r : Request) (names : List (List ℕ)) (answer : AnswerContent) : Type 0 where
   pub caller : Caller
   pub is_caller : IsCaller old caller r
   pub reply : Reply
@@ -90,6 +90,6 @@ pub record IsInSight (old new : World) (r : Request) (names : List (List ℕ)) (
 
 abbrev pub NoHeldJobDropsFromSight : Type 0
 NoHeldJobDropsFromSight =
-    (old new : Tables) (m : Message) (answer : Answer) (r : Request) (names : List (List ℕ)) → HaveStood old → m.said ≡ Rpc r
+    (old new : Tables) (m : Message) (answer : AnswerContent) (r : Request) (names : List (List ℕ)) → HaveStood old → m.said ≡ Rpc r
     → told_by old m.said ≡ None → Serves old m answer new → old.world.settings.resend_lost_results ≡ true → r.other_results ≡ Some names
     → IsInSight old.world new.world r names answer

@@ -13,10 +13,10 @@ use Rattle.pasts.specs.FirstHeard.{is_first_heard, first_heard}
 use Rattle.pasts.specs.Laws.{IsOfFirstHeard, NewTablesStand, StandsCarried, FirstHeardIsToldNothing, RunsTheFirstHeard, RowsAreOfFirstHeard}
 use Rattle.pasts.specs.Leaves.{Frame, frame_after}
 use Rattle.pasts.specs.Messages.{Said, Message}
-use Rattle.pasts.specs.Runs.{Turn, IsTurn, world_of, messages_of, kept_of, batch_of}
+use Rattle.pasts.specs.Runs.{Turn, IsTurn, world_of_run, messages_of, kept_of, batch_of}
 use Rattle.pasts.specs.Stands.{Past, Tables, Same, Answers, StandsBy, Stands, Commits, ServesAs, Serves, then_heard, messages_in, told_by}
 use Rattle.pasts.specs.Told.{told}
-use Rattle.pasts.specs.declared.answer.Answer.{Answer}
+use Rattle.pasts.specs.declared.answer.AnswerContent.{AnswerContent}
 use Rattle.pasts.proofs.HostKeys.{host_of_key-place, host_count}
 use Rattle.pasts.proofs.RunLeaves.{IsRun, run_leaves}
 use Rattle.pasts.proofs.StepLeaves.{step_leaves}
@@ -55,7 +55,7 @@ same_itself t = record { world = refl; calls = λ key. refl; batches = λ kind b
 pub stands_same : (a b : Tables) (past : Past) (turns : List Turn) → Same a b → StandsBy b past turns → StandsBy a past turns
 stands_same a b past turns same by =
     let P : World → Type 0 = λ w. Answers w.settings past turns in
-    let Q : World → Type 0 = λ w. w ≡ world_of w.settings turns in record {
+    let Q : World → Type 0 = λ w. w ≡ world_of_run w.settings turns in record {
       answers = subst P (sym same.world) by.answers;
       world = subst Q (sym same.world) by.world;
       calls = λ key. same.calls key ∙ by.calls key;
@@ -64,14 +64,14 @@ stands_same a b past turns same by =
 
 pub new_tables_stand : NewTablesStand
 new_tables_stand s t same =
-    let P : World → Type 0 = λ w. w ≡ world_of w.settings [] in
+    let P : World → Type 0 = λ w. w ≡ world_of_run w.settings [] in
     ([], record { answers = refl; world = subst P (sym same.world) refl; calls = same.calls; batches = same.batches })
 
 -- ---- one message
 
 -- the answer to a message without a step, from the run that tables agree with
 pub told_by_run : (t : Tables) (past : Past) (turns : List Turn) → StandsBy t past turns → (said : Said)
-    → told_by t said ≡ told (world_of t.world.settings turns) (kept_of turns) (batch_of turns) said
+    → told_by t said ≡ told (world_of_run t.world.settings turns) (kept_of turns) (batch_of turns) said
 told_by_run t past turns by said = λ i. told (by.world i) (λ key. by.calls key i) (λ kind batch. by.batches kind batch i) said
 
 pub first_is_told : (t : Tables) (past : Past) (turns : List Turn) → StandsBy t past turns → (said : Said)
@@ -94,19 +94,19 @@ settings_stay w after c now answer step = ap (λ (f : Frame). f.settings) (step_
     cases (call.Import new) = settings_with_rows w new
     cases call.Tick = refl
 
-served_settings_as : (o : Option Answer) (old new : Tables) (m : Message) (answer : Answer) → ServesAs o old m answer new → new.world.settings ≡ old.world.settings
+served_settings_as : (o : Option AnswerContent) (old new : Tables) (m : Message) (answer : AnswerContent) → ServesAs o old m answer new → new.world.settings ≡ old.world.settings
 served_settings_as (Some told) old new m answer serves = ap (λ (w : World). w.settings) serves.1.world
 served_settings_as None old new m answer c = settings_stay old.world new.world c.call m.now c.answered c.step
 
 -- a message changes no settings
-pub served_settings : (old new : Tables) (m : Message) (answer : Answer) → Serves old m answer new → new.world.settings ≡ old.world.settings
+pub served_settings : (old new : Tables) (m : Message) (answer : AnswerContent) → Serves old m answer new → new.world.settings ≡ old.world.settings
 served_settings old new m answer serves = served_settings_as (told_by old m.said) old new m answer serves
 
 -- the turn that a commit makes
-abbrev pub turn_of : (old : Tables) (m : Message) (answer : Answer) (new : Tables) → Commits old m answer new → Turn
+abbrev pub turn_of : (old : Tables) (m : Message) (answer : AnswerContent) (new : Tables) → Commits old m answer new → Turn
 turn_of old m answer new c = record { message = m; call = c.call; answered = c.answered; after = new.world }
 
-pub commit_stands : (old new : Tables) (m : Message) (answer : Answer) (past : Past) (turns : List Turn) → StandsBy old past turns
+pub commit_stands : (old new : Tables) (m : Message) (answer : AnswerContent) (past : Past) (turns : List Turn) → StandsBy old past turns
     → told_by old m.said ≡ None → (c : Commits old m answer new) → StandsBy new (then_heard past m answer) (turn_of old m answer new c ∷ turns)
 commit_stands old new m answer past turns by none c =
     let P : Settings → Type 0 = λ s. Answers s (then_heard past m answer) (turn_of old m answer new c ∷ turns) in
@@ -126,7 +126,7 @@ commit_stands old new m answer past turns by none c =
       batches = λ kind batch. c.batches kind batch ∙ ap (batch_after kind batch m.said (body_of c.answered m.said)) (by.batches kind batch);
     }
 
-pub quiet_stands : (t : Tables) (m : Message) (answer : Answer) (past : Past) (turns : List Turn) → StandsBy t past turns
+pub quiet_stands : (t : Tables) (m : Message) (answer : AnswerContent) (past : Past) (turns : List Turn) → StandsBy t past turns
     → told_by t m.said ≡ Some answer → StandsBy t (then_heard past m answer) turns
 quiet_stands t m answer past turns by told_is = record {
   answers = inr (first_is_told t past turns by m.said ∙ ap is_none told_is, sym (told_by_run t past turns by m.said) ∙ told_is, by.answers);
@@ -138,7 +138,7 @@ quiet_stands t m answer past turns by told_is = record {
 pub stands_is_carried : StandsCarried
 stands_is_carried old new m answer serves past stands = cases (told_by old m.said) refl serves
   where
-    cases : (o : Option Answer) → told_by old m.said ≡ o → ServesAs o old m answer new → Stands new (then_heard past m answer)
+    cases : (o : Option AnswerContent) → told_by old m.said ≡ o → ServesAs o old m answer new → Stands new (then_heard past m answer)
     cases (Some told_it) is serves = (
       stands.0,
       stands_same new old (then_heard past m answer) stands.0 serves.1
@@ -154,14 +154,14 @@ rows_are_of_first_heard t past stands =
     let turns : List Turn = stands.0 in
     let run : IsRunOf s (first_heard s (messages_in past)) turns = run_of s past turns stands.1.answers in
     let P : World × List Message → Type 0 = λ p. IsOfFirstHeard p.0 p.1 in
-    let both : ◌≡◌ {A = World × List Message} (world_of s turns, messages_of turns) (t.world, first_heard s (messages_in past)) =
+    let both : ◌≡◌ {A = World × List Message} (world_of_run s turns, messages_of turns) (t.world, first_heard s (messages_in past)) =
     λ i. (sym stands.1.world i, run.0 i) in
     subst P both (of_run s turns run.1)
   where
-    of_run : (s : Settings) (turns : List Turn) → IsRun s turns → IsOfFirstHeard (world_of s turns) (messages_of turns)
+    of_run : (s : Settings) (turns : List Turn) → IsRun s turns → IsOfFirstHeard (world_of_run s turns) (messages_of turns)
     of_run s turns run =
         let leaves = run_leaves s turns run in record {
           rows = leaves.shelf_is;
-          hosts = λ key. host_of_key-place (world_of s turns) _ key leaves.are;
-          host_count = host_count (world_of s turns) _ leaves.are;
+          hosts = λ key. host_of_key-place (world_of_run s turns) _ key leaves.are;
+          host_count = host_count (world_of_run s turns) _ leaves.are;
         }

@@ -6,11 +6,11 @@ use Rattle.sched_book.specs.declared.machine.Answered.{Answered}
 use Rattle.sched_book.specs.declared.machine.Call.{Call}
 use Rattle.sched_book.specs.declared.settings.Settings.{Settings}
 use Rattle.sched_book.specs.declared.world.World.{World}
-use Rattle.pasts.specs.Laws.{calls_in, worlds_in, AreInLimits, last_world, IsRunTo, RunsTo, IsOneRun, ServesByOneRun, StandsCarriedByAll}
+use Rattle.pasts.specs.Laws.{calls_of_run, worlds_in, AreInLimits, last_world, IsRunTo, RunsTo, IsOneRun, ServesByOneRun, StandsCarriedByAll}
 use Rattle.pasts.specs.Messages.{Message}
-use Rattle.pasts.specs.Runs.{Turn, IsInLimits, world_of}
+use Rattle.pasts.specs.Runs.{Turn, IsInLimits, world_of_run}
 use Rattle.pasts.specs.Stands.{Tables, ServesAs, then_heard, told_by}
-use Rattle.pasts.specs.declared.answer.Answer.{Answer}
+use Rattle.pasts.specs.declared.answer.AnswerContent.{AnswerContent}
 use Rattle.pasts.proofs.Carried.{run_of, stands_same, stands_is_carried}
 use Rattle.pasts.proofs.RunLeaves.{IsRun}
 
@@ -31,21 +31,21 @@ trace_more w [] (y ∷ ts) e t trace step = absurd trace
 trace_more w (x ∷ es) [] e t trace step = absurd trace
 trace_more w (x ∷ es) (y ∷ ts) e t trace step = (trace.0, trace_more y.1 es ts e t trace.1 step)
 
-one_run : (s : Settings) (turns : List Turn) → IsRun s turns → IsRunTo (empty_world s) (calls_in turns) (worlds_in turns) (world_of s turns)
+one_run : (s : Settings) (turns : List Turn) → IsRun s turns → IsRunTo (empty_world s) (calls_of_run turns) (worlds_in turns) (world_of_run s turns)
 one_run s [] run = record { trace = tt; limits = tt; last = refl }
 one_run s (turn ∷ older) run =
-    let before : IsRunTo (empty_world s) (calls_in older) (worlds_in older) (world_of s older) = one_run s older run.2 in
+    let before : IsRunTo (empty_world s) (calls_of_run older) (worlds_in older) (world_of_run s older) = one_run s older run.2 in
     let P : World → Type 0 = λ w. Step w turn.call turn.message.now turn.after turn.answered in record {
-      trace = trace_more (empty_world s) (calls_in older) (worlds_in older) (turn.call, turn.message.now) (turn.answered, turn.after) before.trace
+      trace = trace_more (empty_world s) (calls_of_run older) (worlds_in older) (turn.call, turn.message.now) (turn.answered, turn.after) before.trace
           (subst P (sym before.last) run.1.step);
-      limits = limits_more (calls_in older) (turn.call, turn.message.now) before.limits run.1.limits;
+      limits = limits_more (calls_of_run older) (turn.call, turn.message.now) before.limits run.1.limits;
       last = last_more (empty_world s) (worlds_in older) (turn.answered, turn.after);
     }
 
 pub is_one_run : IsOneRun
 is_one_run t past turns by =
     let s : Settings = t.world.settings in
-    let P : World → Type 0 = λ w. IsRunTo (empty_world s) (calls_in turns) (worlds_in turns) w in
+    let P : World → Type 0 = λ w. IsRunTo (empty_world s) (calls_of_run turns) (worlds_in turns) w in
     subst P (sym by.world) (one_run s turns (run_of s past turns by.answers).1)
 
 -- ---- many messages
@@ -57,7 +57,7 @@ stands_is_carried_by_all old new (h ∷ more) all past stands =
     (stands_is_carried old all.0 h.message h.answer all.1 past stands)
 
 -- one message before a run
-one_before : (old mid : Tables) (m : Message) (answer : Answer) (after : World) (o : Option Answer) → ServesAs o old m answer mid
+one_before : (old mid : Tables) (m : Message) (answer : AnswerContent) (after : World) (o : Option AnswerContent) → ServesAs o old m answer mid
     → RunsTo mid.world after → RunsTo old.world after
 one_before old mid m answer after (Some told) serves runs =
     let P : World → Type 0 = λ w. RunsTo w after in subst P serves.1.world runs

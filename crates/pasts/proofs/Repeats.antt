@@ -31,11 +31,11 @@ use Rattle.pasts.specs.FirstHeard.{account_on, is_above, has_host_room, is_batch
 use Rattle.pasts.specs.Laws.{IsOfFirstHeard}
 use Rattle.pasts.specs.Leaves.{host_of_key}
 use Rattle.pasts.specs.Messages.{Said, Rpc, Import, Tick, Read, Refused, Message, key_of}
-use Rattle.pasts.specs.Repeats.{is_call_of, newest, kept_calls, IsCallOf, AreToldBeside, CallsAreToldBesideTheKept, BatchesCountOnce}
+use Rattle.pasts.specs.Repeats.{is_call_of, newest_heard, kept_calls, IsCallOf, AreToldBeside, CallsAreToldBesideTheKept, BatchesCountOnce}
 use Rattle.pasts.specs.Runs.{Turn, turn_body, kept_of, batch_of}
-use Rattle.pasts.specs.Stands.{Heard, Past, Tables, Acts, Answers, messages_in, told_by}
+use Rattle.pasts.specs.Stands.{Heard, Past, Tables, MakesTurn, Answers, messages_in, told_by}
 use Rattle.pasts.specs.Told.{told_heard, answer_from_kept, told_number, told_account, told_import}
-use Rattle.pasts.specs.declared.answer.Answer.TheVariants.{Good, Refusal}
+use Rattle.pasts.specs.declared.answer.AnswerContent.TheVariants.{Good, Refusal}
 use Rattle.pasts.proofs.Carried.{IsRunOf, run_of, rows_are_of_first_heard}
 use Rattle.pasts.proofs.HostKeys.{keys_after, with_key-is}
 use Rattle.pasts.proofs.Places.{place-more}
@@ -47,22 +47,22 @@ use Rattle.pasts.proofs.ToldNone.{above_run, call_rises}
 -- what holds once that message acted, and is kept by later ones that do not pass, holds of the run
 module _ (s : Settings) (passes : Said → Bool) (h : Heard) (K : List Turn → List Message → Type 0)
     (here : (turn : Turn) (older : List Turn) (heard : List Message) → is_first_heard s heard h.message.said ≡ true → passes h.message.said ≡ true
-    → Acts s h turn older → K (turn ∷ older) (h.message ∷ heard))
-    (later : (g : Heard) (turn : Turn) (older : List Turn) (heard : List Message) → passes g.message.said ≡ false → Acts s g turn older → K older heard
+    → MakesTurn s h turn older → K (turn ∷ older) (h.message ∷ heard))
+    (later : (g : Heard) (turn : Turn) (older : List Turn) (heard : List Message) → passes g.message.said ≡ false → MakesTurn s g turn older → K older heard
     → K (turn ∷ older) (g.message ∷ heard)) where
   acted : (g : Heard) (turn : Turn) (older : List Turn) (heard : List Message) (rest : Option Heard) (b : Bool) → passes g.message.said ≡ b
-      → is_first_heard s heard g.message.said ≡ true → Acts s g turn older → (if b then Some g else rest) ≡ Some h → (rest ≡ Some h → K older heard)
+      → is_first_heard s heard g.message.said ≡ true → MakesTurn s g turn older → (if b then Some g else rest) ≡ Some h → (rest ≡ Some h → K older heard)
       → K (turn ∷ older) (g.message ∷ heard)
   acted g turn older heard rest true pass first acts is below =
       let same : h ≡ g = cc in
       let P : Heard → Type 0 = λ x. K (turn ∷ older) (x.message ∷ heard) in
       let F : Heard → Type 0 = λ x. is_first_heard s heard x.message.said ≡ true in
       let Q : Heard → Type 0 = λ x. passes x.message.said ≡ true in
-      let A : Heard → Type 0 = λ x. Acts s x turn older in
+      let A : Heard → Type 0 = λ x. MakesTurn s x turn older in
       subst P same (here turn older heard (subst F (sym same) first) (subst Q (sym same) pass) (subst A (sym same) acts))
   acted g turn older heard rest false pass first acts is below = later g turn older heard pass acts (below is)
 
-  down : (past : Past) (turns : List Turn) → Answers s past turns → newest s passes past ≡ Some h → K turns (first_heard s (messages_in past))
+  down : (past : Past) (turns : List Turn) → Answers s past turns → newest_heard s passes past ≡ Some h → K turns (first_heard s (messages_in past))
   down [] turns answers is = absurd cc
   down (g ∷ past) turns answers is =
       let heard : List Message = first_heard s (messages_in past) in
@@ -71,15 +71,15 @@ module _ (s : Settings) (passes : Said → Bool) (h : Heard) (K : List Turn → 
         | inl acts ↦
             let T : List Turn → Type 0 = λ ts. K ts (first_heard s (messages_in (g ∷ past))) in
             let L : Bool → Type 0 = λ b. K (acts.1 ∷ acts.2) (if b then g.message ∷ heard else heard) in
-            let found_it : (if passes g.message.said then Some g else newest s passes past) ≡ Some h =
-            ap (λ (b : Bool). if b && passes g.message.said then Some g else newest s passes past) (sym acts.0) ∙ is in
+            let found_it : (if passes g.message.said then Some g else newest_heard s passes past) ≡ Some h =
+            ap (λ (b : Bool). if b && passes g.message.said then Some g else newest_heard s passes past) (sym acts.0) ∙ is in
             subst T (sym acts.3)
             (subst L (sym acts.0)
-            (acted g acts.1 acts.2 heard (newest s passes past) (passes g.message.said) refl acts.0 acts.4 found_it (λ below. down past acts.2 acts.5 below)))
+            (acted g acts.1 acts.2 heard (newest_heard s passes past) (passes g.message.said) refl acts.0 acts.4 found_it (λ below. down past acts.2 acts.5 below)))
         | inr quiet ↦
             let L : Bool → Type 0 = λ b. K turns (if b then g.message ∷ heard else heard) in
-            let found_it : newest s passes past ≡ Some h =
-            ap (λ (b : Bool). if b && passes g.message.said then Some g else newest s passes past) (sym quiet.0) ∙ is in
+            let found_it : newest_heard s passes past ≡ Some h =
+            ap (λ (b : Bool). if b && passes g.message.said then Some g else newest_heard s passes past) (sym quiet.0) ∙ is in
             subst L (sym quiet.0) (down past turns quiet.2 found_it)
       ]
 
@@ -464,13 +464,13 @@ batch_after_other kind batch (Read tells) body kept other = refl
 batch_after_other kind batch (Refused fault) body kept other = refl
 
 kept_batch : (s : Settings) (past : Past) (turns : List Turn) (h : Heard) (kind : Kind) (batch text : List ℕ) (read : Result Rows Fault) → Answers s past turns
-    → newest s (is_batch kind batch) past ≡ Some h → h.message.said ≡ Import kind batch text read
+    → newest_heard s (is_batch kind batch) past ≡ Some h → h.message.said ≡ Import kind batch text read
     → IsKeptBatch h kind batch text turns (first_heard s (messages_in past))
 kept_batch s past turns h kind batch text read answers is says =
     down s (is_batch kind batch) h (IsKeptBatch h kind batch text) here later past turns answers is
   where
     here : (turn : Turn) (older : List Turn) (heard : List Message) → is_first_heard s heard h.message.said ≡ true
-        → is_batch kind batch h.message.said ≡ true → Acts s h turn older → IsKeptBatch h kind batch text (turn ∷ older) (h.message ∷ heard)
+        → is_batch kind batch h.message.said ≡ true → MakesTurn s h turn older → IsKeptBatch h kind batch text (turn ∷ older) (h.message ∷ heard)
     here turn older heard first pass acts =
         let said_is : turn.message.said ≡ Import kind batch text read = ap (λ (m : Message). m.said) acts.message ∙ says in
         let mine : is_batch kind batch (Import kind batch text read) ≡ true = ap (is_batch kind batch) (sym says) ∙ pass in record {
@@ -480,7 +480,7 @@ kept_batch s past turns h kind batch text read answers is says =
           answer = acts.answer;
         }
 
-    later : (g : Heard) (turn : Turn) (older : List Turn) (heard : List Message) → is_batch kind batch g.message.said ≡ false → Acts s g turn older
+    later : (g : Heard) (turn : Turn) (older : List Turn) (heard : List Message) → is_batch kind batch g.message.said ≡ false → MakesTurn s g turn older
         → IsKeptBatch h kind batch text older heard → IsKeptBatch h kind batch text (turn ∷ older) (g.message ∷ heard)
     later g turn older heard other acts was = record {
       body = was.body;

@@ -27,7 +27,7 @@ use Rattle.sched_book.proofs.LeftByImports.{settings_with_rows, hosts_with_rows}
 use Rattle.pasts.specs.FirstHeard.{account_on, shelf_said, rows_of, with_key, keys_said, keys_of, is_first_heard}
 use Rattle.pasts.specs.Leaves.{host_name, Frame, frame}
 use Rattle.pasts.specs.Messages.{Said, Rpc, Import, Tick, Read, Refused, Message, key_of}
-use Rattle.pasts.specs.Runs.{Turn, SaysCall, IsTurn, world_of, messages_of}
+use Rattle.pasts.specs.Runs.{Turn, SaysCall, IsTurn, world_of_run, messages_of}
 use Rattle.pasts.proofs.HostKeys.{AreKeys, keys_entered}
 use Rattle.pasts.proofs.Places.{place-more}
 use Rattle.pasts.proofs.StepLeaves.{step_leaves}
@@ -137,8 +137,8 @@ abbrev pub IsRun : Settings → List Turn → Type 0
 IsRun s [] = Unit {0}
 IsRun s (turn ∷ older) = (is_first_heard s (messages_of older) turn.message.said ≡ true) × IsTurn s turn older × IsRun s older
 
-pub run_leaves : (s : Settings) (turns : List Turn) → IsRun s turns → LeavesMessages s (world_of s turns) (messages_of turns)
+pub run_leaves : (s : Settings) (turns : List Turn) → IsRun s turns → LeavesMessages s (world_of_run s turns) (messages_of turns)
 run_leaves s [] run = record { settings = refl; shelf_is = refl; are = tt }
 run_leaves s (turn ∷ older) run =
-    said_leaves s (world_of s older) turn.after turn.message.said turn.call turn.message.now turn.answered (messages_of older)
+    said_leaves s (world_of_run s older) turn.after turn.message.said turn.call turn.message.now turn.answered (messages_of older)
     (run_leaves s older run.2) run.1.is_call run.1.step

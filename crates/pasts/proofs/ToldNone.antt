@@ -22,10 +22,10 @@ use Rattle.pasts.specs.Answers.{kept_call, kept_after, batch_after}
 use Rattle.pasts.specs.FirstHeard.{account_on, above_said, has_batch, has_host_room, is_above, is_batch, is_first_call, is_first_heard, keys_of, names_host, rows_of}
 use Rattle.pasts.specs.Leaves.{host_of_key}
 use Rattle.pasts.specs.Messages.{Said, Rpc, Import, Tick, Read, Refused, Message, key_of}
-use Rattle.pasts.specs.Runs.{Turn, turn_body, world_of, messages_of, kept_of, batch_of}
+use Rattle.pasts.specs.Runs.{Turn, turn_body, world_of_run, messages_of, kept_of, batch_of}
 use Rattle.pasts.specs.Told.{told_fresh, told_heard, answer_from_kept, told_account, told_import, told}
-use Rattle.pasts.specs.declared.answer.Answer.{Answer}
-use Rattle.pasts.specs.declared.answer.Answer.TheVariants.{Refusal}
+use Rattle.pasts.specs.declared.answer.AnswerContent.{AnswerContent}
+use Rattle.pasts.specs.declared.answer.AnswerContent.TheVariants.{Refusal}
 use Rattle.stores.specs.declared.batch.KeptBatch.{KeptBatch}
 use Rattle.stores.specs.declared.kind.Kind.{Kind}
 use Rattle.pasts.proofs.HostKeys.{host_of_key-place, host_count}
@@ -118,7 +118,7 @@ heard_none room false kept text (Some place) = cases (bytes_eq (text_at kept pla
 pub beside_none : (room : Bool) (kept : List Kept) (seqno : ℕ) (text : List ℕ) → is_none (answer_from_kept room kept seqno text) ≡ (is_above_all seqno kept && room)
 beside_none room kept seqno text = heard_none room (is_above_all seqno kept) kept text (position (has_number seqno) kept)
 
-number_cases : (names above room : Bool) (beside : Option Answer) (x : Answer) → is_none beside ≡ (above && room)
+number_cases : (names above room : Bool) (beside : Option AnswerContent) (x : AnswerContent) → is_none beside ≡ (above && room)
     → (names && above && room) ≡ is_none (if names then beside else Some x)
 number_cases true above room beside x same = sym same
 number_cases false above room beside x same = refl
@@ -152,10 +152,10 @@ bad_import_told w None text fault = refl
 
 -- The whole law that connects the two definitions.
 pub told_none : (s : Settings) (turns : List Turn) → IsRun s turns → (said : Said)
-    → is_first_heard s (messages_of turns) said ≡ is_none (told (world_of s turns) (kept_of turns) (batch_of turns) said)
+    → is_first_heard s (messages_of turns) said ≡ is_none (told (world_of_run s turns) (kept_of turns) (batch_of turns) said)
 told_none s turns run (Rpc request) =
     let key : Key = key_of request in
-    let w : World = world_of s turns in
+    let w : World = world_of_run s turns in
     let messages : List Message = messages_of turns in
     let leaves : Leaves s w (rows_of messages) (keys_of messages) = run_leaves s turns run in
     let account : account_on (rows_of messages) request.authenticator ≡ account_place w request.authenticator =
@@ -173,11 +173,11 @@ told_none s turns run (Rpc request) =
     (λ a is. sym number ∙ ap (λ o. option_and_then (λ account. known_host w account request.host.host_cpid) o) is)
     (above_run s turns run key request.rpc_seqno) (sym (host_count w (keys_of messages) leaves.are))
 told_none s turns run (Import kind batch text (Ok rows)) =
-    let w : World = world_of s turns in
+    let w : World = world_of_run s turns in
     let leaves : Leaves s w (rows_of (messages_of turns)) (keys_of (messages_of turns)) = run_leaves s turns run in
     (λ i. not (batch_run turns kind batch i) && is_none (fault_of_rows (sym leaves.shelf_is i) rows))
     ∙ import_told w (batch_of turns kind batch) text rows
-told_none s turns run (Import kind batch text (Err fault)) = bad_import_told (world_of s turns) (batch_of turns kind batch) text fault
+told_none s turns run (Import kind batch text (Err fault)) = bad_import_told (world_of_run s turns) (batch_of turns kind batch) text fault
 told_none s turns run Tick = refl
 told_none s turns run (Read tells) = refl
 told_none s turns run (Refused fault) = refl

@@ -7,7 +7,7 @@ use Rattle.reply_register.specs.Keys.{same_key}
 use Rattle.reply_register.specs.declared.kept.Kept.{Kept}
 use Rattle.reply_register.specs.declared.key.Key.{Key}
 use Rattle.rpc_records.specs.Replies.{reply_text_of}
-use Rattle.rpc_records.specs.Spelling.{whole, canonical_text}
+use Rattle.rpc_records.specs.Spelling.{whole_json, canonical_text}
 use Rattle.rpc_records.specs.declared.request.Request.{Request}
 use Rattle.sched_book.specs.declared.machine.Answered.{Answered}
 use Rattle.sched_book.specs.declared.machine.Answered.TheVariants as answered
@@ -23,7 +23,7 @@ abbrev pub imported_json : List ℕ → List ℕ → ℕ → Data
 imported_json kind batch rows = object (
     member (codes "batch") (string batch) (
     member (codes "kind") (string kind) (
-    member (codes "rows") (whole rows)
+    member (codes "rows") (whole_json rows)
     no_members)))
 
 unfoldable pub imported_text : List ℕ → List ℕ → ℕ → List ℕ
@@ -31,7 +31,7 @@ imported_text kind batch rows = compact_text (imported_json kind batch rows)
 
 -- the answer to a tick: how many instances lapsed
 abbrev pub lapsed_json : ℕ → Data
-lapsed_json count = object (member (codes "lapsed") (whole count) no_members)
+lapsed_json count = object (member (codes "lapsed") (whole_json count) no_members)
 
 unfoldable pub lapsed_text : ℕ → List ℕ
 lapsed_text count = compact_text (lapsed_json count)

@@ -16,7 +16,7 @@ use Rattle.pasts.specs.Many.{ServesAll, followed}
 use Rattle.pasts.specs.Messages.{Said, Rpc, Message, key_of}
 use Rattle.pasts.specs.Runs.{Turn, IsInLimits, messages_of}
 use Rattle.pasts.specs.Stands.{Heard, Past, Tables, Same, StandsBy, Stands, Serves, then_heard, messages_in, new_tables, told_by}
-use Rattle.pasts.specs.declared.answer.Answer.{Answer}
+use Rattle.pasts.specs.declared.answer.AnswerContent.{AnswerContent}
 
 -- ---- the theorem
 
@@ -27,7 +27,7 @@ NewTablesStand = (s : Settings) (t : Tables) → Same t (new_tables s) → Stand
 -- tables that agree with a past agree with it and one message more, once they served that message
 abbrev pub StandsCarried : Type 0
 StandsCarried =
-    (old new : Tables) (m : Message) (answer : Answer) → Serves old m answer new → (past : Past) → Stands old past → Stands new (then_heard past m answer)
+    (old new : Tables) (m : Message) (answer : AnswerContent) → Serves old m answer new → (past : Past) → Stands old past → Stands new (then_heard past m answer)
 
 -- the same for many messages
 abbrev pub StandsCarriedByAll : Type 0
@@ -75,9 +75,9 @@ NumbersRise =
 -- ---- one run
 
 -- the calls and the worlds of a run, the oldest first
-abbrev pub calls_in : List Turn → List (Call × ℕ)
-calls_in [] = []
-calls_in (turn ∷ older) = calls_in older ++ (turn.call, turn.message.now) ∷ []
+abbrev pub calls_of_run : List Turn → List (Call × ℕ)
+calls_of_run [] = []
+calls_of_run (turn ∷ older) = calls_of_run older ++ (turn.call, turn.message.now) ∷ []
 
 abbrev pub worlds_in : List Turn → List (Answered × World)
 worlds_in [] = []
@@ -102,7 +102,7 @@ pub record IsRunTo (old : World) (calls : List (Call × ℕ)) (worlds : List (An
 abbrev pub IsOneRun : Type 0
 IsOneRun =
     (t : Tables) (past : Past) (turns : List Turn) → StandsBy t past turns
-    → IsRunTo (empty_world t.world.settings) (calls_in turns) (worlds_in turns) t.world
+    → IsRunTo (empty_world t.world.settings) (calls_of_run turns) (worlds_in turns) t.world
 
 -- some run leads from one world to another
 abbrev pub RunsTo : World → World → Type 0

@@ -7,7 +7,7 @@ use Rattle.rpc_records.specs.declared.request.Request.{Request}
 use Rattle.sched_book.specs.declared.rows.Rows.{Rows}
 use Rattle.sched_book.specs.declared.world.World.{World}
 use Rattle.stores.specs.Eras.{this_era}
-use Rattle.pasts.specs.declared.answer.Answer.{Answer}
+use Rattle.pasts.specs.declared.answer.AnswerContent.{AnswerContent}
 use Rattle.stores.specs.declared.kind.Kind.{Kind}
 
 -- What a message can be. It is a call of a host; an import with its bytes, and the rows that they say or their first fault; a tick; a read
@@ -16,7 +16,7 @@ pub data Said : Type 0 where
   Rpc : (request : Request) → Said
   Import : (kind : Kind) (batch text : List ℕ) (read : Result Rows Fault) → Said
   Tick : Said
-  Read : (tells : World → Answer) → Said
+  Read : (tells : World → AnswerContent) → Said
   Refused : (fault : Fault) → Said
 
 -- A message, its moment, and the era in which it came.

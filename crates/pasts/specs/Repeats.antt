@@ -15,7 +15,7 @@ use Rattle.pasts.specs.FirstHeard.{names_host, is_batch, is_first_heard, first_h
 use Rattle.pasts.specs.Leaves.{host_of_key}
 use Rattle.pasts.specs.Messages.{Said, Rpc, Import, key_of}
 use Rattle.pasts.specs.Stands.{Heard, Past, Tables, Stands, messages_in, told_by}
-use Rattle.pasts.specs.declared.answer.Answer.TheVariants.{Refusal}
+use Rattle.pasts.specs.declared.answer.AnswerContent.TheVariants.{Refusal}
 use Rattle.stores.specs.declared.kind.Kind.{Kind}
 
 -- a call of this key
@@ -24,10 +24,10 @@ is_call_of key (Rpc request) = same_key key (key_of request)
 is_call_of key said = false
 
 -- the newest first-heard message of a past that passes
-abbrev pub newest : Settings → (Said → Bool) → Past → Option Heard
-newest s passes [] = None
-newest s passes (h ∷ past) =
-    if is_first_heard s (first_heard s (messages_in past)) h.message.said && passes h.message.said then Some h else newest s passes past
+abbrev pub newest_heard : Settings → (Said → Bool) → Past → Option Heard
+newest_heard s passes [] = None
+newest_heard s passes (h ∷ past) =
+    if is_first_heard s (first_heard s (messages_in past)) h.message.said && passes h.message.said then Some h else newest_heard s passes past
 
 -- this message, after this past, is a first-heard call of the key
 abbrev pub is_first_of : Settings → Key → Past → Heard → Bool
@@ -84,4 +84,4 @@ pub record IsBatchTold (t : Tables) (h : Heard) (kind : Kind) (batch text : List
 abbrev pub BatchesCountOnce : Type 0
 BatchesCountOnce =
     (t : Tables) (past : Past) (h : Heard) (kind : Kind) (batch text : List ℕ) (read : Result Rows Fault) → Stands t past
-    → newest t.world.settings (is_batch kind batch) past ≡ Some h → h.message.said ≡ Import kind batch text read → IsBatchTold t h kind batch text
+    → newest_heard t.world.settings (is_batch kind batch) past ≡ Some h → h.message.said ≡ Import kind batch text read → IsBatchTold t h kind batch text

@@ -40,9 +40,9 @@ abbrev pub turn_body : Turn → List ℕ
 turn_body turn = body_of turn.answered turn.message.said
 
 -- the world after these turns
-abbrev pub world_of : Settings → List Turn → World
-world_of s [] = empty_world s
-world_of s (turn ∷ older) = turn.after
+abbrev pub world_of_run : Settings → List Turn → World
+world_of_run s [] = empty_world s
+world_of_run s (turn ∷ older) = turn.after
 
 abbrev pub messages_of : List Turn → List Message
 messages_of turns = map (λ (turn : Turn). turn.message) turns
@@ -51,7 +51,7 @@ messages_of turns = map (λ (turn : Turn). turn.message) turns
 pub record IsTurn (s : Settings) (turn : Turn) (older : List Turn) : Type 0 where
   pub is_call : SaysCall turn.message.said turn.call
   pub limits : IsInLimits turn.call turn.message.now
-  pub step : Step (world_of s older) turn.call turn.message.now turn.after turn.answered
+  pub step : Step (world_of_run s older) turn.call turn.message.now turn.after turn.answered
 
 -- what is kept of a key: its last calls in the run, the last one first
 abbrev pub kept_of : List Turn → Key → List Kept

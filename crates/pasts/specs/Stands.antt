@@ -11,10 +11,10 @@ use Rattle.sched_book.specs.declared.world.World.{World}
 use Rattle.pasts.specs.Answers.{body_of, kept_after, batch_after}
 use Rattle.pasts.specs.FirstHeard.{is_first_heard, first_heard}
 use Rattle.pasts.specs.Messages.{Said, Message}
-use Rattle.pasts.specs.Runs.{Turn, SaysCall, IsInLimits, IsTurn, turn_body, world_of, kept_of, batch_of}
+use Rattle.pasts.specs.Runs.{Turn, SaysCall, IsInLimits, IsTurn, turn_body, world_of_run, kept_of, batch_of}
 use Rattle.pasts.specs.Told.{told}
-use Rattle.pasts.specs.declared.answer.Answer.{Answer}
-use Rattle.pasts.specs.declared.answer.Answer.TheVariants.{Good}
+use Rattle.pasts.specs.declared.answer.AnswerContent.{AnswerContent}
+use Rattle.pasts.specs.declared.answer.AnswerContent.TheVariants.{Good}
 use Rattle.stores.specs.declared.batch.KeptBatch.{KeptBatch}
 use Rattle.stores.specs.declared.kind.Kind.{Kind}
 
@@ -22,12 +22,12 @@ use Rattle.stores.specs.declared.kind.Kind.{Kind}
 -- nothing and is not in it.
 pub record Heard : Type 0 where
   pub message : Message
-  pub answer : Answer
+  pub answer : AnswerContent
 
 abbrev pub Past : Type 0
 Past = List Heard
 
-abbrev pub then_heard : Past → Message → Answer → Past
+abbrev pub then_heard : Past → Message → AnswerContent → Past
 then_heard past message answer = record { message = message; answer = answer } ∷ past
 
 abbrev pub messages_in : Past → List Message
@@ -52,7 +52,7 @@ new_tables s = record { world = empty_world s; calls = λ key. []; batches = λ 
 -- ---- a past
 
 -- A first-heard message makes one turn after the older ones, and its answer is that turn's.
-pub record Acts (s : Settings) (h : Heard) (turn : Turn) (older : List Turn) : Type 0 where
+pub record MakesTurn (s : Settings) (h : Heard) (turn : Turn) (older : List Turn) : Type 0 where
   pub message : turn.message ≡ h.message
   pub step : IsTurn s turn older
   pub answer : h.answer ≡ Good (turn_body turn)
@@ -63,14 +63,14 @@ abbrev pub Answers : Settings → Past → List Turn → Type 0
 Answers s [] turns = turns ≡ []
 Answers s (h ∷ past) turns =
     let first = is_first_heard s (first_heard s (messages_in past)) h.message.said in
-    ((first ≡ true) × (turn : Turn) × (older : List Turn) × (turns ≡ turn ∷ older) × Acts s h turn older × Answers s past older)
-    ⊎ ((first ≡ false) × (told (world_of s turns) (kept_of turns) (batch_of turns) h.message.said ≡ Some h.answer) × Answers s past turns)
+    ((first ≡ true) × (turn : Turn) × (older : List Turn) × (turns ≡ turn ∷ older) × MakesTurn s h turn older × Answers s past older)
+    ⊎ ((first ≡ false) × (told (world_of_run s turns) (kept_of turns) (batch_of turns) h.message.said ≡ Some h.answer) × Answers s past turns)
 
 -- Tables agree with a past, with a run that answers it. Their world is the one that the run leaves, and for each key and batch they keep
 -- what it kept.
 pub record StandsBy (t : Tables) (past : Past) (turns : List Turn) : Type 0 where
   pub answers : Answers t.world.settings past turns
-  pub world : t.world ≡ world_of t.world.settings turns
+  pub world : t.world ≡ world_of_run t.world.settings turns
   pub calls : (key : Key) → t.calls key ≡ kept_of turns key
   pub batches : (kind : Kind) (batch : List ℕ) → t.batches kind batch ≡ batch_of turns kind batch
 
@@ -81,11 +81,11 @@ Stands t past = (turns : List Turn) × StandsBy t past turns
 -- ---- one message
 
 -- the answer to a message that changes nothing; none for a first-heard one
-abbrev pub told_by : Tables → Said → Option Answer
+abbrev pub told_by : Tables → Said → Option AnswerContent
 told_by t said = told t.world t.calls t.batches said
 
 -- A first-heard message makes one step, and is kept with its answer.
-pub record Commits (old : Tables) (m : Message) (answer : Answer) (new : Tables) : Type 0 where
+pub record Commits (old : Tables) (m : Message) (answer : AnswerContent) (new : Tables) : Type 0 where
   pub call : Call
   pub answered : Answered
   pub is_call : SaysCall m.said call
@@ -96,10 +96,10 @@ pub record Commits (old : Tables) (m : Message) (answer : Answer) (new : Tables)
   pub batches : (kind : Kind) (batch : List ℕ) → new.batches kind batch ≡ batch_after kind batch m.said (body_of answered m.said) (old.batches kind batch)
 
 -- a message with such an answer changes nothing
-abbrev pub ServesAs : Option Answer → Tables → Message → Answer → Tables → Type 0
+abbrev pub ServesAs : Option AnswerContent → Tables → Message → AnswerContent → Tables → Type 0
 ServesAs (Some told) old m answer new = (answer ≡ told) × Same new old
 ServesAs None old m answer new = Commits old m answer new
 
 -- what one message does, for any tables
-abbrev pub Serves : Tables → Message → Answer → Tables → Type 0
+abbrev pub Serves : Tables → Message → AnswerContent → Tables → Type 0
 Serves old m answer new = ServesAs (told_by old m.said) old m answer new

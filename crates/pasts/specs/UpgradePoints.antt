@@ -7,7 +7,7 @@ use Rattle.stores.specs.Eras.{era_at, new_upgrade_points}
 use Rattle.pasts.specs.Messages.{Message}
 use Rattle.pasts.specs.Repeats.{calls_heard, kept_calls}
 use Rattle.pasts.specs.Stands.{Heard, Past, then_heard}
-use Rattle.pasts.specs.declared.answer.Answer.{Answer}
+use Rattle.pasts.specs.declared.answer.AnswerContent.{AnswerContent}
 
 -- each message is of the era of its place
 abbrev pub AreOfEras : List ℕ → Past → Type 0
@@ -28,7 +28,7 @@ NewPastsAreInEra = (era : ℕ) → IsInEra era (new_upgrade_points era) []
 -- a past stays in its era with one message more of that era
 abbrev pub ErasGoOn : Type 0
 ErasGoOn =
-    (era : ℕ) (upgrade_points : List ℕ) (past : Past) (m : Message) (answer : Answer) → IsInEra era upgrade_points past → m.era ≡ era
+    (era : ℕ) (upgrade_points : List ℕ) (past : Past) (m : Message) (answer : AnswerContent) → IsInEra era upgrade_points past → m.era ≡ era
     → IsInEra era upgrade_points (then_heard past m answer)
 
 -- An upgrade leads to the next era. Its upgrade point is the length of the past. No message of the past changes its era.

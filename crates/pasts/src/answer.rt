@@ -5,7 +5,7 @@ use texts::Text;
 
 /// The answer to a message, before it is written as a response.
 #[derive(Drop)]
-pub enum Answer {
+pub enum AnswerContent {
     /// A good answer with this body: a reply, or what an import or a tick did.
     Good(Text),
     /// A text about what is stored.

@@ -8,4 +8,4 @@
 mod answer;
 pub mod laws;
 
-pub use answer::Answer;
+pub use answer::AnswerContent;

@@ -188,9 +188,9 @@ fit_more entry cs more c pushed one before =
       limited = subst IsLimited (sym (fold-append edited_one entry cs (c ∷ []))) next.1;
     })
 
--- the changes of a page of a sound world fit, if the page began with none
-pub page_fits : (w v : World) (before after : List Edit) → v ≡ w → before ≡ [] → (FitWithin v before → FitWithin v after) → Sound w → EditsFit w after
-page_fits w v before after same none more sound =
+-- the changes of a call state of a sound world fit, if the call state began with none
+pub call_state_fits : (w v : World) (before after : List Edit) → v ≡ w → before ≡ [] → (FitWithin v before → FitWithin v after) → Sound w → EditsFit w after
+call_state_fits w v before after same none more sound =
     subst (λ u. EditsFit u after) same
     (more (record {
       fits = subst (EditsFit v) (sym none) tt;

@@ -3,8 +3,8 @@ use Rattle.std.proofs.Common.{◌≡◌, ℕ, suc, ◌+◌, ◌-◌, ◌<◌, Li
 use Rattle.sched_book.specs.Settle.{fresh}
 use Rattle.sched_book.specs.declared.delta.Edit.{Edit}
 use Rattle.sched_book.specs.declared.delta.Edit.TheVariants as edit
-use Rattle.call_sheet.specs.Leaf.{Leaf}
-use Rattle.quorum_credit.specs.Leaves.{growth_on}
+use Rattle.call_sheet.specs.UnitState.{UnitState}
+use Rattle.quorum_credit.specs.UnitStates.{growth_on}
 use Rattle.quorum_credit.specs.Growing.{fresh_changes}
 use Rattle.quorum_credit.specs.Settled.{new_instances}
 
@@ -27,7 +27,7 @@ fresh_step before more all unit number end less pushed told =
     ∙ told
 
 -- what a workunit is to get, by the numbers of the instances
-pub growth_by_numbers : (unit first end : ℕ) (k : Leaf) → first ≡ length k.present → end ≡ length k.present + new_instances k.agreement k.unit k.present
+pub growth_by_numbers : (unit first end : ℕ) (k : UnitState) → first ≡ length k.present → end ≡ length k.present + new_instances k.agreement k.unit k.present
     → fresh_changes unit first (end - first) ≡ growth_on unit (Some k)
 growth_by_numbers unit first end k first_is end_is =
     let count : end - first ≡ new_instances k.agreement k.unit k.present = omega arith in

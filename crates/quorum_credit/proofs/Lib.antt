@@ -1,6 +1,6 @@
 pub mod FirstNames
 pub mod Recorded
-pub mod OnLeaves
+pub mod OnUnitStates
 pub mod Touching
 pub mod FitReports
 pub mod LateOnes

@@ -25,8 +25,8 @@ use Rattle.sched_book.proofs.PlacesOf.{nth-modify_nth, nth-within}
 use Rattle.sched_book.proofs.Settling.{settlement_is_pointwise}
 use Rattle.quorum_credit.specs.Scores.{charges_in, merits_in, unit_charges, unit_merits}
 use Rattle.quorum_credit.specs.Settling.{TouchJust, with_grown_among, quota_by, with_quotas_by, AreHostsInLimits, AreUnitsInLimits, AreQuotasBy, IsSettlement}
-use Rattle.call_sheet.specs.Sheets.{IsLeafAt, AreAllOf, AreRising, is_among}
-use Rattle.call_sheet.specs.Leaf.{Leaf}
+use Rattle.call_sheet.specs.WorkingSets.{IsUnitStateAt, AreAllOf, AreRising, is_among}
+use Rattle.call_sheet.specs.UnitState.{UnitState}
 use Rattle.quorum_credit.specs.Growing.{all_growth}
 use Rattle.quorum_credit.specs.Scoring.{scores_of_units}
 use Rattle.quorum_credit.specs.Taken.{touches, AreTouched}
@@ -259,16 +259,16 @@ module _ (w : World) (cs more all : List Edit) (units : List ℕ) (settlement : 
   joined_fit sound fits touched = subst (EditsFit w) (sym joined) (settlement.fits sound fits (just_touched touched))
 
 -- A call touches only workunits that it has read.
-pub read_touch : (entry present : World) (kept : ℕ → Option Leaf) (units : List ℕ)
+pub read_touch : (entry present : World) (kept : ℕ → Option UnitState) (units : List ℕ)
     → present ≡ record entry { units = present.units; hosts = present.hosts }
-    → ((unit : ℕ) → IsLeafAt entry present unit (kept unit)) → AreAllOf kept units → TouchJust units entry present
-read_touch entry present kept units rest leaves all = record {
+    → ((unit : ℕ) → IsUnitStateAt entry present unit (kept unit)) → AreAllOf kept units → TouchJust units entry present
+read_touch entry present kept units rest unit_states all = record {
   rising = all.rising;
   settings = ap (λ (w : World). w.settings) rest;
   apps = ap (λ (w : World). w.apps) rest;
-  others = λ unit other. cases unit (kept unit) (leaves unit) (all.all unit ∙ other);
+  others = λ unit other. cases unit (kept unit) (unit_states unit) (all.all unit ∙ other);
 }
   where
-    cases : (unit : ℕ) (o : Option Leaf) → IsLeafAt entry present unit o → is_some o ≡ false → unit_at present unit ≡ unit_at entry unit
-    cases unit None leaf none = leaf
-    cases unit (Some k) leaf none = absurd cc
+    cases : (unit : ℕ) (o : Option UnitState) → IsUnitStateAt entry present unit o → is_some o ≡ false → unit_at present unit ≡ unit_at entry unit
+    cases unit None unit_state none = unit_state
+    cases unit (Some k) unit_state none = absurd cc

@@ -7,5 +7,5 @@ pub mod Settling
 pub mod Tallies
 pub mod Growing
 pub mod Scoring
-pub mod Leaves
+pub mod UnitStates
 pub mod CreditKept

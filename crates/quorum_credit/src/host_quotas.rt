@@ -26,16 +26,16 @@ struct Tally {
 /// Adds the host of a tally, with its new quota, after the others. Refused if the host does not exist.
 fn add_quota<S: Draft>(
     alloc: Global,
-    sheet: &mut S,
+    working_set: &mut S,
     limit: u32,
     quotas: &mut Edits,
     tally: &Tally,
 ) -> Result<(), Unavailable>
-    ensures reads { S.reads sheet.old sheet.new }
-    ensures answer { Trusted S.Units sheet.old sheet.new (
-        OnOk result (quotas.new ≡ quotas.old ++ new_quotas (S.world sheet.old) limit (tally.now ∷ []))) }
+    ensures reads { S.reads working_set.old working_set.new }
+    ensures answer { Trusted S.Units working_set.old working_set.new (
+        OnOk result (quotas.new ≡ quotas.old ++ new_quotas (S.world working_set.old) limit (tally.now ∷ []))) }
 {
-    let Some(host) = sheet.host(alloc, tally.host)? else {
+    let Some(host) = working_set.host(alloc, tally.host)? else {
         return Err(Unavailable(Cause::Broken(Invariant::ScoredHost)));
     };
     quotas.push(Edit::Host {
@@ -51,17 +51,17 @@ fn add_quota<S: Draft>(
 /// The hosts of these tallies with their new quotas, in their order.
 fn quotas_in_turn<S: Draft>(
     alloc: Global,
-    sheet: &mut S,
+    working_set: &mut S,
     limit: u32,
     tallies: &[Tally],
 ) -> Result<Edits, Unavailable>
-    ensures reads { S.reads sheet.old sheet.new }
-    ensures answer { Trusted S.Units sheet.old sheet.new (
-        IfOk result (λ quotas. quotas ≡ new_quotas (S.world sheet.old) limit tallies.now)) }
+    ensures reads { S.reads working_set.old working_set.new }
+    ensures answer { Trusted S.Units working_set.old working_set.new (
+        IfOk result (λ quotas. quotas ≡ new_quotas (S.world working_set.old) limit tallies.now)) }
 {
     let mut quotas = Listed::new(alloc);
     for tally in tallies {
-        add_quota(alloc, sheet, limit, &mut quotas, tally)?;
+        add_quota(alloc, working_set, limit, &mut quotas, tally)?;
     }
     Ok(quotas)
 }
@@ -126,14 +126,14 @@ fn sums_of(alloc: Global, scores: &[Score]) -> Result<Vec<Tally>, Unavailable>
 /// The hosts that these scores name, each with the quota that results from them.
 pub(crate) fn new_quotas<S: Draft>(
     alloc: Global,
-    sheet: &mut S,
+    working_set: &mut S,
     scores: &[Score],
 ) -> Result<Edits, Unavailable>
-    ensures reads { S.reads sheet.old sheet.new }
-    ensures answer { Trusted S.Units sheet.old sheet.new (
-        IfOk result (λ quotas. AreQuotasBy scores.now (S.world sheet.old) quotas)) }
+    ensures reads { S.reads working_set.old working_set.new }
+    ensures answer { Trusted S.Units working_set.old working_set.new (
+        IfOk result (λ quotas. AreQuotasBy scores.now (S.world working_set.old) quotas)) }
 {
     let sums = sums_of(alloc, scores)?;
-    let limit = sheet.settings().daily_result_quota;
-    quotas_in_turn(alloc, sheet, limit, sums.as_slice())
+    let limit = working_set.settings().daily_result_quota;
+    quotas_in_turn(alloc, working_set, limit, sums.as_slice())
 }

@@ -3,8 +3,8 @@
 //! A host reports the results of its jobs. If enough outputs agree, the workunit is done. A workunit that is still open
 //! gets the instances that it lacks. BOINC's clients report in scheduler requests; what is counted, and how a host's
 //! daily quota moves, is this profile's. Everything is counted from scratch by [`sched_book::count`]. The steps of a
-//! call ([`record_on`], [`lapse_on`], [`settle_on`]) put their changes on its sheet. A function that has only a desk
-//! reads it, and returns the edits.
+//! call ([`record_on`], [`lapse_on`], [`settle_on`]) put their changes in its working set. A function that has only a
+//! desk reads it, and returns the edits.
 #![tactic(auto)]
 
 mod growth;

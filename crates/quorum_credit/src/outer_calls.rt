@@ -1,5 +1,5 @@
 //! Calls that the program does not make. They are for a caller that counts one workunit by itself, or has a desk and no
-//! sheet: tests, or another scheduler. They use the steps that the program runs, [`record_on`], [`settle_on`] and
+//! working set: tests, or another scheduler. They use the steps that the program runs, [`record_on`], [`settle_on`] and
 //! [`lapse_places`].
 
 ghost use Rattle.std.specs.Prelude.{◌≡◌, ◌≤◌, ◌++◌, All, drop, length, map, IfOk, OnOk};
@@ -12,7 +12,7 @@ ghost use Rattle.sched_book.specs.Settle.{settled};
 ghost use Rattle.sched_book.specs.Sound.{Sound};
 ghost use Rattle.sched_book.specs.Step.{lapsed};
 ghost use Rattle.sched_book.specs.Trusted.{Trusted};
-ghost use Rattle.call_sheet.specs.Sheets.{IsPageOf};
+ghost use Rattle.call_sheet.specs.WorkingSets.{IsCallStateOf};
 ghost use Rattle.quorum_credit.specs.Settled.{new_instances, verdicts};
 ghost use Rattle.quorum_credit.specs.Settling.{IsSettlement};
 ghost use Rattle.quorum_credit.specs.Taken.{AreTouched};
@@ -21,7 +21,7 @@ use crate::reports::record_on;
 use crate::settlement::new_instances;
 use crate::settling::{lapse_places, settle_on};
 use arrayvec::ArrayVec;
-use call_sheet::{Page, Sheet, put_all};
+use call_sheet::{CallState, WorkingSet, put_all};
 use rpc_records::Request;
 use sched_book::limits::MOST_INSTANCES;
 use sched_book::{
@@ -151,14 +151,14 @@ pub fn take_reports<D: Desk>(
         IfOk result (λ taken. All IsReport request.now.results → Sound (D.world desk.old) → EditsFit (D.world desk.old) taken.edits)) }
     ensures touched { IfOk result (λ taken. AreTouched taken.edits taken.touched) }
 {
-    let mut page = Page::new(alloc, desk.settings(alloc)?);
-    let mut sheet = Sheet {
+    let mut call_state = CallState::new(alloc, desk.settings(alloc)?);
+    let mut working_set = WorkingSet {
         desk,
-        page: &mut page,
+        call_state: &mut call_state,
     };
-    let acked = record_on(alloc, &mut sheet, host, request)?;
-    drop(sheet);
-    let Page { edits, .. } = page;
+    let acked = record_on(alloc, &mut working_set, host, request)?;
+    drop(working_set);
+    let CallState { edits, .. } = call_state;
     let touched = touched_by(alloc, edits.as_slice())?;
     Ok(Taken {
         edits,
@@ -167,22 +167,22 @@ pub fn take_reports<D: Desk>(
     })
 }
 
-/// The same over a desk with a page, after edits that are made first.
+/// The same over a desk with a call state, after edits that are made first.
 fn settle_onto<D: Desk>(
     alloc: Global,
     desk: &mut D,
-    page: &mut Page,
+    call_state: &mut CallState,
     edits: &Edits,
     touched: &[u32],
 ) -> Result<(), Unavailable>
     ensures reads { D.reads desk.old desk.new }
-    ensures page { Trusted D.Units desk.old desk.new (IsPageOf (D.world desk.old) page.old → IsPageOf (D.world desk.old) page.new) }
-    ensures settled { Trusted D.Units desk.old desk.new (IsPageOf (D.world desk.old) page.old → OnOk result (
-        IsSettlement (D.world desk.old) (page.old.edits ++ edits.now) page.new.edits touched.now)) }
+    ensures call_state { Trusted D.Units desk.old desk.new (IsCallStateOf (D.world desk.old) call_state.old → IsCallStateOf (D.world desk.old) call_state.new) }
+    ensures settled { Trusted D.Units desk.old desk.new (IsCallStateOf (D.world desk.old) call_state.old → OnOk result (
+        IsSettlement (D.world desk.old) (call_state.old.edits ++ edits.now) call_state.new.edits touched.now)) }
 {
-    let mut sheet = Sheet { desk, page };
-    put_all(alloc, &mut sheet, edits.as_slice())?;
-    settle_on(alloc, &mut sheet, touched)?;
+    let mut working_set = WorkingSet { desk, call_state };
+    put_all(alloc, &mut working_set, edits.as_slice())?;
+    settle_on(alloc, &mut working_set, touched)?;
     Ok(())
 }
 
@@ -213,9 +213,9 @@ pub fn settle_all<D: Desk>(
         Sound (D.world desk.old) → EditsFit (D.world desk.old) edits.now → AreTouched edits.now touched.now →
         EditsFit (D.world desk.old) (edits.now ++ more))) }
 {
-    let mut page = Page::new(alloc, desk.settings(alloc)?);
-    settle_onto(alloc, desk, &mut page, edits, touched)?;
-    Ok(edits_after(alloc, page.edits, edits.len())?)
+    let mut call_state = CallState::new(alloc, desk.settings(alloc)?);
+    settle_onto(alloc, desk, &mut call_state, edits, touched)?;
+    Ok(edits_after(alloc, call_state.edits, edits.len())?)
 }
 
 /// Lets each held instance whose deadline is before this moment lapse late, and settles their workunits.

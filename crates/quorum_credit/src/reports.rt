@@ -7,11 +7,11 @@ ghost use Rattle.rpc_records.specs.declared.request.Report.{Report};
 ghost use Rattle.sched_book.specs.Limits.{most_instances};
 ghost use Rattle.sched_book.specs.Reports.{first_reports, with_report, record_at, record_one};
 ghost use Rattle.sched_book.specs.Trusted.{Trusted};
-ghost use Rattle.quorum_credit.specs.Leaves.{reported_on};
+ghost use Rattle.quorum_credit.specs.UnitStates.{reported_on};
 ghost use Rattle.quorum_credit.specs.Limited.{FitWithin};
 ghost use Rattle.quorum_credit.specs.Taken.{place_among};
 
-use call_sheet::{Draft, Leaf, place_before};
+use call_sheet::{Draft, UnitState, place_before};
 use rpc_records::{Report, Request};
 use sched_book::{Instance, Outcome, Place, Unavailable, first_of_each};
 use std::alloc::Global;
@@ -59,21 +59,21 @@ fn with_report(report: &Report, place: Option<u32>, instance: &Instance) -> Resu
     })
 }
 
-/// The instance of this number on a leaf with one more report, if it awaits one from this host. The report is judged if
-/// the workunit had not failed before the call.
+/// The instance of this number in a unit state with one more report, if it awaits one from this host. The report is
+/// judged if the workunit had not failed before the call.
 fn reported_on(
     host: u32,
     report: &Report,
-    leaf: Option<&Leaf>,
+    unit_state: Option<&UnitState>,
     number: u32,
 ) -> Result<Option<Instance>, Memory>
-    ensures { IfOk result (λ row. row ≡ reported_on host report.now (option_copied leaf.entry) number) }
+    ensures { IfOk result (λ row. row ≡ reported_on host report.now (option_copied unit_state.entry) number) }
 {
-    let Some(leaf) = leaf else {
+    let Some(unit_state) = unit_state else {
         return Ok(None);
     };
-    let failed = leaf.status_before().has_failed();
-    let instances = leaf.present();
+    let failed = unit_state.status_before().has_failed();
+    let instances = unit_state.present();
     let Some(instance) = instances.get(number as usize) else {
         return Ok(None);
     };
@@ -87,22 +87,22 @@ fn reported_on(
 /// Puts what one report changes of the instance at a place.
 fn put_report<S: Draft>(
     alloc: Global,
-    sheet: &mut S,
+    working_set: &mut S,
     host: u32,
     report: &Report,
     place: Place,
 ) -> Result<(), Unavailable>
-    ensures works { S.works sheet.old sheet.new }
-    ensures put { Trusted S.Units sheet.old sheet.new (
-        OnOk result (S.world sheet.new ≡ record_at (S.entry sheet.old) host report.now (S.world sheet.old) place)) }
-    ensures fits { Trusted S.Units sheet.old sheet.new (OnOk result (IsReport report.now →
-        FitWithin (S.entry sheet.old) (S.edits sheet.old) → FitWithin (S.entry sheet.old) (S.edits sheet.new))) }
+    ensures works { S.works working_set.old working_set.new }
+    ensures put { Trusted S.Units working_set.old working_set.new (
+        OnOk result (S.world working_set.new ≡ record_at (S.entry working_set.old) host report.now (S.world working_set.old) place)) }
+    ensures fits { Trusted S.Units working_set.old working_set.new (OnOk result (IsReport report.now →
+        FitWithin (S.entry working_set.old) (S.edits working_set.old) → FitWithin (S.entry working_set.old) (S.edits working_set.new))) }
 {
-    sheet.read(alloc, place.unit)?;
-    match reported_on(host, report, sheet.leaf(place.unit), place.number)? {
+    working_set.read(alloc, place.unit)?;
+    match reported_on(host, report, working_set.unit_state(place.unit), place.number)? {
         None => Ok(()),
         Some(row) => {
-            sheet.put_instance(place, &row)?;
+            working_set.put_instance(place, &row)?;
             Ok(())
         }
     }
@@ -111,43 +111,43 @@ fn put_report<S: Draft>(
 /// Puts what one report changes.
 fn take_report<S: Draft>(
     alloc: Global,
-    sheet: &mut S,
+    working_set: &mut S,
     host: u32,
     report: &Report,
 ) -> Result<(), Unavailable>
-    ensures works { S.works sheet.old sheet.new }
-    ensures taken { Trusted S.Units sheet.old sheet.new (
-        OnOk result (S.world sheet.new ≡ record_one (S.entry sheet.old) host (S.world sheet.old) report.now)) }
-    ensures fits { Trusted S.Units sheet.old sheet.new (OnOk result (IsReport report.now →
-        FitWithin (S.entry sheet.old) (S.edits sheet.old) → FitWithin (S.entry sheet.old) (S.edits sheet.new))) }
+    ensures works { S.works working_set.old working_set.new }
+    ensures taken { Trusted S.Units working_set.old working_set.new (
+        OnOk result (S.world working_set.new ≡ record_one (S.entry working_set.old) host (S.world working_set.old) report.now)) }
+    ensures fits { Trusted S.Units working_set.old working_set.new (OnOk result (IsReport report.now →
+        FitWithin (S.entry working_set.old) (S.edits working_set.old) → FitWithin (S.entry working_set.old) (S.edits working_set.new))) }
 {
-    match place_before(alloc, sheet, report.name.as_str())? {
+    match place_before(alloc, working_set, report.name.as_str())? {
         None => Ok(()),
-        Some(place) => put_report(alloc, sheet, host, report, place),
+        Some(place) => put_report(alloc, working_set, host, report, place),
     }
 }
 
 /// Puts what these reports change, in their order.
 fn take_in_turn<S: Draft>(
     alloc: Global,
-    sheet: &mut S,
+    working_set: &mut S,
     host: u32,
     reports: &[&Report],
 ) -> Result<(), Unavailable>
-    ensures works { S.works sheet.old sheet.new }
-    ensures taken { Trusted S.Units sheet.old sheet.new (OnOk result (
-        S.world sheet.new ≡ fold (record_one (S.entry sheet.old) host) (S.world sheet.old) (map (λ r. r.now) reports.now))) }
-    ensures fits { Trusted S.Units sheet.old sheet.new (OnOk result (All (λ r. IsReport r.now) reports.now →
-        FitWithin (S.entry sheet.old) (S.edits sheet.old) → FitWithin (S.entry sheet.old) (S.edits sheet.new))) }
+    ensures works { S.works working_set.old working_set.new }
+    ensures taken { Trusted S.Units working_set.old working_set.new (OnOk result (
+        S.world working_set.new ≡ fold (record_one (S.entry working_set.old) host) (S.world working_set.old) (map (λ r. r.now) reports.now))) }
+    ensures fits { Trusted S.Units working_set.old working_set.new (OnOk result (All (λ r. IsReport r.now) reports.now →
+        FitWithin (S.entry working_set.old) (S.edits working_set.old) → FitWithin (S.entry working_set.old) (S.edits working_set.new))) }
 {
     for report in reports {
-        take_report(alloc, sheet, host, report)?;
+        take_report(alloc, working_set, host, report)?;
     }
     Ok(())
 }
 
-/// Puts what the reports of a call from the host of this number change on the sheet of the call. Returns the names that
-/// are acknowledged, each once, in the order of their first places.
+/// Puts what the reports of a call from the host of this number change in the working set of the call. Returns the
+/// names that are acknowledged, each once, in the order of their first places.
 ///
 /// The first report of each name counts. It is recorded if the instance was given to the host, which has not reported it
 /// yet, even if it lapsed. It is judged if the workunit had not failed before the call, and then gets the next place
@@ -158,19 +158,19 @@ fn take_in_turn<S: Draft>(
 /// [`Unavailable`] if there is no memory or the desk is unavailable.
 pub fn record_on<S: Draft>(
     alloc: Global,
-    sheet: &mut S,
+    working_set: &mut S,
     host: u32,
     request: &Request,
 ) -> Result<Listed<Text>, Unavailable>
-    ensures works { S.works sheet.old sheet.new }
-    ensures recorded { Trusted S.Units sheet.old sheet.new (OnOk result (
-        S.world sheet.new ≡ fold (record_one (S.entry sheet.old) host) (S.world sheet.old) (first_reports request.now.results))) }
+    ensures works { S.works working_set.old working_set.new }
+    ensures recorded { Trusted S.Units working_set.old working_set.new (OnOk result (
+        S.world working_set.new ≡ fold (record_one (S.entry working_set.old) host) (S.world working_set.old) (first_reports request.now.results))) }
     ensures acked { IfOk result (λ acked. acked ≡ map (λ (r : Report). r.name) (first_reports request.now.results)) }
-    ensures fits { Trusted S.Units sheet.old sheet.new (OnOk result (All IsReport request.now.results →
-        FitWithin (S.entry sheet.old) (S.edits sheet.old) → FitWithin (S.entry sheet.old) (S.edits sheet.new))) }
+    ensures fits { Trusted S.Units working_set.old working_set.new (OnOk result (All IsReport request.now.results →
+        FitWithin (S.entry working_set.old) (S.edits working_set.old) → FitWithin (S.entry working_set.old) (S.edits working_set.new))) }
 {
     let firsts = first_of_each(alloc, request.results.as_slice())?;
     let acked = names_of(alloc, firsts.as_slice())?;
-    take_in_turn(alloc, sheet, host, firsts.as_slice())?;
+    take_in_turn(alloc, working_set, host, firsts.as_slice())?;
     Ok(acked)
 }

@@ -4,12 +4,12 @@ ghost use Rattle.std.specs.Prelude.{◌≡◌, ◌≤◌, ◌++◌, Some, map, I
 ghost use Rattle.sched_book.specs.Count.{is_invalid, verdict_by};
 ghost use Rattle.sched_book.specs.Settle.{is_late};
 ghost use Rattle.sched_book.specs.Trusted.{Trusted};
-ghost use Rattle.quorum_credit.specs.Leaves.{scores_on};
+ghost use Rattle.quorum_credit.specs.UnitStates.{scores_on};
 ghost use Rattle.quorum_credit.specs.Scores.{one_if_new, charges_between, credit_between};
 ghost use Rattle.quorum_credit.specs.Scoring.{owned_standing, standing_of, score_of, scores_from, scores_at, scores_of_units};
 ghost use Rattle.quorum_credit.specs.declared.scores.Score.{Score};
 
-use call_sheet::{Draft, Leaf};
+use call_sheet::{Draft, UnitState};
 use sched_book::{Agreement, Instance, Lapse, Owner, Unavailable, Verdict, count};
 use std::alloc::Global;
 use texts::{Listed, Memory};
@@ -179,43 +179,43 @@ fn push_scores(
     Ok(())
 }
 
-/// Adds what is new of the instances of a leaf since the call came after the other scores.
-fn push_scores_on(alloc: Global, scores: &mut Listed<Score>, leaf: &Leaf) -> Result<(), Memory>
-    ensures { OnOk result (scores.new ≡ scores.old ++ scores_on (Some leaf.now)) }
+/// Adds what is new of the instances of a unit state since the call came after the other scores.
+fn push_scores_on(alloc: Global, scores: &mut Listed<Score>, unit_state: &UnitState) -> Result<(), Memory>
+    ensures { OnOk result (scores.new ≡ scores.old ++ scores_on (Some unit_state.now)) }
 {
-    let agreement = leaf.agreement();
+    let agreement = unit_state.agreement();
     let old = standings_by(
         alloc,
         &agreement,
-        leaf.decided_before().canonical,
-        leaf.before(),
+        unit_state.decided_before().canonical,
+        unit_state.before(),
     )?;
     let new = standings_by(
         alloc,
         &agreement,
-        leaf.decided_now().canonical,
-        leaf.present(),
+        unit_state.decided_now().canonical,
+        unit_state.present(),
     )?;
-    push_scores(scores, leaf.unit().credit, old.as_slice(), new.as_slice())
+    push_scores(scores, unit_state.unit().credit, old.as_slice(), new.as_slice())
 }
 
 /// Adds what is new of the instances of the workunit at a place after the other scores.
-#[tactic(auto, using(crate::proofs::OnLeaves::scores_steps))]
+#[tactic(auto, using(crate::proofs::OnUnitStates::scores_steps))]
 fn add_scores<S: Draft>(
     alloc: Global,
-    sheet: &mut S,
+    working_set: &mut S,
     scores: &mut Listed<Score>,
     unit: u32,
 ) -> Result<(), Unavailable>
-    ensures reads { S.reads sheet.old sheet.new }
-    ensures answer { Trusted S.Units sheet.old sheet.new (
-        OnOk result (scores.new ≡ scores.old ++ scores_at (S.entry sheet.old) (S.world sheet.old) unit)) }
+    ensures reads { S.reads working_set.old working_set.new }
+    ensures answer { Trusted S.Units working_set.old working_set.new (
+        OnOk result (scores.new ≡ scores.old ++ scores_at (S.entry working_set.old) (S.world working_set.old) unit)) }
 {
-    sheet.read(alloc, unit)?;
-    let Some(leaf) = sheet.leaf(unit) else {
+    working_set.read(alloc, unit)?;
+    let Some(unit_state) = working_set.unit_state(unit) else {
         return Ok(());
     };
-    push_scores_on(alloc, scores, leaf)?;
+    push_scores_on(alloc, scores, unit_state)?;
     Ok(())
 }
 
@@ -223,16 +223,16 @@ fn add_scores<S: Draft>(
 /// something new.
 pub(crate) fn scores_of_units<S: Draft>(
     alloc: Global,
-    sheet: &mut S,
+    working_set: &mut S,
     units: &[u32],
 ) -> Result<Listed<Score>, Unavailable>
-    ensures reads { S.reads sheet.old sheet.new }
-    ensures answer { Trusted S.Units sheet.old sheet.new (
-        IfOk result (λ scores. scores ≡ scores_of_units (S.entry sheet.old) (S.world sheet.old) units.now)) }
+    ensures reads { S.reads working_set.old working_set.new }
+    ensures answer { Trusted S.Units working_set.old working_set.new (
+        IfOk result (λ scores. scores ≡ scores_of_units (S.entry working_set.old) (S.world working_set.old) units.now)) }
 {
     let mut scores = Listed::new(alloc);
     for unit in units {
-        add_scores(alloc, sheet, &mut scores, *unit)?;
+        add_scores(alloc, working_set, &mut scores, *unit)?;
     }
     Ok(scores)
 }

@@ -13,72 +13,72 @@ use crate::growth::grow_on;
 use crate::host_quotas::new_quotas;
 use crate::late::lapse_on;
 use crate::scores::{Score, scores_of_units};
-use call_sheet::{Draft, Page, Sheet, put_all};
+use call_sheet::{Draft, CallState, WorkingSet, put_all};
 use sched_book::{Desk, Edits, Place, Unavailable};
 use std::alloc::Global;
 use texts::Listed;
 
-/// Settles these workunits on the sheet of a call. Each open one gets the instances that it lacks, and each of their
-/// hosts the quota that follows from what is new. Returns the scores of what is new. Only these workunits may have been
-/// changed.
+/// Settles these workunits in the working set of a call. Each open one gets the instances that it lacks, and each of
+/// their hosts the quota that follows from what is new. Returns the scores of what is new. Only these workunits may
+/// have been changed.
 ///
 /// # Errors
 ///
 /// [`Unavailable`] if there is no memory or the desk is unavailable.
 pub fn settle_on<S: Draft>(
     alloc: Global,
-    sheet: &mut S,
+    working_set: &mut S,
     touched: &[u32],
 ) -> Result<Listed<Score>, Unavailable>
-    ensures works { S.works sheet.old sheet.new }
-    ensures settled { Trusted S.Units sheet.old sheet.new (OnOk result (
-        Sound (S.entry sheet.old) → EditsFit (S.entry sheet.old) (S.edits sheet.old) → TouchJust touched.now (S.entry sheet.old) (S.world sheet.old) →
-        S.world sheet.new ≡ settled (S.entry sheet.old) (S.world sheet.old))) }
-    ensures fits { Trusted S.Units sheet.old sheet.new (OnOk result (
-        Sound (S.entry sheet.old) → EditsFit (S.entry sheet.old) (S.edits sheet.old) → TouchJust touched.now (S.entry sheet.old) (S.world sheet.old) →
-        EditsFit (S.entry sheet.old) (S.edits sheet.new))) }
-    ensures scores { Trusted S.Units sheet.old sheet.new (
-        IfOk result (λ scores. scores ≡ scores_of_units (S.entry sheet.old) (S.world sheet.new) touched.now)) }
-    ensures edits { Trusted S.Units sheet.old sheet.new (OnOk result (Extends (S.edits sheet.old) (S.edits sheet.new))) }
+    ensures works { S.works working_set.old working_set.new }
+    ensures settled { Trusted S.Units working_set.old working_set.new (OnOk result (
+        Sound (S.entry working_set.old) → EditsFit (S.entry working_set.old) (S.edits working_set.old) → TouchJust touched.now (S.entry working_set.old) (S.world working_set.old) →
+        S.world working_set.new ≡ settled (S.entry working_set.old) (S.world working_set.old))) }
+    ensures fits { Trusted S.Units working_set.old working_set.new (OnOk result (
+        Sound (S.entry working_set.old) → EditsFit (S.entry working_set.old) (S.edits working_set.old) → TouchJust touched.now (S.entry working_set.old) (S.world working_set.old) →
+        EditsFit (S.entry working_set.old) (S.edits working_set.new))) }
+    ensures scores { Trusted S.Units working_set.old working_set.new (
+        IfOk result (λ scores. scores ≡ scores_of_units (S.entry working_set.old) (S.world working_set.new) touched.now)) }
+    ensures edits { Trusted S.Units working_set.old working_set.new (OnOk result (Extends (S.edits working_set.old) (S.edits working_set.new))) }
 {
-    grow_on(alloc, sheet, touched)?;
-    let scores = scores_of_units(alloc, sheet, touched)?;
-    let quotas = new_quotas(alloc, sheet, scores.as_slice())?;
-    put_all(alloc, sheet, quotas.as_slice())?;
+    grow_on(alloc, working_set, touched)?;
+    let scores = scores_of_units(alloc, working_set, touched)?;
+    let quotas = new_quotas(alloc, working_set, scores.as_slice())?;
+    put_all(alloc, working_set, quotas.as_slice())?;
     Ok(scores)
 }
 
-/// Settles the workunits that a call or a tick has read on its sheet, and returns what is new in them. No other is
-/// touched.
+/// Settles the workunits that a call or a tick has read in its working set, and returns what is new in them. No other
+/// is touched.
 ///
 /// # Errors
 ///
 /// [`Unavailable`] if there is no memory or the desk is unavailable.
-pub fn settle_read<S: Draft>(alloc: Global, sheet: &mut S) -> Result<Listed<Score>, Unavailable>
-    ensures works { S.works sheet.old sheet.new }
-    ensures settled { Trusted S.Units sheet.old sheet.new (OnOk result (
-        Sound (S.entry sheet.old) → EditsFit (S.entry sheet.old) (S.edits sheet.old) →
-        S.world sheet.new ≡ settled (S.entry sheet.old) (S.world sheet.old))) }
-    ensures fits { Trusted S.Units sheet.old sheet.new (OnOk result (
-        Sound (S.entry sheet.old) → EditsFit (S.entry sheet.old) (S.edits sheet.old) → EditsFit (S.entry sheet.old) (S.edits sheet.new))) }
-    ensures scores { Trusted S.Units sheet.old sheet.new (IfOk result (λ scores.
-        Sound (S.entry sheet.old) → EditsFit (S.entry sheet.old) (S.edits sheet.old) → AreScores (S.entry sheet.old) (S.world sheet.new) scores)) }
+pub fn settle_read<S: Draft>(alloc: Global, working_set: &mut S) -> Result<Listed<Score>, Unavailable>
+    ensures works { S.works working_set.old working_set.new }
+    ensures settled { Trusted S.Units working_set.old working_set.new (OnOk result (
+        Sound (S.entry working_set.old) → EditsFit (S.entry working_set.old) (S.edits working_set.old) →
+        S.world working_set.new ≡ settled (S.entry working_set.old) (S.world working_set.old))) }
+    ensures fits { Trusted S.Units working_set.old working_set.new (OnOk result (
+        Sound (S.entry working_set.old) → EditsFit (S.entry working_set.old) (S.edits working_set.old) → EditsFit (S.entry working_set.old) (S.edits working_set.new))) }
+    ensures scores { Trusted S.Units working_set.old working_set.new (IfOk result (λ scores.
+        Sound (S.entry working_set.old) → EditsFit (S.entry working_set.old) (S.edits working_set.old) → AreScores (S.entry working_set.old) (S.world working_set.new) scores)) }
 {
-    let touched = sheet.units(alloc)?;
-    let scores = settle_on(alloc, sheet, touched.as_slice())?;
+    let touched = working_set.units(alloc)?;
+    let scores = settle_on(alloc, working_set, touched.as_slice())?;
     Ok(scores)
 }
 
 /// Lets the instances at these places lapse late, in their order, and settles their workunits, before any other edit.
-fn lapse_read<S: Draft>(alloc: Global, sheet: &mut S, places: &[Place]) -> Result<(), Unavailable>
-    ensures works { S.works sheet.old sheet.new }
-    ensures left { Trusted S.Units sheet.old sheet.new (OnOk result (S.edits sheet.old ≡ [] → Sound (S.entry sheet.old) →
-        S.world sheet.new ≡ settled (S.entry sheet.old) (lapsed_at (S.entry sheet.old) places.now))) }
-    ensures fits { Trusted S.Units sheet.old sheet.new (OnOk result (S.edits sheet.old ≡ [] → Sound (S.entry sheet.old) →
-        EditsFit (S.entry sheet.old) (S.edits sheet.new))) }
+fn lapse_read<S: Draft>(alloc: Global, working_set: &mut S, places: &[Place]) -> Result<(), Unavailable>
+    ensures works { S.works working_set.old working_set.new }
+    ensures left { Trusted S.Units working_set.old working_set.new (OnOk result (S.edits working_set.old ≡ [] → Sound (S.entry working_set.old) →
+        S.world working_set.new ≡ settled (S.entry working_set.old) (lapsed_at (S.entry working_set.old) places.now))) }
+    ensures fits { Trusted S.Units working_set.old working_set.new (OnOk result (S.edits working_set.old ≡ [] → Sound (S.entry working_set.old) →
+        EditsFit (S.entry working_set.old) (S.edits working_set.new))) }
 {
-    lapse_on(alloc, sheet, places)?;
-    settle_read(alloc, sheet)?;
+    lapse_on(alloc, working_set, places)?;
+    settle_read(alloc, working_set)?;
     Ok(())
 }
 
@@ -99,12 +99,12 @@ pub fn lapse_places<D: Desk>(
     ensures fits { Trusted D.Units desk.old desk.new (
         IfOk result (λ edits. Sound (D.world desk.old) → EditsFit (D.world desk.old) edits)) }
 {
-    let mut page = Page::new(alloc, desk.settings(alloc)?);
-    let mut sheet = Sheet {
+    let mut call_state = CallState::new(alloc, desk.settings(alloc)?);
+    let mut working_set = WorkingSet {
         desk,
-        page: &mut page,
+        call_state: &mut call_state,
     };
-    lapse_read(alloc, &mut sheet, places)?;
-    drop(sheet);
-    Ok(page.edits)
+    lapse_read(alloc, &mut working_set, places)?;
+    drop(working_set);
+    Ok(call_state.edits)
 }

@@ -10,12 +10,12 @@ use Rattle.serde_json.specs.Data.{Data, string}
 use Rattle.serde_json.specs.Events.{items_len}
 use Rattle.serde_json.specs.Find.{get, as_i64, of_integer}
 use Rattle.serde_json.specs.View.{items_of}
-use Rattle.rpc_records.specs.Members.{key_of, is_of}
+use Rattle.rpc_records.specs.Members.{member_name, is_of}
 use Rattle.rpc_records.specs.Ranges.{IsName, IsHostInfo, IsReport, AreListed, IsInRange}
-use Rattle.rpc_records.specs.Reading.{needed, defaulted, host_at, platforms_at, request_at, value_meaning}
+use Rattle.rpc_records.specs.Reading.{needed, defaulted, host_info_at, platforms_at, request_at, value_meaning}
 use Rattle.texts.specs.Reading.{and_then}
 use Rattle.texts.specs.Words.{IsWord}
-use Rattle.rpc_records.specs.Spelling.{whole, list_json, own_platform, alternatives, host_json, report_json, request_json}
+use Rattle.rpc_records.specs.Spelling.{whole_json, list_json, own_platform, alternatives, host_json, report_json, request_json}
 use Rattle.rpc_records.specs.Values.{text_in, whole_in, all_in, list_in, report_in, read_or}
 use Rattle.rpc_records.specs.declared.fault.Fault.{Fault}
 use Rattle.rpc_records.specs.declared.fault.Fault.TheVariants.{BadMember}
@@ -32,7 +32,7 @@ use Rattle.rpc_records.specs.declared.text_kind.TextKind.TheVariants.{Word, Name
 text_again : (kind : TextKind) (text : List ℕ) → is_of kind text ≡ true → text_in kind (string text) ≡ Some text
 text_again kind text h = rw h
 
-whole_again : (least most n : ℕ) → least ≤ n → n ≤ most → whole_in least most (whole n) ≡ Some n
+whole_again : (least most n : ℕ) → least ≤ n → n ≤ most → whole_in least most (whole_json n) ≡ Some n
 whole_again least most n low high = rw (le-leb least n low, le-leb n most high)
 
 as_i64_again : (z : ℤ) → z ≤ℤ pos 2147483647 → as_i64 (of_integer z) ≡ Some z
@@ -65,13 +65,13 @@ report_again p h = rw (h.name, as_i64_again p.exit_status h.most_status, test_of
 -- ---- members
 
 needed_again : {A B : Type 0} (m : Member) (reads : Data → Option A) (d e : Data) (x : A) (f : A → Result B Fault) (y : Result B Fault)
-    → get (key_of m) d ≡ Some e → reads e ≡ Some x → f x ≡ y → and_then (needed m reads d) f ≡ y
+    → get (member_name m) d ≡ Some e → reads e ≡ Some x → f x ≡ y → and_then (needed m reads d) f ≡ y
 unfolding and_then needed
 needed_again m reads d e x f y found again next =
     ap (λ o. and_then (ok_or (option_and_then reads o) (BadMember m)) f) found ∙ ap (λ o. and_then (ok_or o (BadMember m)) f) again ∙ next
 
 defaulted_again : {A B : Type 0} (m : Member) (default : A) (reads : Data → Option A) (d : Data) (o : Option Data) (x : A) (f : A → Result B Fault) (y : Result B Fault)
-    → get (key_of m) d ≡ o → read_or default reads o ≡ Some x → f x ≡ y → and_then (defaulted m default reads d) f ≡ y
+    → get (member_name m) d ≡ o → read_or default reads o ≡ Some x → f x ≡ y → and_then (defaulted m default reads d) f ≡ y
 unfolding and_then defaulted
 defaulted_again m default reads d o x f y found again next =
     ap (λ o. and_then (ok_or (read_or default reads o) (BadMember m)) f) found ∙ ap (λ o. and_then (ok_or o (BadMember m)) f) again ∙ next
@@ -82,24 +82,24 @@ part_again r x f y part next = ap (λ p. and_then p f) part ∙ next
 
 -- The members of a value say the request.
 record Says (d : Data) (r : Request) : Type 0 where
-  alt_platforms : get (key_of AltPlatforms) d ≡ Some (list_json string (alternatives r))
-  authenticator : get (key_of Authenticator) d ≡ Some (string r.authenticator)
-  host_info : get (key_of HostInfo) d ≡ Some (host_json r.host)
-  hostid : get (key_of Hostid) d ≡ Some (whole r.hostid)
-  other_results : get (key_of OtherResults) d ≡ option_map (list_json string) r.other_results
-  platform_name : get (key_of PlatformName) d ≡ Some (string (own_platform r))
-  results : get (key_of Results) d ≡ Some (list_json report_json r.results)
-  rpc_seqno : get (key_of RpcSeqno) d ≡ Some (whole r.rpc_seqno)
-  work_req_seconds : get (key_of WorkReqSeconds) d ≡ Some (whole r.asked)
+  alt_platforms : get (member_name AltPlatforms) d ≡ Some (list_json string (alternatives r))
+  authenticator : get (member_name Authenticator) d ≡ Some (string r.authenticator)
+  host_info : get (member_name HostInfo) d ≡ Some (host_json r.host)
+  hostid : get (member_name Hostid) d ≡ Some (whole_json r.hostid)
+  other_results : get (member_name OtherResults) d ≡ option_map (list_json string) r.other_results
+  platform_name : get (member_name PlatformName) d ≡ Some (string (own_platform r))
+  results : get (member_name Results) d ≡ Some (list_json report_json r.results)
+  rpc_seqno : get (member_name RpcSeqno) d ≡ Some (whole_json r.rpc_seqno)
+  work_req_seconds : get (member_name WorkReqSeconds) d ≡ Some (whole_json r.asked)
 
-host_again : (d : Data) (h : Host) → get (key_of HostInfo) d ≡ Some (host_json h) → IsHostInfo h → host_at d ≡ Ok h
-unfolding host_at
+host_again : (d : Data) (h : Host) → get (member_name HostInfo) d ≡ Some (host_json h) → IsHostInfo h → host_info_at d ≡ Ok h
+unfolding host_info_at
 host_again d h found range =
     needed_again HostInfo _ d (host_json h) (host_json h) _ _ found refl
     (needed_again HostCpid _ (host_json h) (string h.host_cpid) h.host_cpid _ _ refl (text_again Word h.host_cpid range.host_cpid)
-    (needed_again PFpops _ (host_json h) (whole h.p_fpops) h.p_fpops _ _ refl (whole_again _ _ h.p_fpops range.some_fpops range.p_fpops)
-    (needed_again MNbytes _ (host_json h) (whole h.m_nbytes) h.m_nbytes _ _ refl (whole_again _ _ h.m_nbytes (omega arith) range.m_nbytes)
-    (needed_again DFree _ (host_json h) (whole h.d_free) h.d_free _ _ refl (whole_again _ _ h.d_free (omega arith) range.d_free) refl))))
+    (needed_again PFpops _ (host_json h) (whole_json h.p_fpops) h.p_fpops _ _ refl (whole_again _ _ h.p_fpops range.some_fpops range.p_fpops)
+    (needed_again MNbytes _ (host_json h) (whole_json h.m_nbytes) h.m_nbytes _ _ refl (whole_again _ _ h.m_nbytes (omega arith) range.m_nbytes)
+    (needed_again DFree _ (host_json h) (whole_json h.d_free) h.d_free _ _ refl (whole_again _ _ h.d_free (omega arith) range.d_free) refl))))
 
 -- the first platform and those after it are all
 platforms_are : (platforms : List (List ℕ)) → 0 < length platforms → slice_index_or platforms 0 [] ∷ drop 1 platforms ≡ platforms

@@ -3,9 +3,9 @@ use Rattle.std.proofs.Common.{◌≡◌, ◌≢◌, ◌↔◌, ℕ, List, cond, 
 use Rattle.std.specs.Option.{ok_or, option_and_then, unwrap_or, is_none}
 use Rattle.serde_json.specs.Data.{Data, null, boolean, number, string, array, object, Members}
 use Rattle.serde_json.specs.Find.{get}
-use Rattle.rpc_records.specs.Members.{key_of}
+use Rattle.rpc_records.specs.Members.{member_name}
 use Rattle.rpc_records.specs.Order.{in_order, is_faulty, is_missing_or_bad, is_bad, info_of, refusal_of}
-use Rattle.rpc_records.specs.Reading.{needed, defaulted, host_at, platforms_at, request_at, json_of, value_meaning, meaning}
+use Rattle.rpc_records.specs.Reading.{needed, defaulted, host_info_at, platforms_at, request_at, json_of, value_meaning, meaning}
 use Rattle.texts.specs.Reading.{and_then}
 use Rattle.rpc_records.specs.Values.{object_in, read_or}
 use Rattle.rpc_records.specs.declared.fault.Fault.{Fault}
@@ -37,10 +37,10 @@ read x f = refl
 
 -- a member that must exist
 needed_step : {A B : Type 0} (m : Member) (reads : Data → Option A) (d : Data) (f : A → Result B Fault) (rest : Option Member)
-    → ((x : A) → option_and_then reads (get (key_of m) d) ≡ Some x → refusal_of (f x) ≡ told rest)
-    → refusal_of (and_then (needed m reads d) f) ≡ told (cond (is_missing_or_bad reads (get (key_of m) d)) (Some m) rest)
+    → ((x : A) → option_and_then reads (get (member_name m) d) ≡ Some x → refusal_of (f x) ≡ told rest)
+    → refusal_of (and_then (needed m reads d) f) ≡ told (cond (is_missing_or_bad reads (get (member_name m) d)) (Some m) rest)
 unfolding needed
-needed_step m reads d f rest later = step m (option_and_then reads (get (key_of m) d)) f rest later
+needed_step m reads d f rest later = step m (option_and_then reads (get (member_name m) d)) f rest later
 
 is_spoiled_is : {A : Type 0} (default : A) (reads : Data → Option A) (found : Option Data) → is_none (read_or default reads found) ≡ is_bad reads found
 is_spoiled_is default reads None = refl
@@ -49,10 +49,10 @@ is_spoiled_is default reads (Some d) = refl
 -- a member that may be absent
 defaulted_step : {A B : Type 0} (m : Member) (default : A) (reads : Data → Option A) (d : Data) (f : A → Result B Fault) (rest : Option Member)
     → ((x : A) → refusal_of (f x) ≡ told rest)
-    → refusal_of (and_then (defaulted m default reads d) f) ≡ told (cond (is_bad reads (get (key_of m) d)) (Some m) rest)
+    → refusal_of (and_then (defaulted m default reads d) f) ≡ told (cond (is_bad reads (get (member_name m) d)) (Some m) rest)
 unfolding defaulted
 defaulted_step m default reads d f rest later =
-    step m (read_or default reads (get (key_of m) d)) f rest (λ x _. later x) ∙ ap (λ b. told (cond b (Some m) rest)) (is_spoiled_is default reads (get (key_of m) d))
+    step m (read_or default reads (get (member_name m) d)) f rest (λ x _. later x) ∙ ap (λ b. told (cond b (Some m) rest)) (is_spoiled_is default reads (get (member_name m) d))
 
 -- the object that is read is the value itself
 object_is : (d e : Data) → object_in d ≡ Some e → d ≡ e
@@ -70,14 +70,14 @@ info_is (Some d) info h = object_is d info h
 -- a member that must exist, in a value with another name
 step_in : {A B : Type 0} (e : Data) (m : Member) (reads : Data → Option A) (d : Data) (f : A → Result B Fault) (rest : Option Member) → e ≡ d
     → ((x : A) → refusal_of (f x) ≡ told rest)
-    → refusal_of (and_then (needed m reads d) f) ≡ told (cond (is_missing_or_bad reads (get (key_of m) e)) (Some m) rest)
+    → refusal_of (and_then (needed m reads d) f) ≡ told (cond (is_missing_or_bad reads (get (member_name m) e)) (Some m) rest)
 step_in e m reads d f rest same later = rw same (needed_step m reads d f rest (λ x _. later x))
 
 host_step : {B : Type 0} (d : Data) (f : Host → Result B Fault) (rest : Option Member) → ((host : Host) → refusal_of (f host) ≡ told rest)
-    → refusal_of (and_then (host_at d) f)
+    → refusal_of (and_then (host_info_at d) f)
     ≡ told (cond (is_faulty d HostInfo) (Some HostInfo) (cond (is_faulty d HostCpid) (Some HostCpid) (cond (is_faulty d PFpops) (Some PFpops)
     (cond (is_faulty d MNbytes) (Some MNbytes) (cond (is_faulty d DFree) (Some DFree) rest)))))
-unfolding host_at
+unfolding host_info_at
 host_step d f rest later =
     ap refusal_of (regrouped _ _ f) ∙ needed_step HostInfo _ d _ _ (λ info found. let same : info_of d ≡ info = info_is _ info found in
     ap refusal_of (regrouped _ _ f) ∙ step_in (info_of d) HostCpid _ info _ _ same (λ host_cpid.

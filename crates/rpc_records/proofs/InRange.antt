@@ -10,9 +10,9 @@ use Rattle.std.specs.Prelude.{nat_le, int_le}
 use Rattle.serde_json.specs.Data.{Data, Items, no_items, item}
 use Rattle.serde_json.specs.Events.{items_len}
 use Rattle.serde_json.specs.Find.{get, as_str, as_number, as_u64, as_i64, as_array, as_object}
-use Rattle.rpc_records.specs.Members.{is_of, key_of}
+use Rattle.rpc_records.specs.Members.{is_of, member_name}
 use Rattle.rpc_records.specs.Ranges.{IsName, IsHostInfo, IsReport, AreListed, IsInRange}
-use Rattle.rpc_records.specs.Reading.{needed, defaulted, host_at, platforms_at, request_at, json_of, value_meaning, meaning}
+use Rattle.rpc_records.specs.Reading.{needed, defaulted, host_info_at, platforms_at, request_at, json_of, value_meaning, meaning}
 use Rattle.texts.specs.Reading.{GivesUnless, and_then}
 use Rattle.texts.specs.Words.{IsWord}
 use Rattle.rpc_records.specs.Values.{text_in, whole_in, status_in, items_in, all_in, list_in, report_in, read_or}
@@ -81,7 +81,7 @@ known P e (Some x) each = each x refl
 -- a fact of what is read is a fact of what a member gives
 needed_fact : {A : Type 0} (P : A → Type 0) (m : Member) (reads : Data → Option A) (d : Data) → ((e : Data) (x : A) → reads e ≡ Some x → P x) → IfOk (needed m reads d) P
 unfolding needed
-needed_fact P m reads d each = known P (BadMember m) _ (λ x is. link (get (key_of m) d) reads x is (λ e _ read. each e x read))
+needed_fact P m reads d each = known P (BadMember m) _ (λ x is. link (get (member_name m) d) reads x is (λ e _ read. each e x read))
 
 read_or_fact : {A : Type 0} (P : A → Type 0) (default : A) (reads : Data → Option A) (o : Option Data) (x : A) → P default → ((e : Data) (x : A) → reads e ≡ Some x → P x) → read_or default reads o ≡ Some x → P x
 read_or_fact P default reads None x absent each is = let same : default ≡ x = cc in subst P same absent
@@ -90,7 +90,7 @@ read_or_fact P default reads (Some e) x absent each is = each e x is
 defaulted_fact : {A : Type 0} (P : A → Type 0) (m : Member) (default : A) (reads : Data → Option A) (d : Data) → P default → ((e : Data) (x : A) → reads e ≡ Some x → P x)
     → IfOk (defaulted m default reads d) P
 unfolding defaulted
-defaulted_fact P m default reads d absent each = known P (BadMember m) _ (λ x is. read_or_fact P default reads (get (key_of m) d) x absent each is)
+defaulted_fact P m default reads d absent each = known P (BadMember m) _ (λ x is. read_or_fact P default reads (get (member_name m) d) x absent each is)
 
 -- a reading continues with what is known from the step before
 goes_on : {A B : Type 0} (Q : A → Type 0) (P : B → Type 0) (r : Result A Fault) (f : A → Result B Fault) → IfOk r Q → ((x : A) → Q x → IfOk (f x) P) → IfOk (and_then r f) P
@@ -112,8 +112,8 @@ whole_needed least most m d = needed_fact (Between least most) m (whole_in least
 whole_defaulted : (most : ℕ) (m : Member) (d : Data) → IfOk (defaulted m 0 (whole_in 0 most) d) (Between 0 most)
 whole_defaulted most m d = defaulted_fact (Between 0 most) m 0 (whole_in 0 most) d (omega arith, omega arith) (whole_fact 0 most)
 
-host_in_range : (d : Data) → IfOk (host_at d) IsHostInfo
-unfolding host_at
+host_in_range : (d : Data) → IfOk (host_info_at d) IsHostInfo
+unfolding host_info_at
 host_in_range d =
     goes_on (λ _. ⊤) _ _ _ (needed_fact _ _ _ _ (λ _ _ _. tt)) (λ info _.
     goes_on IsWord _ _ _ (word_needed _ info) (λ host_cpid cpid.

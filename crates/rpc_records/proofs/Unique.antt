@@ -23,7 +23,7 @@ use Rattle.rpc_records.proofs.Again.{value_meaning-request_json}
 use Rattle.rpc_records.specs.Ranges.{IsHostInfo, IsReport, IsInRange}
 use Rattle.rpc_records.specs.Reading.{json_of, value_meaning, meaning}
 use Rattle.texts.specs.Reading.{and_then}
-use Rattle.rpc_records.specs.Spelling.{whole, list_json, alternatives, host_json, report_json, request_json, canonical_text}
+use Rattle.rpc_records.specs.Spelling.{whole_json, list_json, alternatives, host_json, report_json, request_json, canonical_text}
 use Rattle.rpc_records.specs.declared.request.HostInfo.{HostInfo as Host}
 use Rattle.rpc_records.specs.declared.request.Report.{Report}
 use Rattle.rpc_records.specs.declared.request.Request.{Request}
@@ -45,7 +45,7 @@ read_again d h =
 string_readable : (s : List ℕ) → IsReadable 0 (string s)
 string_readable s = record { numbers = tt; nested = omega arith; same = refl }
 
-whole_readable : (n : ℕ) → n < 2 ^ 64 → IsReadable 0 (whole n)
+whole_readable : (n : ℕ) → n < 2 ^ 64 → IsReadable 0 (whole_json n)
 whole_readable n fits = record { numbers = IsNumber-decimal n fits; nested = omega arith; same = ap (option_map number) (number_of-decimal n fits) }
 
 integer_readable : (z : ℤ) → negsuc 2147483647 ≤ℤ z → z ≤ℤ pos 2147483647 → IsReadable 0 (number (of_integer z))

@@ -8,20 +8,20 @@ use Rattle.rpc_records.specs.declared.text_kind.TextKind.{TextKind}
 use Rattle.rpc_records.specs.declared.text_kind.TextKind.TheVariants.{Word, Name, Output}
 
 -- The name of a member in its object: host_cpid, p_fpops, m_nbytes and d_free are in host_info, the others at the top.
-abbrev pub key_of : Member → List ℕ
-key_of Authenticator = codes "authenticator"
-key_of Hostid = codes "hostid"
-key_of RpcSeqno = codes "rpc_seqno"
-key_of HostInfo = codes "host_info"
-key_of HostCpid = codes "host_cpid"
-key_of PFpops = codes "p_fpops"
-key_of MNbytes = codes "m_nbytes"
-key_of DFree = codes "d_free"
-key_of PlatformName = codes "platform_name"
-key_of AltPlatforms = codes "alt_platforms"
-key_of WorkReqSeconds = codes "work_req_seconds"
-key_of OtherResults = codes "other_results"
-key_of Results = codes "results"
+abbrev pub member_name : Member → List ℕ
+member_name Authenticator = codes "authenticator"
+member_name Hostid = codes "hostid"
+member_name RpcSeqno = codes "rpc_seqno"
+member_name HostInfo = codes "host_info"
+member_name HostCpid = codes "host_cpid"
+member_name PFpops = codes "p_fpops"
+member_name MNbytes = codes "m_nbytes"
+member_name DFree = codes "d_free"
+member_name PlatformName = codes "platform_name"
+member_name AltPlatforms = codes "alt_platforms"
+member_name WorkReqSeconds = codes "work_req_seconds"
+member_name OtherResults = codes "other_results"
+member_name Results = codes "results"
 
 -- The name of a member in a refusal.
 abbrev pub path_of : Member → List ℕ
@@ -29,7 +29,7 @@ path_of HostCpid = codes "host_info.host_cpid"
 path_of PFpops = codes "host_info.p_fpops"
 path_of MNbytes = codes "host_info.m_nbytes"
 path_of DFree = codes "host_info.d_free"
-path_of m = key_of m
+path_of m = member_name m
 
 -- A result's name has 1 to 254 bytes of any kind.
 abbrev pub is_name : List ℕ → Bool

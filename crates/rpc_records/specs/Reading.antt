@@ -5,7 +5,7 @@ use Rattle.std.specs.Str.{is_utf8}
 use Rattle.serde_json.specs.Data.{Data}
 use Rattle.serde_json.specs.Find.{get, as_object}
 use Rattle.serde_json.specs.Read.{read}
-use Rattle.rpc_records.specs.Members.{key_of}
+use Rattle.rpc_records.specs.Members.{member_name}
 use Rattle.rpc_records.specs.Values.{object_in, word_in, number_in, speed_in, size_in, seconds_in, alternatives_in, listed_in, reports_in, read_or}
 use Rattle.rpc_records.specs.declared.fault.Fault.{Fault}
 use Rattle.rpc_records.specs.declared.fault.Fault.TheVariants.{BadJson, BadMember}
@@ -17,15 +17,15 @@ use Rattle.texts.specs.Reading.{◌>>=◌}
 
 -- A member that must exist.
 unfoldable pub needed : {A : Type 0} → Member → (Data → Option A) → Data → Result A Fault
-needed m reads d = ok_or (option_and_then reads (get (key_of m) d)) (BadMember m)
+needed m reads d = ok_or (option_and_then reads (get (member_name m) d)) (BadMember m)
 
 -- A member that may be absent; it is then `default`.
 unfoldable pub defaulted : {A : Type 0} → Member → A → (Data → Option A) → Data → Result A Fault
-defaulted m default reads d = ok_or (read_or default reads (get (key_of m) d)) (BadMember m)
+defaulted m default reads d = ok_or (read_or default reads (get (member_name m) d)) (BadMember m)
 
 -- What a host says of itself.
-unfoldable pub host_at : Data → Result Host Fault
-host_at d = do
+unfoldable pub host_info_at : Data → Result Host Fault
+host_info_at d = do
   info ← needed HostInfo object_in d
   host_cpid ← needed HostCpid word_in info
   p_fpops ← needed PFpops speed_in info
@@ -46,7 +46,7 @@ request_at d = do
   authenticator ← needed Authenticator word_in d
   hostid ← defaulted Hostid 0 number_in d
   rpc_seqno ← needed RpcSeqno number_in d
-  host ← host_at d
+  host ← host_info_at d
   platforms ← platforms_at d
   asked ← defaulted WorkReqSeconds 0 seconds_in d
   other_results ← defaulted OtherResults None listed_in d

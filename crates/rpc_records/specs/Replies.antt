@@ -4,7 +4,7 @@ use Rattle.std.specs.Prelude.{ℕ, List, [], ◌∷◌, codes}
 use Rattle.serde_json.specs.Data.{Data, string, boolean, object, member, no_members}
 use Rattle.serde_json.specs.Written.{compact_text}
 use Rattle.rpc_records.specs.Members.{path_of}
-use Rattle.rpc_records.specs.Spelling.{whole, list_json, with_members}
+use Rattle.rpc_records.specs.Spelling.{whole_json, list_json, with_members}
 use Rattle.rpc_records.specs.declared.reply.EndWord.{EndWord}
 use Rattle.rpc_records.specs.declared.reply.EndWord.TheVariants.{Enough, ReplyLimit, InProgressLimit, DailyQuota, NoEligibleWork}
 use Rattle.rpc_records.specs.declared.reply.Job.{Job}
@@ -26,12 +26,12 @@ end_word_of NoEligibleWork = codes "no_eligible_work"
 abbrev pub job_json : Job → Data
 job_json j = object (
     member (codes "app_name") (string j.app_name) (
-    member (codes "estimate") (whole j.estimate) (
+    member (codes "estimate") (whole_json j.estimate) (
     member (codes "name") (string j.name) (
     member (codes "platform") (string j.platform) (
-    member (codes "report_deadline") (whole j.report_deadline) (
+    member (codes "report_deadline") (whole_json j.report_deadline) (
     member (codes "resent") (boolean j.resent) (
-    member (codes "version_num") (whole j.version_num) (
+    member (codes "version_num") (whole_json j.version_num) (
     member (codes "wu_name") (string j.wu_name)
     no_members))))))))
 
@@ -39,15 +39,15 @@ job_json j = object (
 unfoldable pub reply_json : Reply → Data
 reply_json r = object (
     member (codes "end_word") (string (end_word_of r.end_word)) (
-    member (codes "host_total_credit") (whole r.host_total_credit) (
-    member (codes "hostid") (whole r.hostid) (
-    member (codes "request_delay") (whole r.request_delay) (
+    member (codes "host_total_credit") (whole_json r.host_total_credit) (
+    member (codes "hostid") (whole_json r.hostid) (
+    member (codes "request_delay") (whole_json r.request_delay) (
     member (codes "result_abort") (list_json string r.result_abort) (
     member (codes "result_ack") (list_json string r.result_ack) (
     member (codes "results") (list_json job_json r.results) (
-    member (codes "rpc_seqno") (whole r.rpc_seqno) (
+    member (codes "rpc_seqno") (whole_json r.rpc_seqno) (
     member (codes "user_name") (string r.user_name) (
-    member (codes "user_total_credit") (whole r.user_total_credit)
+    member (codes "user_total_credit") (whole_json r.user_total_credit)
     no_members))))))))))
 
 -- The body of a reply.
@@ -57,27 +57,27 @@ reply_text_of r = compact_text (reply_json r)
 -- ---- refusals
 
 -- The number of a refusal.
-abbrev pub number_of : Fault → ℕ
-number_of BadHttp = 1
-number_of NoRoute = 2
-number_of WrongMethod = 3
-number_of LengthRequired = 4
-number_of TooLarge = 5
-number_of BadJson = 6
-number_of (BadMember m) = 7
-number_of BadAccount = 8
-number_of BadHost = 9
-number_of (Stale last) = 10
-number_of (Reused last) = 11
-number_of HostsFull = 12
-number_of NotOperator = 13
-number_of (BadCsv row column) = 14
-number_of (DuplicateName row) = 15
-number_of (UnknownReference row) = 16
-number_of BatchReused = 17
-number_of TableFull = 18
-number_of NoSuchHost = 19
-number_of Unavailable = 20
+abbrev pub fault_number : Fault → ℕ
+fault_number BadHttp = 1
+fault_number NoRoute = 2
+fault_number WrongMethod = 3
+fault_number LengthRequired = 4
+fault_number TooLarge = 5
+fault_number BadJson = 6
+fault_number (BadMember m) = 7
+fault_number BadAccount = 8
+fault_number BadHost = 9
+fault_number (Stale last) = 10
+fault_number (Reused last) = 11
+fault_number HostsFull = 12
+fault_number NotOperator = 13
+fault_number (BadCsv row column) = 14
+fault_number (DuplicateName row) = 15
+fault_number (UnknownReference row) = 16
+fault_number BatchReused = 17
+fault_number TableFull = 18
+fault_number NoSuchHost = 19
+fault_number Unavailable = 20
 
 -- The name of a refusal.
 abbrev pub name_of : Fault → List ℕ
@@ -103,43 +103,43 @@ name_of NoSuchHost = codes "no_such_host"
 name_of Unavailable = codes "unavailable"
 
 -- The status code of the HTTP response to a refusal.
-abbrev pub status_of : Fault → ℕ
-status_of BadHttp = 400
-status_of NoRoute = 404
-status_of WrongMethod = 405
-status_of LengthRequired = 411
-status_of TooLarge = 413
-status_of BadJson = 400
-status_of (BadMember m) = 400
-status_of BadAccount = 403
-status_of BadHost = 409
-status_of (Stale last) = 409
-status_of (Reused last) = 409
-status_of HostsFull = 409
-status_of NotOperator = 403
-status_of (BadCsv row column) = 400
-status_of (DuplicateName row) = 409
-status_of (UnknownReference row) = 409
-status_of BatchReused = 409
-status_of TableFull = 409
-status_of NoSuchHost = 404
-status_of Unavailable = 503
+abbrev pub http_status_of : Fault → ℕ
+http_status_of BadHttp = 400
+http_status_of NoRoute = 404
+http_status_of WrongMethod = 405
+http_status_of LengthRequired = 411
+http_status_of TooLarge = 413
+http_status_of BadJson = 400
+http_status_of (BadMember m) = 400
+http_status_of BadAccount = 403
+http_status_of BadHost = 409
+http_status_of (Stale last) = 409
+http_status_of (Reused last) = 409
+http_status_of HostsFull = 409
+http_status_of NotOperator = 403
+http_status_of (BadCsv row column) = 400
+http_status_of (DuplicateName row) = 409
+http_status_of (UnknownReference row) = 409
+http_status_of BatchReused = 409
+http_status_of TableFull = 409
+http_status_of NoSuchHost = 404
+http_status_of Unavailable = 503
 
 -- What a refusal says in addition to its name and number.
 abbrev pub details_of : Fault → List (List ℕ × Data)
 details_of (BadMember m) = (codes "member", string (path_of m)) ∷ []
-details_of (Stale last) = (codes "last", whole last) ∷ []
-details_of (Reused last) = (codes "last", whole last) ∷ []
-details_of (BadCsv row column) = (codes "column", whole column) ∷ (codes "row", whole row) ∷ []
-details_of (DuplicateName row) = (codes "row", whole row) ∷ []
-details_of (UnknownReference row) = (codes "row", whole row) ∷ []
+details_of (Stale last) = (codes "last", whole_json last) ∷ []
+details_of (Reused last) = (codes "last", whole_json last) ∷ []
+details_of (BadCsv row column) = (codes "column", whole_json column) ∷ (codes "row", whole_json row) ∷ []
+details_of (DuplicateName row) = (codes "row", whole_json row) ∷ []
+details_of (UnknownReference row) = (codes "row", whole_json row) ∷ []
 details_of _ = []
 
 -- A refusal as a value: its name, its number and its details.
 abbrev pub fault_json : Fault → Data
 fault_json f = object (with_members (details_of f) (
     member (codes "error") (string (name_of f)) (
-    member (codes "number") (whole (number_of f))
+    member (codes "number") (whole_json (fault_number f))
     no_members)))
 
 -- The body of a refusal.

@@ -11,8 +11,8 @@ use Rattle.rpc_records.specs.declared.request.Report.{Report}
 use Rattle.rpc_records.specs.declared.request.Request.{Request}
 
 -- A whole number.
-abbrev pub whole : ℕ → Data
-whole n = number (unsigned n)
+abbrev pub whole_json : ℕ → Data
+whole_json n = number (unsigned n)
 
 -- The values of a list, in order.
 abbrev pub list_json : {A : Type 0} → (A → Data) → List A → Data
@@ -34,10 +34,10 @@ alternatives r = drop 1 r.platforms
 -- What a host says of itself.
 abbrev pub host_json : HostInfo → Data
 host_json h = object (
-    member (codes "d_free") (whole h.d_free) (
+    member (codes "d_free") (whole_json h.d_free) (
     member (codes "host_cpid") (string h.host_cpid) (
-    member (codes "m_nbytes") (whole h.m_nbytes) (
-    member (codes "p_fpops") (whole h.p_fpops)
+    member (codes "m_nbytes") (whole_json h.m_nbytes) (
+    member (codes "p_fpops") (whole_json h.p_fpops)
     no_members))))
 
 -- One report.
@@ -59,12 +59,12 @@ request_json r = object (
     member (codes "alt_platforms") (list_json string (alternatives r)) (
     member (codes "authenticator") (string r.authenticator) (
     member (codes "host_info") (host_json r.host) (
-    member (codes "hostid") (whole r.hostid) (
+    member (codes "hostid") (whole_json r.hostid) (
     with_other_results r.other_results (
     member (codes "platform_name") (string (own_platform r)) (
     member (codes "results") (list_json report_json r.results) (
-    member (codes "rpc_seqno") (whole r.rpc_seqno) (
-    member (codes "work_req_seconds") (whole r.asked)
+    member (codes "rpc_seqno") (whole_json r.rpc_seqno) (
+    member (codes "work_req_seconds") (whole_json r.asked)
     no_members)))))))))
 
 -- The canonical text: two requests are equal exactly if theirs are.

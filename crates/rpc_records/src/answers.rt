@@ -3,7 +3,7 @@
 ghost use Rattle.std.specs.Prelude.{◌≡◌, [], ◌∷◌, codes, IfOk, OnOk};
 ghost use Rattle.serde_json.specs.Data.{boolean, string};
 ghost use Rattle.serde_json.specs.View.{members_view};
-ghost use Rattle.rpc_records.specs.Spelling.{whole, list_json, with_members};
+ghost use Rattle.rpc_records.specs.Spelling.{whole_json, list_json, with_members};
 ghost use Rattle.rpc_records.specs.Replies.{end_word_of, job_json, reply_json, reply_text_of, details_of, fault_json, fault_text_of};
 
 use crate::fault::Fault;
@@ -55,9 +55,9 @@ fn put_call(members: &mut Map<String, Value>, alloc: Global, reply: &Reply) -> R
     ensures { OnOk result (members_view members.new.entries
         ≡ with_members
         ((codes "end_word", string (end_word_of reply.now.end_word))
-        ∷ (codes "hostid", whole reply.now.hostid)
-        ∷ (codes "request_delay", whole reply.now.request_delay)
-        ∷ (codes "rpc_seqno", whole reply.now.rpc_seqno) ∷ [])
+        ∷ (codes "hostid", whole_json reply.now.hostid)
+        ∷ (codes "request_delay", whole_json reply.now.request_delay)
+        ∷ (codes "rpc_seqno", whole_json reply.now.rpc_seqno) ∷ [])
         (members_view members.old.entries)) }
 {
     put_str(members, alloc, "end_word", reply.end_word.word())?;
@@ -75,9 +75,9 @@ fn put_call(members: &mut Map<String, Value>, alloc: Global, reply: &Reply) -> R
 fn put_credit(members: &mut Map<String, Value>, alloc: Global, reply: &Reply) -> Result<(), Memory>
     ensures { OnOk result (members_view members.new.entries
         ≡ with_members
-        ((codes "host_total_credit", whole reply.now.host_total_credit)
+        ((codes "host_total_credit", whole_json reply.now.host_total_credit)
         ∷ (codes "user_name", string reply.now.user_name)
-        ∷ (codes "user_total_credit", whole reply.now.user_total_credit) ∷ [])
+        ∷ (codes "user_total_credit", whole_json reply.now.user_total_credit) ∷ [])
         (members_view members.old.entries)) }
 {
     put_whole(members, alloc, "host_total_credit", reply.host_total_credit)?;
@@ -130,10 +130,10 @@ fn put_names(members: &mut Map<String, Value>, alloc: Global, job: &Job) -> Resu
 fn put_terms(members: &mut Map<String, Value>, alloc: Global, job: &Job) -> Result<(), Memory>
     ensures { OnOk result (members_view members.new.entries
         ≡ with_members
-        ((codes "estimate", whole job.now.estimate)
-        ∷ (codes "report_deadline", whole job.now.report_deadline)
+        ((codes "estimate", whole_json job.now.estimate)
+        ∷ (codes "report_deadline", whole_json job.now.report_deadline)
         ∷ (codes "resent", boolean job.now.resent)
-        ∷ (codes "version_num", whole job.now.version_num) ∷ [])
+        ∷ (codes "version_num", whole_json job.now.version_num) ∷ [])
         (members_view members.old.entries)) }
 {
     put_whole(members, alloc, "estimate", job.estimate)?;

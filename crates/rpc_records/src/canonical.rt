@@ -5,7 +5,7 @@ ghost use Rattle.serde_json.specs.Data.{string, put as with_member};
 ghost use Rattle.serde_json.specs.View.{view, members_view};
 ghost use Rattle.rpc_records.specs.Ranges.{IsInRange};
 ghost use Rattle.rpc_records.specs.Reading.{meaning};
-ghost use Rattle.rpc_records.specs.Spelling.{whole, list_json, with_members, own_platform, alternatives, host_json, report_json, request_json, canonical_text};
+ghost use Rattle.rpc_records.specs.Spelling.{whole_json, list_json, with_members, own_platform, alternatives, host_json, report_json, request_json, canonical_text};
 
 use crate::request::{HostInfo, Report, Request};
 use crate::to_json::{ToJson, list_value, put, put_str, put_whole};
@@ -45,8 +45,8 @@ fn put_caller(
         ≡ with_members
         ((codes "authenticator", string request.now.authenticator)
         ∷ (codes "host_info", host_json request.now.host)
-        ∷ (codes "hostid", whole request.now.hostid)
-        ∷ (codes "rpc_seqno", whole request.now.rpc_seqno) ∷ [])
+        ∷ (codes "hostid", whole_json request.now.hostid)
+        ∷ (codes "rpc_seqno", whole_json request.now.rpc_seqno) ∷ [])
         (members_view members.old.entries)) }
 {
     put(members, alloc, "authenticator", &request.authenticator)?;
@@ -66,7 +66,7 @@ fn put_work(
         ((codes "alt_platforms", list_json string (alternatives request.now))
         ∷ (codes "platform_name", string (own_platform request.now))
         ∷ (codes "results", list_json report_json request.now.results)
-        ∷ (codes "work_req_seconds", whole request.now.asked) ∷ [])
+        ∷ (codes "work_req_seconds", whole_json request.now.asked) ∷ [])
         (members_view members.old.entries)) }
 {
     put_platforms(members, alloc, request.platforms.as_slice())?;

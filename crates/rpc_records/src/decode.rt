@@ -5,7 +5,7 @@ ghost use Rattle.std.specs.Result.{result_map_both};
 ghost use Rattle.serde_json.specs.View.{view, items_view};
 ghost use Rattle.rpc_records.specs.Values.{all_in, alternatives_in, listed_in, report_in, reports_in};
 ghost use Rattle.texts.specs.Reading.{GivesUnless};
-ghost use Rattle.rpc_records.specs.Reading.{defaulted, host_at, platforms_at, request_at, json_of, value_meaning, meaning};
+ghost use Rattle.rpc_records.specs.Reading.{defaulted, host_info_at, platforms_at, request_at, json_of, value_meaning, meaning};
 ghost use Rattle.rpc_records.specs.Ranges.{IsInRange};
 
 use crate::fault::{Fault, Member};
@@ -101,9 +101,9 @@ fn request_of(alloc: Global, object: &Value) -> Result<Request, Fault>
     })
 }
 
-#[tactic(auto, unfolding(crate::specs::Reading::host_at, texts::specs::Reading::and_then))]
+#[tactic(auto, unfolding(crate::specs::Reading::host_info_at, texts::specs::Reading::and_then))]
 fn host_of(alloc: Global, object: &Value) -> Result<HostInfo, Fault>
-    ensures { GivesUnless Fault.Unavailable result (host_at (view object.now)) }
+    ensures { GivesUnless Fault.Unavailable result (host_info_at (view object.now)) }
 {
     let info = object_at(object, Member::HostInfo)?;
     Ok(HostInfo {

@@ -1,8 +1,8 @@
 //! The refusals of the profile, each with its name and its number.
 
 ghost use Rattle.std.specs.Prelude.{◌≡◌};
-ghost use Rattle.rpc_records.specs.Members.{key_of, path_of};
-ghost use Rattle.rpc_records.specs.Replies.{name_of, number_of};
+ghost use Rattle.rpc_records.specs.Members.{member_name, path_of};
+ghost use Rattle.rpc_records.specs.Replies.{name_of, fault_number};
 ghost use Rattle.rpc_records.specs.declared.fault.Fault.TheVariants.{Unavailable};
 
 use std::alloc::{AllocError, AllocFailed};
@@ -30,7 +30,7 @@ pub enum Member {
 impl Member {
     /// Its name in its object. Four of them are in host_info.
     pub(crate) fn key(self) -> &'static str
-        ensures { result.now ≡ key_of self }
+        ensures { result.now ≡ member_name self }
     {
         match self {
             Member::Authenticator => "authenticator",
@@ -148,7 +148,7 @@ impl Fault {
 
     /// Its number, 1 to 20.
     pub fn number(self) -> u8
-        ensures { result ≡ number_of self }
+        ensures { result ≡ fault_number self }
     {
         match self {
             Fault::BadHttp => 1,

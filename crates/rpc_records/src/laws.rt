@@ -3,7 +3,7 @@
 ghost use Rattle.std.specs.Prelude.{◌≡◌, ◌≢◌, ◌↔◌, ℕ, List, Some, All, option_map, find, IfOk, IsUtf8, Ok, Err};
 ghost use Rattle.serde_json.specs.Data.{Members, object};
 ghost use Rattle.serde_json.specs.Find.{get};
-ghost use Rattle.rpc_records.specs.Members.{key_of};
+ghost use Rattle.rpc_records.specs.Members.{member_name};
 ghost use Rattle.rpc_records.specs.declared.fault.Fault.TheVariants.{BadJson, BadMember};
 ghost use Rattle.rpc_records.specs.declared.request.Request.{Request};
 ghost use Rattle.rpc_records.specs.Order.{in_order, at_top, is_faulty, refusal_of};
@@ -25,7 +25,7 @@ pub fn first_fault_is_told()
 /// Bodies that agree in the members of a request mean the same. Other members, the order and the spacing do not matter.
 pub fn other_members_are_passed_over()
     ensures { (a b : List ℕ) (ms ns : Members) → json_of a ≡ Some (object ms) → json_of b ≡ Some (object ns)
-        → All (λ m. get (key_of m) (object ms) ≡ get (key_of m) (object ns)) at_top → meaning a ≡ meaning b }
+        → All (λ m. get (member_name m) (object ms) ≡ get (member_name m) (object ns)) at_top → meaning a ≡ meaning b }
 {}
 
 /// What is read is within the ranges.

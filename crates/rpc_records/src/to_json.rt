@@ -3,7 +3,7 @@
 ghost use Rattle.std.specs.Prelude.{◌≡◌, IfOk, OnOk};
 ghost use Rattle.serde_json.specs.Data.{Data, string, put as with_member};
 ghost use Rattle.serde_json.specs.View.{view, members_view};
-ghost use Rattle.rpc_records.specs.Spelling.{whole, list_json};
+ghost use Rattle.rpc_records.specs.Spelling.{whole_json, list_json};
 
 use serde_json::{Map, Value};
 use std::alloc::Global;
@@ -66,7 +66,7 @@ pub(crate) fn put_whole(
     number: u64,
 ) -> Result<(), Memory>
     ensures { OnOk result (members_view members.new.entries
-        ≡ with_member name.now (whole number) (members_view members.old.entries)) }
+        ≡ with_member name.now (whole_json number) (members_view members.old.entries)) }
 {
     serde_json::put(members, alloc, name, Value::from(number))
 }

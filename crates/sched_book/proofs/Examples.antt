@@ -8,7 +8,7 @@ use Rattle.std.specs.Prelude.{pos}
 use Rattle.sched_book.specs.Names.{instance_name, name_parts}
 use Rattle.sched_book.specs.Count.{agree, canonical, need, status, verdict, good}
 use Rattle.sched_book.specs.Places.{instance_at, is_overdue, status_at}
-use Rattle.sched_book.specs.Fits.{estimate, newest}
+use Rattle.sched_book.specs.Fits.{estimate, newest_version}
 use Rattle.sched_book.specs.Lost.{deadline_after, aborts}
 use Rattle.sched_book.specs.Reports.{recorded}
 use Rattle.sched_book.specs.Settle.{next_quota}
@@ -195,7 +195,7 @@ after_the_deadline = refl
 abbrev version_of : ℕ → Version
 version_of number = record { app = codes "dock"; platform = codes "linux"; version_num = number; class = codes "linux" }
 
-newest_of_two : newest (version_of 101 ∷ version_of 102 ∷ []) ≡ Some (version_of 102)
+newest_of_two : newest_version (version_of 101 ∷ version_of 102 ∷ []) ≡ Some (version_of 102)
 newest_of_two = refl
 
 -- The third row has the name of the first. A duplicate is reported before an unknown application.

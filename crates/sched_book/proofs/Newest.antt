@@ -3,7 +3,7 @@ use Rattle.std.proofs.Common.{◌≡◌, ℕ, zero, suc, ◌<◌, ◌≤◌, ◌
 use Rattle.std.specs.Prelude.{fold, filter, is_some, nat_le, Contains}
 use borrow.Author.Tests.{leb-true, leb-false}
 use Rattle.std.proofs.lemmas.List.Elements.{Contains-append_right, All-contains, All-contains_itself, All-filter, filter_passes}
-use Rattle.sched_book.specs.Fits.{is_version_for, newer, newest, version_among}
+use Rattle.sched_book.specs.Fits.{is_version_for, newer, newest_version, version_among}
 use Rattle.sched_book.specs.Laws.{HasNoVersion, IsVersionFor, VersionIsNewestOfFirst}
 use Rattle.sched_book.specs.declared.rows.Version.{Version}
 
@@ -169,5 +169,5 @@ pub version_is_newest_of_first : VersionIsNewestOfFirst
 version_is_newest_of_first versions app [] = λ platform v among there. absurd (none_in_nothing platform among)
 version_is_newest_of_first versions app (p ∷ ps) =
     let q = is_version_for app p in
-    choose versions app p ps (newest (filter q versions)) (for_platform versions app p (newest (filter q versions)) (best None (filter q versions)))
+    choose versions app p ps (newest_version (filter q versions)) (for_platform versions app p (newest_version (filter q versions)) (best None (filter q versions)))
     (version_among versions app ps) (version_is_newest_of_first versions app ps)

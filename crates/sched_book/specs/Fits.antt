@@ -26,8 +26,8 @@ newer None v = Some v
 newer (Some best) v = if nat_le v.version_num best.version_num then Some best else Some v
 
 -- the version with the greatest number; of equal ones the first
-abbrev pub newest : List Version → Option Version
-newest vs = fold newer None vs
+abbrev pub newest_version : List Version → Option Version
+newest_version vs = fold newer None vs
 
 abbrev pub is_version_for : List ℕ → List ℕ → Version → Bool
 is_version_for app platform v = bytes_eq v.app app && bytes_eq v.platform platform
@@ -36,8 +36,8 @@ is_version_for app platform v = bytes_eq v.app app && bytes_eq v.platform platfo
 abbrev pub version_among : List Version → List ℕ → List (List ℕ) → Option Version
 version_among versions app [] = None
 version_among versions app (p ∷ platforms) =
-    if is_some (newest (filter (is_version_for app p) versions))
-    then newest (filter (is_version_for app p) versions)
+    if is_some (newest_version (filter (is_version_for app p) versions))
+    then newest_version (filter (is_version_for app p) versions)
     else version_among versions app platforms
 
 -- the version that the host runs of the application of a name; none if there is no such application

@@ -64,12 +64,12 @@ VersionIsNewestOfFirst = (versions : List Version) (app : List ℕ) (platforms :
     → MatchOption (version_among versions app platforms) (HasNoVersion versions app platforms) (IsVersionFor versions app platforms)
 
 -- what settlement makes of each workunit and of each host
-pub record IsSettled (old changed : World) : Type 0 where
+pub record SettlesEach (old changed : World) : Type 0 where
   pub unit : (n : ℕ) → unit_at (settled old changed) n ≡ option_map (grown changed.apps) (unit_at changed n)
   pub host : (n : ℕ) → host_at (settled old changed) n ≡ option_map (λ h. with_quota old (with_grown changed) (n, h)) (host_at changed n)
 
 abbrev pub SettlementIsPointwise : Type 0
-SettlementIsPointwise = (old changed : World) → IsSettled old changed
+SettlementIsPointwise = (old changed : World) → SettlesEach old changed
 
 -- Report r is in the list, and no report before it has its name.
 pub record IsFirstOfName (reports : List Report) (r : Report) : Type 0 where

@@ -2,7 +2,7 @@
 use Rattle.std.specs.Prelude.{ℕ, ◌-◌, ◌&&◌, ◌==◌, nat_le, if◌then◌else◌, List, [], ◌∷◌, ◌++◌, Option, Some, None, option_map, decimal}
 use Rattle.std.specs.Char.{is_ascii_digit}
 use Rattle.std.specs.List.{before_last, after_last, list_any}
-use Rattle.sched_book.specs.WholeNumbers.{number_of}
+use Rattle.sched_book.specs.WholeNumbers.{decimal_value}
 
 abbrev pub instance_name : List ℕ → ℕ → List ℕ
 instance_name unit number = unit ++ 95 ∷ decimal number
@@ -12,7 +12,7 @@ abbrev pub small_number : List ℕ → Option ℕ
 small_number [] = None
 small_number (c ∷ []) = if is_ascii_digit c then Some (c - 48) else None
 small_number (c ∷ d ∷ []) =
-    if nat_le 49 c && is_ascii_digit c && is_ascii_digit d then Some (number_of (c ∷ d ∷ [])) else None
+    if nat_le 49 c && is_ascii_digit c && is_ascii_digit d then Some (decimal_value (c ∷ d ∷ [])) else None
 small_number (c ∷ d ∷ e ∷ more) = None
 
 -- the parts of a name, split at its last underscore

@@ -161,12 +161,12 @@ abbrev pub unit_named : World → List ℕ → Option ℕ
 unit_named w name = place_where (λ b. bytes_eq b.unit.name name) w.units
 
 -- a place, if there is an instance
-abbrev pub standing : World → Place → Option Place
-standing w p = option_map (λ x. p) (instance_at w p)
+abbrev pub existing_place : World → Place → Option Place
+existing_place w p = option_map (λ x. p) (instance_at w p)
 
 -- the place of the instance that a name denotes
 abbrev pub place_of_parts : World → List ℕ × ℕ → Option Place
-place_of_parts w parts = option_and_then (λ unit. standing w (record { unit = unit; number = parts.1 })) (unit_named w parts.0)
+place_of_parts w parts = option_and_then (λ unit. existing_place w (record { unit = unit; number = parts.1 })) (unit_named w parts.0)
 
 abbrev pub place_named : World → List ℕ → Option Place
 place_named w name = option_and_then (place_of_parts w) (name_parts name)

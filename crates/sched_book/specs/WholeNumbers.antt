@@ -5,15 +5,15 @@ use Rattle.std.specs.Str.{bytes_eq}
 use Rattle.std.specs.List.{list_all}
 
 -- the number that digits denote
-abbrev pub number_of : List ℕ → ℕ
-number_of digits = fold (λ n c. 10 * n + (c - 48)) 0 digits
+abbrev pub decimal_value : List ℕ → ℕ
+decimal_value digits = fold (λ n c. 10 * n + (c - 48)) 0 digits
 
 -- a digit from 1 to 9 and at most 17 more
 abbrev pub magnitude : List ℕ → Option ℕ
 magnitude [] = None
 magnitude (c ∷ cs) =
     if nat_le 49 c && is_ascii_digit c && nat_le (length cs) 17 && list_all is_ascii_digit cs
-    then Some (number_of (c ∷ cs))
+    then Some (decimal_value (c ∷ cs))
     else None
 
 -- a whole number: `0`, or a magnitude with or without a minus sign

@@ -44,7 +44,7 @@ impl fmt::Display for StorageFault {
 pub enum Invariant {
     ListsOfDesk,
     InstancesOfNewUnit,
-    InstancesOnSheet,
+    InstancesOnWorkingSet,
     AppOfUnit,
     ReplacedHost,
     HostBeforeEdits,
@@ -107,14 +107,14 @@ impl fmt::Display for Invariant {
             Invariant::ListsOfDesk => "sched_book::ListDesk::of: each list fits its table",
             Invariant::InstancesOfNewUnit =>
                 "sched_book::new_book: a new workunit has at most 100 instances",
-            Invariant::InstancesOnSheet =>
+            Invariant::InstancesOnWorkingSet =>
                 "call_sheet::Instances::put: a workunit has at most 100 instances",
-            Invariant::AppOfUnit => "call_sheet::ask_leaf: the application of a workunit exists",
+            Invariant::AppOfUnit => "call_sheet::ask_unit_state: the application of a workunit exists",
             Invariant::ReplacedHost => "call_sheet::put_host: the host exists",
             Invariant::HostBeforeEdits =>
                 "call_sheet::add_host: a new host comes before other edits",
-            Invariant::ReadBeforePut => "call_sheet::put_on_leaf: the workunit was read",
-            Invariant::ReadBeforeClass => "call_sheet::class_on_leaf: the workunit was read",
+            Invariant::ReadBeforePut => "call_sheet::put_on_unit_state: the workunit was read",
+            Invariant::ReadBeforeClass => "call_sheet::class_on_unit_state: the workunit was read",
             Invariant::NumberOfHost => "call_sheet::put_row: a new host gets the next number",
             Invariant::StopsOfChoice =>
                 "job_choice::offer_all: a choice stops once for each application at most",

@@ -9,7 +9,7 @@ ghost use Rattle.sched_book.specs.Reports.{modify_nth};
 use crate::delta::{Delta, Edit, changed_book, classed_book, new_books};
 use crate::desk::Unavailable;
 use crate::instance::{Instance, Place, UnitBook};
-use crate::look_ups::copy_of;
+use crate::by_place::copy_of;
 use crate::rows::Rows;
 use crate::world::World;
 use std::alloc::Global;

@@ -15,7 +15,7 @@ use crate::instance::{Instance, Place, UnitBook};
 use crate::limits::{
     MOST_ACCOUNTS, MOST_APPS, MOST_HOSTS, MOST_INSTANCES, MOST_VERSIONS, MOST_WORKUNITS,
 };
-use crate::look_ups::copy_of;
+use crate::by_place::copy_of;
 use crate::rows::{HostRow, Rows, Workunit};
 use crate::world::World;
 use std::alloc::Global;

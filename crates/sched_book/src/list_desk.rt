@@ -12,7 +12,7 @@ use crate::count::{agreement_by, book_status};
 use crate::delta::{Delta, is_bounded};
 use crate::desk::{Counts, Desk, Placed, Taker, Unavailable, Units};
 use crate::instance::{Instance, Place, Status};
-use crate::look_ups::{
+use crate::by_place::{
     account_place, app_place, copy_at, copy_instance, copy_nth, find_version, host_place, nth,
     unit_place,
 };

@@ -3,7 +3,7 @@
 ghost use Rattle.std.specs.Prelude.{◌≡◌, IfOk};
 ghost use Rattle.sched_book.specs.Classes.{rule_after};
 
-use crate::look_ups::copy_of;
+use crate::by_place::copy_of;
 use texts::{Listed, Memory, Same, Text};
 
 /// How two outputs of an application are compared.

@@ -11,7 +11,7 @@ ghost use Rattle.sched_book.specs.declared.instance.UnitBook.{UnitBook};
 
 use crate::count::{agreement_by, canonical, is_valid, verdict_by};
 use crate::instance::{Instance, Place, UnitBook};
-use crate::look_ups::nth;
+use crate::by_place::nth;
 use crate::moment::Moment;
 use crate::rows::{App, HostRow};
 use crate::world::World;

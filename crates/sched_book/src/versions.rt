@@ -2,7 +2,7 @@
 
 ghost use Rattle.std.specs.Prelude.{◌≡◌, filter, IfOk};
 ghost use Rattle.std.specs.Option.{option_copied};
-ghost use Rattle.sched_book.specs.Fits.{is_version_for, newest, version_among};
+ghost use Rattle.sched_book.specs.Fits.{is_version_for, newest_version, version_among};
 
 use crate::rows::Version;
 use texts::{Memory, Text};
@@ -15,7 +15,7 @@ fn is_for_platform(version: &Version, app: &str, platform: &str) -> bool
 
 /// The newest version of the application for a platform; of those with the greatest number the first.
 fn newest_for<'a>(versions: &'a [Version], app: &str, platform: &str) -> Option<&'a Version>
-    ensures { option_copied result ≡ newest (filter (is_version_for app.now platform.now) versions.now) }
+    ensures { option_copied result ≡ newest_version (filter (is_version_for app.now platform.now) versions.now) }
 {
     let mut best: Option<&Version> = None;
     for version in versions {

@@ -3,13 +3,13 @@
 ghost use Rattle.std.specs.Prelude.{◌≡◌, ◌<◌, ◌≤◌, ◌^◌, IsTrue, IfSome, length};
 ghost use Rattle.std.specs.Char.{is_ascii_digit};
 ghost use Rattle.std.specs.List.{list_all};
-ghost use Rattle.sched_book.specs.WholeNumbers.{number_of, magnitude, whole_number, are_within};
+ghost use Rattle.sched_book.specs.WholeNumbers.{decimal_value, magnitude, whole_number, are_within};
 
 /// The number that digits denote.
 fn number_of_digits(digits: &[u8]) -> u64
     requires digits { IsTrue (list_all is_ascii_digit digits.now) }
     requires few { length digits.now ≤ 18 }
-    ensures value { result ≡ number_of digits.now }
+    ensures value { result ≡ decimal_value digits.now }
     ensures small { result < 10 ^ 18 }
 {
     let mut number = 0;

@@ -4,14 +4,14 @@ use Rattle.sched_book.specs.Places.{passes, is_held_by}
 use Rattle.sched_book.specs.declared.instance.Place.{Place}
 use Rattle.sched_book.specs.declared.world.World.{World}
 use Rattle.lost_jobs.specs.declared.fates.Fate.{Fate}
-use Rattle.call_sheet.specs.Leaf.{Leaf}
+use Rattle.call_sheet.specs.UnitState.{UnitState}
 
 -- the host holds the instance at a place
 abbrev pub holds : World → ℕ → Place → Bool
 holds w host p = passes w (λ b x. is_held_by host x) p
 
--- by the leaf of its workunit, the host still holds an instance that it held when the call came
-abbrev pub still_holds : Option Leaf → ℕ → ℕ → Bool
+-- by the state of its workunit, the host still holds an instance that it held when the call came
+abbrev pub still_holds : Option UnitState → ℕ → ℕ → Bool
 still_holds None host number = true
 still_holds (Some k) host number = unwrap_or (option_map (is_held_by host) (slice_get k.present number)) false
 

@@ -14,8 +14,8 @@ use Rattle.sched_book.specs.declared.rows.HostRow.{HostRow}
 use Rattle.sched_book.specs.declared.rows.Version.{Version}
 use Rattle.sched_book.specs.declared.world.World.{World}
 use Rattle.job_choice.specs.declared.granted.Granted.{Granted}
-use Rattle.call_sheet.specs.Sheets.{instance_now}
-use Rattle.call_sheet.specs.Leaf.{Leaf}
+use Rattle.call_sheet.specs.WorkingSets.{instance_now}
+use Rattle.call_sheet.specs.UnitState.{UnitState}
 use Rattle.quorum_credit.specs.Limited.{FitWithin}
 use Rattle.quorum_credit.specs.Settling.{AreUnitsInLimits}
 use Rattle.sched_machine.specs.declared.jobs.Sending.{Sending}
@@ -25,8 +25,8 @@ use Rattle.sched_machine.specs.declared.jobs.Sending.TheVariants.{First, Again}
 abbrev pub owner_for : ℕ → ℕ → ℕ → Owner
 owner_for host now delay = record { host = host; sent = now; deadline = now + delay }
 
--- the instance of a number on a leaf, given to a host; none if there is no instance
-abbrev pub given_on : Option Leaf → ℕ → ℕ → ℕ → Option Instance
+-- the instance of a number in a unit state, given to a host; none if there is no instance
+abbrev pub given_on : Option UnitState → ℕ → ℕ → ℕ → Option Instance
 given_on None number host now = None
 given_on (Some k) number host now = option_map (with_owner (owner_for host now k.unit.delay_bound)) (slice_get k.present number)
 
@@ -41,8 +41,8 @@ abbrev pub is_again : Sending → Bool
 is_again First = false
 is_again Again = true
 
--- what a reply says of the instance of a number on a leaf, to a host that runs this version
-abbrev pub job_on : Option Leaf → ℕ → HostRow → Bool → Option Version → Option Job
+-- what a reply says of the instance of a number in a unit state, to a host that runs this version
+abbrev pub job_on : Option UnitState → ℕ → HostRow → Bool → Option Version → Option Job
 job_on None number h resent v = None
 job_on (Some k) number h resent v =
     option_map

@@ -41,22 +41,22 @@ fn row_of_call(caller: &Caller, request: &Request, quota: u32) -> Result<HostRow
 /// Renews the host of this number, which keeps its quota.
 fn renew_host<S: Draft>(
     alloc: Global,
-    sheet: &mut S,
+    working_set: &mut S,
     caller: &Caller,
     number: u32,
     request: &Request,
 ) -> Result<Calling, Unavailable>
-    ensures works { S.works sheet.old sheet.new }
-    ensures entered { Trusted S.Units sheet.old sheet.new (IfOk result (λ call. S.edits sheet.old ≡ [] → Sound (S.entry sheet.old) →
-        IsAdmitted (S.entry sheet.old) caller.now request.now → caller.now.host ≡ Some number →
-        IsEntered (S.entry sheet.old) request.now call (S.world sheet.new) (S.edits sheet.new))) }
+    ensures works { S.works working_set.old working_set.new }
+    ensures entered { Trusted S.Units working_set.old working_set.new (IfOk result (λ call. S.edits working_set.old ≡ [] → Sound (S.entry working_set.old) →
+        IsAdmitted (S.entry working_set.old) caller.now request.now → caller.now.host ≡ Some number →
+        IsEntered (S.entry working_set.old) request.now call (S.world working_set.new) (S.edits working_set.new))) }
     ensures caller { IfOk result (λ call. call.caller ≡ caller.now) }
 {
-    let Some(before) = sheet.host(alloc, number)? else {
+    let Some(before) = working_set.host(alloc, number)? else {
         return Err(Unavailable(Cause::Broken(Invariant::CallingHost)));
     };
     let host = row_of_call(caller, request, before.quota)?;
-    sheet.put_host(alloc, number, &host)?;
+    working_set.put_host(alloc, number, &host)?;
     Ok(Calling {
         caller: *caller,
         number,
@@ -66,23 +66,23 @@ fn renew_host<S: Draft>(
 
 /// Makes a host after the others, with the quota from the settings. Refused if there may be no more hosts.
 fn make_host<S: Draft>(
-    sheet: &mut S,
+    working_set: &mut S,
     caller: &Caller,
     request: &Request,
 ) -> Result<Calling, StepError>
-    ensures works { S.works sheet.old sheet.new }
-    ensures entered { Trusted S.Units sheet.old sheet.new (IfOk result (λ call. S.edits sheet.old ≡ [] → Sound (S.entry sheet.old) →
-        IsAdmitted (S.entry sheet.old) caller.now request.now → caller.now.host ≡ None →
-        IsEntered (S.entry sheet.old) request.now call (S.world sheet.new) (S.edits sheet.new))) }
+    ensures works { S.works working_set.old working_set.new }
+    ensures entered { Trusted S.Units working_set.old working_set.new (IfOk result (λ call. S.edits working_set.old ≡ [] → Sound (S.entry working_set.old) →
+        IsAdmitted (S.entry working_set.old) caller.now request.now → caller.now.host ≡ None →
+        IsEntered (S.entry working_set.old) request.now call (S.world working_set.new) (S.edits working_set.new))) }
     ensures caller { IfOk result (λ call. call.caller ≡ caller.now) }
-    ensures room { Trusted S.Units sheet.old sheet.new (IfOk result (λ call. HasRoom (S.entry sheet.old) caller.now)) }
-    ensures full { Trusted S.Units sheet.old sheet.new (IsErrOf result error.HostsFull →
-        caller.now.host ≡ None → LacksRoom (S.entry sheet.old) caller.now) }
+    ensures room { Trusted S.Units working_set.old working_set.new (IfOk result (λ call. HasRoom (S.entry working_set.old) caller.now)) }
+    ensures full { Trusted S.Units working_set.old working_set.new (IsErrOf result error.HostsFull →
+        caller.now.host ≡ None → LacksRoom (S.entry working_set.old) caller.now) }
 {
-    let quota = sheet.settings().daily_result_quota;
-    let most = sheet.settings().max_hosts;
+    let quota = working_set.settings().daily_result_quota;
+    let most = working_set.settings().max_hosts;
     let host = row_of_call(caller, request, quota)?;
-    match sheet.add_host(&host, most)? {
+    match working_set.add_host(&host, most)? {
         None => Err(StepError::HostsFull),
         Some(number) => Ok(Calling {
             caller: *caller,
@@ -92,24 +92,24 @@ fn make_host<S: Draft>(
     }
 }
 
-/// Puts the row of a caller's host, as the call gives it, onto the sheet of the call, before any other edit. Refused
-/// if the host is new and there may be no more hosts.
+/// Puts the row of a caller's host, as the call gives it, into the working set of the call, before any other edit.
+/// Refused if the host is new and there may be no more hosts.
 pub(crate) fn enter<S: Draft>(
     alloc: Global,
-    sheet: &mut S,
+    working_set: &mut S,
     caller: &Caller,
     request: &Request,
 ) -> Result<Calling, StepError>
-    ensures works { S.works sheet.old sheet.new }
-    ensures entered { Trusted S.Units sheet.old sheet.new (IfOk result (λ call. S.edits sheet.old ≡ [] → Sound (S.entry sheet.old) →
-        IsAdmitted (S.entry sheet.old) caller.now request.now →
-        IsEntered (S.entry sheet.old) request.now call (S.world sheet.new) (S.edits sheet.new))) }
+    ensures works { S.works working_set.old working_set.new }
+    ensures entered { Trusted S.Units working_set.old working_set.new (IfOk result (λ call. S.edits working_set.old ≡ [] → Sound (S.entry working_set.old) →
+        IsAdmitted (S.entry working_set.old) caller.now request.now →
+        IsEntered (S.entry working_set.old) request.now call (S.world working_set.new) (S.edits working_set.new))) }
     ensures caller { IfOk result (λ call. call.caller ≡ caller.now) }
-    ensures room { Trusted S.Units sheet.old sheet.new (IfOk result (λ call. HasRoom (S.entry sheet.old) caller.now)) }
-    ensures full { Trusted S.Units sheet.old sheet.new (IsErrOf result error.HostsFull → LacksRoom (S.entry sheet.old) caller.now) }
+    ensures room { Trusted S.Units working_set.old working_set.new (IfOk result (λ call. HasRoom (S.entry working_set.old) caller.now)) }
+    ensures full { Trusted S.Units working_set.old working_set.new (IsErrOf result error.HostsFull → LacksRoom (S.entry working_set.old) caller.now) }
 {
     match caller.host {
-        Some(number) => Ok(renew_host(alloc, sheet, caller, number, request)?),
-        None => make_host(sheet, caller, request),
+        Some(number) => Ok(renew_host(alloc, working_set, caller, number, request)?),
+        None => make_host(working_set, caller, request),
     }
 }

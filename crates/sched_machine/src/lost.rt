@@ -33,29 +33,29 @@ fn resent_places(alloc: Global, fates: &[Fate]) -> Result<Listed<Place>, Memory>
 /// the places of those that are sent again.
 pub(crate) fn lose<S: Draft>(
     alloc: Global,
-    sheet: &mut S,
+    working_set: &mut S,
     call: &Calling,
     held: &[Place],
     request: &Request,
     now: Moment,
 ) -> Result<Listed<Place>, Unavailable>
-    ensures works { S.works sheet.old sheet.new }
-    ensures left { Trusted S.Units sheet.old sheet.new (OnOk result (IsCalling (S.entry sheet.old) request.now call.now →
-        held.now ≡ held_by (S.entry sheet.old) call.now.number →
-        S.world sheet.old ≡ after_reports (S.entry sheet.old) call.now.caller request.now →
-        S.world sheet.new ≡ after_lost (S.entry sheet.old) call.now.caller request.now now)) }
-    ensures fits { Trusted S.Units sheet.old sheet.new (OnOk result (IsCalling (S.entry sheet.old) request.now call.now →
-        held.now ≡ held_by (S.entry sheet.old) call.now.number →
-        S.world sheet.old ≡ after_reports (S.entry sheet.old) call.now.caller request.now →
-        EditsFit (S.entry sheet.old) (S.edits sheet.old) → EditsFit (S.entry sheet.old) (S.edits sheet.new))) }
-    ensures resent { Trusted S.Units sheet.old sheet.new (IfOk result (λ places. IsCalling (S.entry sheet.old) request.now call.now →
-        held.now ≡ held_by (S.entry sheet.old) call.now.number →
-        S.world sheet.old ≡ after_reports (S.entry sheet.old) call.now.caller request.now →
-        places ≡ resent_of (S.entry sheet.old) call.now.caller request.now)) }
+    ensures works { S.works working_set.old working_set.new }
+    ensures left { Trusted S.Units working_set.old working_set.new (OnOk result (IsCalling (S.entry working_set.old) request.now call.now →
+        held.now ≡ held_by (S.entry working_set.old) call.now.number →
+        S.world working_set.old ≡ after_reports (S.entry working_set.old) call.now.caller request.now →
+        S.world working_set.new ≡ after_lost (S.entry working_set.old) call.now.caller request.now now)) }
+    ensures fits { Trusted S.Units working_set.old working_set.new (OnOk result (IsCalling (S.entry working_set.old) request.now call.now →
+        held.now ≡ held_by (S.entry working_set.old) call.now.number →
+        S.world working_set.old ≡ after_reports (S.entry working_set.old) call.now.caller request.now →
+        EditsFit (S.entry working_set.old) (S.edits working_set.old) → EditsFit (S.entry working_set.old) (S.edits working_set.new))) }
+    ensures resent { Trusted S.Units working_set.old working_set.new (IfOk result (λ places. IsCalling (S.entry working_set.old) request.now call.now →
+        held.now ≡ held_by (S.entry working_set.old) call.now.number →
+        S.world working_set.old ≡ after_reports (S.entry working_set.old) call.now.caller request.now →
+        places ≡ resent_of (S.entry working_set.old) call.now.caller request.now)) }
 {
-    let lost = lost_on(alloc, sheet, call.number, held, request)?;
-    let fates = fates_on(alloc, sheet, &call.host, lost.as_slice(), now)?;
-    put_fates(alloc, sheet, fates.as_slice())?;
+    let lost = lost_on(alloc, working_set, call.number, held, request)?;
+    let fates = fates_on(alloc, working_set, &call.host, lost.as_slice(), now)?;
+    put_fates(alloc, working_set, fates.as_slice())?;
     let resent = resent_places(alloc, fates.as_slice())?;
     Ok(resent)
 }

@@ -16,7 +16,7 @@ ghost use Rattle.sched_machine.specs.declared.step_error.StepError.TheVariants a
 use crate::caller::{Calling, enter};
 use crate::settlement::{SettledCall, settle_call};
 use crate::step_error::StepError;
-use call_sheet::{Draft, Leaf};
+use call_sheet::{Draft, UnitState};
 use job_choice::seconds_at;
 use lost_jobs::aborts_on;
 use quorum_credit::Score;
@@ -25,14 +25,14 @@ use sched_book::{Caller, Cause, HostRow, Invariant, Moment, Place, Unavailable};
 use std::alloc::Global;
 use texts::{Listed, Text};
 
-/// Whether the host still holds an instance that it held when the call came, by the leaf of its workunit. A workunit
+/// Whether the host still holds an instance that it held when the call came, by the state of its workunit. A workunit
 /// that was not read was not changed.
-fn still_holds(leaf: Option<&Leaf>, host: u32, number: u32) -> bool
-    ensures { result ≡ still_holds (option_copied leaf.entry) host number }
+fn still_holds(unit_state: Option<&UnitState>, host: u32, number: u32) -> bool
+    ensures { result ≡ still_holds (option_copied unit_state.entry) host number }
 {
-    match leaf {
+    match unit_state {
         None => true,
-        Some(leaf) => match leaf.present().get(number as usize) {
+        Some(unit_state) => match unit_state.present().get(number as usize) {
             None => false,
             Some(instance) => instance.is_held_by(host),
         },
@@ -40,12 +40,12 @@ fn still_holds(leaf: Option<&Leaf>, host: u32, number: u32) -> bool
 }
 
 /// How many instances the host still holds, of those that it held when the call came.
-fn held_now<S: Draft>(sheet: &S, host: u32, held: &[Place]) -> Result<u32, Unavailable>
-    ensures { IfOk result (λ count. count ≡ count_by (λ (p : Place). still_holds (S.kept sheet.now p.unit) host p.number) held.now) }
+fn held_now<S: Draft>(working_set: &S, host: u32, held: &[Place]) -> Result<u32, Unavailable>
+    ensures { IfOk result (λ count. count ≡ count_by (λ (p : Place). still_holds (S.kept working_set.now p.unit) host p.number) held.now) }
 {
     let mut count: u32 = 0;
     for place in held {
-        if still_holds(sheet.leaf(place.unit), host, place.number) {
+        if still_holds(working_set.unit_state(place.unit), host, place.number) {
             let Some(sum) = count.checked_add(1) else {
                 // Does not happen in a sound world, where no host holds more than 20,000,000:
                 // `sched_book::laws::instances_are_few`.
@@ -62,17 +62,17 @@ fn held_now<S: Draft>(sheet: &S, host: u32, held: &[Place]) -> Result<u32, Unava
 #[tactic(auto, using(crate::proofs::Calls::Asked::estimate_none, crate::proofs::Calls::Asked::estimate_some))]
 fn seconds_of<S: Draft>(
     alloc: Global,
-    sheet: &mut S,
+    working_set: &mut S,
     host: &HostRow,
     places: &[Place],
 ) -> Result<u64, Unavailable>
-    ensures reads { S.reads sheet.old sheet.new }
-    ensures answer { Trusted S.Units sheet.old sheet.new (
-        IfOk result (λ seconds. seconds ≡ sum_by (estimate_at (S.world sheet.old) host.now) places.now)) }
+    ensures reads { S.reads working_set.old working_set.new }
+    ensures answer { Trusted S.Units working_set.old working_set.new (
+        IfOk result (λ seconds. seconds ≡ sum_by (estimate_at (S.world working_set.old) host.now) places.now)) }
 {
     let mut seconds: u64 = 0;
     for place in places {
-        let Some(unit) = sheet.unit(alloc, place.unit)? else {
+        let Some(unit) = working_set.unit(alloc, place.unit)? else {
             continue;
         };
         let more = seconds_at(unit.rsc_fpops_est, host.p_fpops);
@@ -99,23 +99,23 @@ pub(crate) struct Wish {
 /// What a call's host asks for. `held` is what it held when the call came, `resent` what is sent to it again.
 fn wish_of<S: Draft>(
     alloc: Global,
-    sheet: &mut S,
+    working_set: &mut S,
     call: &Calling,
     held: &[Place],
     resent: &[Place],
 ) -> Result<Wish, Unavailable>
-    ensures reads { S.reads sheet.old sheet.new }
-    ensures row { Trusted S.Units sheet.old sheet.new (IfOk result (λ wish.
-        wish.row ≡ unwrap_or (host_at (S.world sheet.old) call.now.number) call.now.host)) }
-    ensures held { Trusted S.Units sheet.old sheet.new (IfOk result (λ wish.
-        held.now ≡ held_by (S.entry sheet.old) call.now.number → HoldsNoMore (S.entry sheet.old) (S.world sheet.old) call.now.number →
-        wish.held ≡ length (held_by (S.world sheet.old) call.now.number))) }
-    ensures before { Trusted S.Units sheet.old sheet.new (IfOk result (λ wish.
-        wish.before ≡ sum_by (estimate_at (S.world sheet.old) call.now.host) resent.now)) }
+    ensures reads { S.reads working_set.old working_set.new }
+    ensures row { Trusted S.Units working_set.old working_set.new (IfOk result (λ wish.
+        wish.row ≡ unwrap_or (host_at (S.world working_set.old) call.now.number) call.now.host)) }
+    ensures held { Trusted S.Units working_set.old working_set.new (IfOk result (λ wish.
+        held.now ≡ held_by (S.entry working_set.old) call.now.number → HoldsNoMore (S.entry working_set.old) (S.world working_set.old) call.now.number →
+        wish.held ≡ length (held_by (S.world working_set.old) call.now.number))) }
+    ensures before { Trusted S.Units working_set.old working_set.new (IfOk result (λ wish.
+        wish.before ≡ sum_by (estimate_at (S.world working_set.old) call.now.host) resent.now)) }
 {
-    let held = held_now(sheet, call.number, held)?;
-    let before = seconds_of(alloc, sheet, &call.host, resent)?;
-    let row = match sheet.host(alloc, call.number)? {
+    let held = held_now(working_set, call.number, held)?;
+    let before = seconds_of(alloc, working_set, &call.host, resent)?;
+    let row = match working_set.host(alloc, call.number)? {
         Some(row) => row,
         None => call.host.clone()?,
     };
@@ -138,26 +138,26 @@ pub(crate) struct Ready {
 /// be no more hosts.
 pub(crate) fn prepare<S: Draft>(
     alloc: Global,
-    sheet: &mut S,
+    working_set: &mut S,
     caller: &Caller,
     request: &Request,
     now: Moment,
 ) -> Result<Ready, StepError>
-    ensures works { S.works sheet.old sheet.new }
-    ensures ready { Trusted S.Units sheet.old sheet.new (IfOk result (λ ready. S.edits sheet.old ≡ [] → Sound (S.entry sheet.old) →
-        IsAdmitted (S.entry sheet.old) caller.now request.now →
-        IsReady (S.entry sheet.old) request.now now ready (S.world sheet.new) (S.edits sheet.new))) }
+    ensures works { S.works working_set.old working_set.new }
+    ensures ready { Trusted S.Units working_set.old working_set.new (IfOk result (λ ready. S.edits working_set.old ≡ [] → Sound (S.entry working_set.old) →
+        IsAdmitted (S.entry working_set.old) caller.now request.now →
+        IsReady (S.entry working_set.old) request.now now ready (S.world working_set.new) (S.edits working_set.new))) }
     ensures caller { IfOk result (λ ready. ready.call.caller ≡ caller.now) }
-    ensures room { Trusted S.Units sheet.old sheet.new (IfOk result (λ ready. HasRoom (S.entry sheet.old) caller.now)) }
-    ensures full { Trusted S.Units sheet.old sheet.new (IsErrOf result error.HostsFull → LacksRoom (S.entry sheet.old) caller.now) }
+    ensures room { Trusted S.Units working_set.old working_set.new (IfOk result (λ ready. HasRoom (S.entry working_set.old) caller.now)) }
+    ensures full { Trusted S.Units working_set.old working_set.new (IsErrOf result error.HostsFull → LacksRoom (S.entry working_set.old) caller.now) }
 {
-    let call = enter(alloc, sheet, caller, request)?;
-    let held = sheet.held_before(alloc, call.number)?;
-    let settled = settle_call(alloc, sheet, &call, held.as_slice(), request, now)?;
-    let aborted = aborts_on(alloc, sheet, call.number, request)?;
+    let call = enter(alloc, working_set, caller, request)?;
+    let held = working_set.held_before(alloc, call.number)?;
+    let settled = settle_call(alloc, working_set, &call, held.as_slice(), request, now)?;
+    let aborted = aborts_on(alloc, working_set, call.number, request)?;
     let wish = wish_of(
         alloc,
-        sheet,
+        working_set,
         &call,
         held.as_slice(),
         settled.resent.as_slice(),

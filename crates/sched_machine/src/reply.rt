@@ -31,15 +31,15 @@ pub(crate) struct Told {
 /// The name of the caller's user.
 fn user_name<S: Draft>(
     alloc: Global,
-    sheet: &mut S,
+    working_set: &mut S,
     caller: Caller,
     request: &Request,
 ) -> Result<Text, Unavailable>
-    ensures reads { S.reads sheet.old sheet.new }
-    ensures answer { Trusted S.Units sheet.old sheet.new (IfOk result (λ name.
-        IsCaller (S.entry sheet.old) caller request.now → name ≡ user_name (S.entry sheet.old) caller.account)) }
+    ensures reads { S.reads working_set.old working_set.new }
+    ensures answer { Trusted S.Units working_set.old working_set.new (IfOk result (λ name.
+        IsCaller (S.entry working_set.old) caller request.now → name ≡ user_name (S.entry working_set.old) caller.account)) }
 {
-    match sheet.account_by_key(alloc, request.authenticator.as_str())? {
+    match working_set.account_by_key(alloc, request.authenticator.as_str())? {
         None => Ok(Text::copied(alloc, "")?),
         Some(account) => Ok(account.row.name),
     }
@@ -48,30 +48,30 @@ fn user_name<S: Draft>(
 /// Gives new jobs to the host of a call, and returns what the reply then says of its jobs and its user.
 pub(crate) fn conclude<S: Draft>(
     alloc: Global,
-    sheet: &mut S,
+    working_set: &mut S,
     ready: &Ready,
     request: &Request,
     now: Moment,
     jobs: &[Granted],
 ) -> Result<Told, Unavailable>
-    ensures works { S.works sheet.old sheet.new }
-    ensures left { Trusted S.Units sheet.old sheet.new (OnOk result (
-        S.world sheet.new ≡ with_classes (granted (S.world sheet.old) ready.now.call.number now (places_of jobs.now)) jobs.now)) }
-    ensures fits { Trusted S.Units sheet.old sheet.new (OnOk result (CanTake (S.entry sheet.old) jobs.now →
-        FitWithHost (S.entry sheet.old) ready.now.call.number (S.edits sheet.old) →
-        FitWithHost (S.entry sheet.old) ready.now.call.number (S.edits sheet.new))) }
-    ensures told { Trusted S.Units sheet.old sheet.new (IfOk result (λ told.
-        IsCaller (S.entry sheet.old) ready.now.call.caller request.now → AreRunBy (S.entry sheet.old) ready.now.call.host jobs.now →
-        AreReplyParts (S.entry sheet.old) (S.world sheet.new) ready.now (places_of jobs.now) told)) }
+    ensures works { S.works working_set.old working_set.new }
+    ensures left { Trusted S.Units working_set.old working_set.new (OnOk result (
+        S.world working_set.new ≡ with_classes (granted (S.world working_set.old) ready.now.call.number now (places_of jobs.now)) jobs.now)) }
+    ensures fits { Trusted S.Units working_set.old working_set.new (OnOk result (CanTake (S.entry working_set.old) jobs.now →
+        FitWithHost (S.entry working_set.old) ready.now.call.number (S.edits working_set.old) →
+        FitWithHost (S.entry working_set.old) ready.now.call.number (S.edits working_set.new))) }
+    ensures told { Trusted S.Units working_set.old working_set.new (IfOk result (λ told.
+        IsCaller (S.entry working_set.old) ready.now.call.caller request.now → AreRunBy (S.entry working_set.old) ready.now.call.host jobs.now →
+        AreReplyParts (S.entry working_set.old) (S.world working_set.new) ready.now (places_of jobs.now) told)) }
 {
     let call = &ready.call;
     let settled = &ready.settled;
-    give(alloc, sheet, call.number, now, jobs)?;
-    let host_credit = host_total(sheet, call.number, settled.scores.as_slice())?;
-    let user_credit = user_total(alloc, sheet, call.caller.account, settled.scores.as_slice())?;
-    let user_name = user_name(alloc, sheet, call.caller, request)?;
-    let mut results = resent_jobs(alloc, sheet, &call.host, settled.resent.as_slice())?;
-    add_granted(alloc, sheet, &call.host, jobs, &mut results)?;
+    give(alloc, working_set, call.number, now, jobs)?;
+    let host_credit = host_total(working_set, call.number, settled.scores.as_slice())?;
+    let user_credit = user_total(alloc, working_set, call.caller.account, settled.scores.as_slice())?;
+    let user_name = user_name(alloc, working_set, call.caller, request)?;
+    let mut results = resent_jobs(alloc, working_set, &call.host, settled.resent.as_slice())?;
+    add_granted(alloc, working_set, &call.host, jobs, &mut results)?;
     Ok(Told {
         results,
         host_credit,

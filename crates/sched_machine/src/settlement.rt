@@ -30,21 +30,21 @@ pub(crate) struct SettledCall {
 /// touches.
 pub(crate) fn settle_call<S: Draft>(
     alloc: Global,
-    sheet: &mut S,
+    working_set: &mut S,
     call: &Calling,
     held: &[Place],
     request: &Request,
     now: Moment,
 ) -> Result<SettledCall, Unavailable>
-    ensures works { S.works sheet.old sheet.new }
-    ensures settled { Trusted S.Units sheet.old sheet.new (IfOk result (λ done.
-        IsEntered (S.entry sheet.old) request.now call.now (S.world sheet.old) (S.edits sheet.old) →
-        held.now ≡ held_by (S.entry sheet.old) call.now.number →
-        IsSettledCall (S.entry sheet.old) request.now call.now now done (S.world sheet.new) (S.edits sheet.new))) }
+    ensures works { S.works working_set.old working_set.new }
+    ensures settled { Trusted S.Units working_set.old working_set.new (IfOk result (λ done.
+        IsEntered (S.entry working_set.old) request.now call.now (S.world working_set.old) (S.edits working_set.old) →
+        held.now ≡ held_by (S.entry working_set.old) call.now.number →
+        IsSettledCall (S.entry working_set.old) request.now call.now now done (S.world working_set.new) (S.edits working_set.new))) }
 {
-    let acked = record_on(alloc, sheet, call.number, request)?;
-    let resent = lose(alloc, sheet, call, held, request, now)?;
-    let scores = settle_read(alloc, sheet)?;
+    let acked = record_on(alloc, working_set, call.number, request)?;
+    let resent = lose(alloc, working_set, call, held, request, now)?;
+    let scores = settle_read(alloc, working_set)?;
     Ok(SettledCall {
         acked,
         resent,

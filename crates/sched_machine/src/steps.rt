@@ -7,7 +7,7 @@ ghost use Rattle.sched_book.specs.Sound.{Sound};
 ghost use Rattle.sched_book.specs.declared.world.World.{World};
 ghost use Rattle.sched_book.specs.Step.{HasRoom, RpcStep, TickStep, ImportStep};
 ghost use Rattle.sched_book.specs.Trusted.{Trusted};
-ghost use Rattle.call_sheet.specs.Sheets.{IsPageOf};
+ghost use Rattle.call_sheet.specs.WorkingSets.{IsCallStateOf};
 ghost use Rattle.sched_machine.specs.Calling.{LacksRoom, IsAdmitted};
 ghost use Rattle.sched_machine.specs.Prepared.{IsReady};
 ghost use Rattle.sched_machine.specs.Replying.{IsGranted};
@@ -17,7 +17,7 @@ use crate::imports::row_count;
 use crate::preparing::{Ready, prepare};
 use crate::reply::{Told, conclude, reply_of};
 use crate::step_error::StepError;
-use call_sheet::{Page, Sheet};
+use call_sheet::{CallState, WorkingSet};
 use job_choice::choose;
 use quorum_credit::lapse_places;
 use rpc_records::{EndWord, Reply, Request};
@@ -29,15 +29,15 @@ use std::alloc::Global;
 fn grant_jobs<D: Desk>(
     alloc: Global,
     desk: &mut D,
-    page: &mut Page,
+    call_state: &mut CallState,
     ready: &Ready,
     request: &Request,
     now: Moment,
 ) -> Result<(Told, EndWord), Unavailable>
     ensures reads { D.reads desk.old desk.new }
-    ensures step { Trusted D.Units desk.old desk.new (IsPageOf (D.world desk.old) page.old → IfOk result (λ told.
-        IsReady (D.world desk.old) request.now now ready.now (edited (D.world desk.old) page.old.edits) page.old.edits →
-        IsGranted (D.world desk.old) request.now now ready.now (edited (D.world desk.old) page.new.edits) page.new.edits told.0 told.1)) }
+    ensures step { Trusted D.Units desk.old desk.new (IsCallStateOf (D.world desk.old) call_state.old → IfOk result (λ told.
+        IsReady (D.world desk.old) request.now now ready.now (edited (D.world desk.old) call_state.old.edits) call_state.old.edits →
+        IsGranted (D.world desk.old) request.now now ready.now (edited (D.world desk.old) call_state.new.edits) call_state.new.edits told.0 told.1)) }
 {
     let wish = &ready.wish;
     let grant = choose(
@@ -50,10 +50,10 @@ fn grant_jobs<D: Desk>(
         request.asked,
         now,
     )?;
-    let mut sheet = Sheet { desk, page };
+    let mut working_set = WorkingSet { desk, call_state };
     let told = conclude(
         alloc,
-        &mut sheet,
+        &mut working_set,
         ready,
         request,
         now,
@@ -62,30 +62,30 @@ fn grant_jobs<D: Desk>(
     Ok((told, grant.end_word))
 }
 
-/// Acts on a call with an empty page. Afterwards the page has the edits of the call; returns the reply.
+/// Acts on a call with an empty call state. Afterwards the call state has the edits of the call; returns the reply.
 fn act<D: Desk>(
     alloc: Global,
     desk: &mut D,
-    page: &mut Page,
+    call_state: &mut CallState,
     caller: &Caller,
     request: &Request,
     now: Moment,
 ) -> Result<Reply, StepError>
     ensures reads { D.reads desk.old desk.new }
-    ensures step { Trusted D.Units desk.old desk.new (IsPageOf (D.world desk.old) page.old → IfOk result (λ reply. page.old.edits ≡ [] →
+    ensures step { Trusted D.Units desk.old desk.new (IsCallStateOf (D.world desk.old) call_state.old → IfOk result (λ reply. call_state.old.edits ≡ [] →
         Sound (D.world desk.old) → IsAdmitted (D.world desk.old) caller.now request.now →
-        RpcStep (D.world desk.old) caller.now request.now now (edited (D.world desk.old) page.new.edits) reply)) }
-    ensures fits { Trusted D.Units desk.old desk.new (IsPageOf (D.world desk.old) page.old → IfOk result (λ reply. page.old.edits ≡ [] →
-        Sound (D.world desk.old) → IsAdmitted (D.world desk.old) caller.now request.now → EditsFit (D.world desk.old) page.new.edits)) }
-    ensures room { Trusted D.Units desk.old desk.new (IsPageOf (D.world desk.old) page.old → IfOk result (λ reply. HasRoom (D.world desk.old) caller.now)) }
-    ensures full { Trusted D.Units desk.old desk.new (IsPageOf (D.world desk.old) page.old → IsErrOf result error.HostsFull →
+        RpcStep (D.world desk.old) caller.now request.now now (edited (D.world desk.old) call_state.new.edits) reply)) }
+    ensures fits { Trusted D.Units desk.old desk.new (IsCallStateOf (D.world desk.old) call_state.old → IfOk result (λ reply. call_state.old.edits ≡ [] →
+        Sound (D.world desk.old) → IsAdmitted (D.world desk.old) caller.now request.now → EditsFit (D.world desk.old) call_state.new.edits)) }
+    ensures room { Trusted D.Units desk.old desk.new (IsCallStateOf (D.world desk.old) call_state.old → IfOk result (λ reply. HasRoom (D.world desk.old) caller.now)) }
+    ensures full { Trusted D.Units desk.old desk.new (IsCallStateOf (D.world desk.old) call_state.old → IsErrOf result error.HostsFull →
         LacksRoom (D.world desk.old) caller.now) }
 {
-    let request_delay = page.settings.request_delay;
-    let mut sheet = Sheet { desk, page };
-    let ready = prepare(alloc, &mut sheet, caller, request, now)?;
-    drop(sheet);
-    let (told, end_word) = grant_jobs(alloc, desk, page, &ready, request, now)?;
+    let request_delay = call_state.settings.request_delay;
+    let mut working_set = WorkingSet { desk, call_state };
+    let ready = prepare(alloc, &mut working_set, caller, request, now)?;
+    drop(working_set);
+    let (told, end_word) = grant_jobs(alloc, desk, call_state, &ready, request, now)?;
     Ok(reply_of(ready, told, end_word, request, request_delay))
 }
 
@@ -114,9 +114,9 @@ pub fn step_call<D: Desk>(
     ensures room { Trusted D.Units desk.old desk.new (IfOk result (λ done. HasRoom (D.world desk.old) caller.now)) }
     ensures full { Trusted D.Units desk.old desk.new (IsErrOf result error.HostsFull → LacksRoom (D.world desk.old) caller.now) }
 {
-    let mut page = Page::new(alloc, desk.settings(alloc)?);
-    let reply = act(alloc, desk, &mut page, caller, request, now)?;
-    Ok((Delta::Edits(page.edits), reply))
+    let mut call_state = CallState::new(alloc, desk.settings(alloc)?);
+    let reply = act(alloc, desk, &mut call_state, caller, request, now)?;
+    Ok((Delta::Edits(call_state.edits), reply))
 }
 
 /// The step of an import of checked rows: the change that adds them, and how many there are. It is the same for every

@@ -13,15 +13,15 @@ use std::alloc::Global;
 
 /// The credit of a host: what it had when the call came, and what these scores bring.
 pub(crate) fn host_total<S: Draft>(
-    sheet: &mut S,
+    working_set: &mut S,
     host: u32,
     scores: &[Score],
 ) -> Result<u64, Unavailable>
-    ensures reads { S.reads sheet.old sheet.new }
-    ensures answer { Trusted S.Units sheet.old sheet.new (
-        IfOk result (λ credit. credit ≡ host_credit (S.entry sheet.old) host + credits_in scores.now host)) }
+    ensures reads { S.reads working_set.old working_set.new }
+    ensures answer { Trusted S.Units working_set.old working_set.new (
+        IfOk result (λ credit. credit ≡ host_credit (S.entry working_set.old) host + credits_in scores.now host)) }
 {
-    let mut credit = sheet.credit_of_host(host)?;
+    let mut credit = working_set.credit_of_host(host)?;
     for score in scores {
         let more = if score.host == host { score.credit } else { 0 };
         let Some(sum) = credit.checked_add(u64::from(more)) else {
@@ -36,18 +36,18 @@ pub(crate) fn host_total<S: Draft>(
 /// What a score brings to the user of an account.
 fn user_gain<S: Draft>(
     alloc: Global,
-    sheet: &mut S,
+    working_set: &mut S,
     account: u32,
     score: &Score,
 ) -> Result<u32, Unavailable>
-    ensures reads { S.reads sheet.old sheet.new }
-    ensures answer { Trusted S.Units sheet.old sheet.new (IfOk result (λ credit.
-        credit ≡ if belongs (S.world sheet.old).hosts account score.now.host then score.now.credit else 0)) }
+    ensures reads { S.reads working_set.old working_set.new }
+    ensures answer { Trusted S.Units working_set.old working_set.new (IfOk result (λ credit.
+        credit ≡ if belongs (S.world working_set.old).hosts account score.now.host then score.now.credit else 0)) }
 {
     if score.credit == 0 {
         return Ok(0);
     }
-    match sheet.host(alloc, score.host)? {
+    match working_set.host(alloc, score.host)? {
         Some(host) if host.account == account => Ok(score.credit),
         _ => Ok(0),
     }
@@ -57,17 +57,17 @@ fn user_gain<S: Draft>(
 /// hosts.
 pub(crate) fn user_total<S: Draft>(
     alloc: Global,
-    sheet: &mut S,
+    working_set: &mut S,
     account: u32,
     scores: &[Score],
 ) -> Result<u64, Unavailable>
-    ensures reads { S.reads sheet.old sheet.new }
-    ensures answer { Trusted S.Units sheet.old sheet.new (IfOk result (λ credit.
-        credit ≡ user_credit (S.entry sheet.old) account + user_credits_in (S.world sheet.old).hosts account scores.now)) }
+    ensures reads { S.reads working_set.old working_set.new }
+    ensures answer { Trusted S.Units working_set.old working_set.new (IfOk result (λ credit.
+        credit ≡ user_credit (S.entry working_set.old) account + user_credits_in (S.world working_set.old).hosts account scores.now)) }
 {
-    let mut credit = sheet.credit_of_user(account)?;
+    let mut credit = working_set.credit_of_user(account)?;
     for score in scores {
-        let more = user_gain(alloc, sheet, account, score)?;
+        let more = user_gain(alloc, working_set, account, score)?;
         let Some(sum) = credit.checked_add(u64::from(more)) else {
             // Does not happen in a sound world, as above.
             return Err(Unavailable(Cause::Broken(Invariant::CreditOfUser)));

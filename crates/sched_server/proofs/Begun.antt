@@ -14,7 +14,7 @@ use Rattle.pasts.proofs.UpgradePoints.{new_pasts_are_in_era, upgrades_lead_on}
 use Rattle.sched_machine.proofs.Moves.Sound.{the_empty_world_is_sound}
 use Rattle.message_engine.specs.Stores.{tables_by}
 use Rattle.message_engine.proofs.EntriesKept.{left_same, left_sound}
-use Rattle.sched_server.specs.Arrivals.{Answered, Tells, answered, StandsFor}
+use Rattle.sched_server.specs.Arrivals.{Answered, IsPastOf, answered, StandsFor}
 use Rattle.sched_server.specs.Laws.{NewStoresStand, UpgradedStands}
 use Rattle.sched_server.proofs.Stopped.{left_stands}
 
@@ -39,7 +39,7 @@ new_stores_stand store settled s settings honest kept new limits =
     }
 
 -- a past has as many messages as there are answered arrivals
-as_many : (key : List ℕ) (before : List Answered) (past : Past) → Tells key before past → length before ≡ length past
+as_many : (key : List ℕ) (before : List Answered) (past : Past) → IsPastOf key before past → length before ≡ length past
 as_many key [] [] tells = refl
 as_many key [] (h ∷ past) tells = absurd tells
 as_many key (a ∷ before) [] tells = absurd tells

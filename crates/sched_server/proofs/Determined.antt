@@ -15,7 +15,7 @@ use Rattle.pasts.specs.UpgradePoints.{AreOfEras}
 use Rattle.past_laws.proofs.Determined.{tables_are_determined}
 use Rattle.message_engine.specs.Imports.{reading_in, as_refusal, ReadsIn}
 use Rattle.message_engine.specs.Stores.{tables_by}
-use Rattle.sched_server.specs.Arrivals.{Answered, IsHeard, Tells, answered}
+use Rattle.sched_server.specs.Arrivals.{Answered, IsHeard, IsPastOf, answered}
 use Rattle.sched_server.specs.Handled.{response_to}
 use Rattle.sched_server.specs.Laws.{StoresAreDetermined, arrivals_of}
 use Rattle.sched_server.specs.Meanings.{SaysIn, allowed_by}
@@ -69,7 +69,7 @@ module _ (one_meaning : MessagesHaveOneMeaning) (key : List ℕ) where
   -- ---- many messages
 
   same_messages : (points : List ℕ) (before other_before : List Answered) (past other : Past) → arrivals_of before ≡ arrivals_of other_before
-      → Tells key before past → Tells key other_before other → AreOfEras points past → AreOfEras points other → messages_in past ≡ messages_in other
+      → IsPastOf key before past → IsPastOf key other_before other → AreOfEras points past → AreOfEras points other → messages_in past ≡ messages_in other
   same_messages points [] [] [] [] same tells says eras ages = refl
   same_messages points [] [] [] (g ∷ other) same tells says eras ages = absurd says
   same_messages points [] [] (h ∷ past) other same tells says eras ages = absurd tells
@@ -86,7 +86,7 @@ module _ (one_meaning : MessagesHaveOneMeaning) (key : List ℕ) where
       one_message a b h g parts.0 (eras.0 ∙ ap (era_at points) long ∙ sym ages.0) tells.0 says.0 in
       λ i. message i ∷ rest i
 
-  same_responses : (before other_before : List Answered) (past : Past) → arrivals_of before ≡ arrivals_of other_before → Tells key before past → Tells key other_before past
+  same_responses : (before other_before : List Answered) (past : Past) → arrivals_of before ≡ arrivals_of other_before → IsPastOf key before past → IsPastOf key other_before past
       → before ≡ other_before
   same_responses [] [] past same tells says = refl
   same_responses [] (b ∷ other_before) past same tells says = absurd (no_more b.arrival (arrivals_of other_before) (sym same))
@@ -102,4 +102,4 @@ pub stores_are_determined : MessagesHaveOneMeaning → StoresAreDetermined
 stores_are_determined one_meaning era key one other points before other_before st agrees settings same =
     let messages = same_messages one_meaning key points (answered before) (answered other_before) st.past agrees.past same st.tells agrees.tells st.in_era.eras agrees.in_era.eras in
     let made = tables_are_determined (tables_by one) (tables_by other) st.past agrees.past st.stands agrees.stands settings messages in
-    (made.0, same_responses one_meaning key (answered before) (answered other_before) st.past same st.tells (subst (Tells key (answered other_before)) (sym made.1) agrees.tells))
+    (made.0, same_responses one_meaning key (answered before) (answered other_before) st.past same st.tells (subst (IsPastOf key (answered other_before)) (sym made.1) agrees.tells))

@@ -31,7 +31,7 @@ use Rattle.pasts.proofs.UpgradePoints.{era_most}
 use Rattle.pasts.proofs.Shelves.{IfImports, shelf_stands}
 use Rattle.message_engine.specs.Imports.{reading_in, as_refusal, ReadsIn}
 use Rattle.message_engine.specs.Stores.{tables_by}
-use Rattle.sched_server.specs.Arrivals.{Answered, Tells, answered}
+use Rattle.sched_server.specs.Arrivals.{Answered, IsPastOf, answered}
 use Rattle.sched_server.specs.Laws.{FormerWorldsAreUnclassed}
 use Rattle.sched_server.specs.Meanings.{SaysIn, said_by}
 
@@ -72,7 +72,7 @@ said_unclassed era (asks.refused f) said less says = subst (IfImports AreUnclass
 
 -- ---- a past
 
-past_unclassed : (key points : List ℕ) (before : List Answered) (past : Past) → length points < era_of_classes → Tells key before past → AreOfEras points past
+past_unclassed : (key points : List ℕ) (before : List Answered) (past : Past) → length points < era_of_classes → IsPastOf key before past → AreOfEras points past
     → AllByRecursion (λ h. IfImports AreUnclassed h.message.said) past
 past_unclassed key points [] [] less tells eras = tt
 past_unclassed key points [] (h ∷ past) less tells eras = absurd tells

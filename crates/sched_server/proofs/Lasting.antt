@@ -12,7 +12,7 @@ use Rattle.pasts.specs.Many.{ServesAll}
 use Rattle.pasts.specs.Messages.{Message, heard_now}
 use Rattle.pasts.specs.Stands.{Heard, Tables, Same, Serves}
 use Rattle.pasts.proofs.Carried.{same_itself}
-use Rattle.pasts.specs.declared.answer.Answer as told
+use Rattle.pasts.specs.declared.answer.AnswerContent as told
 use Rattle.past_laws.specs.Laws as past
 use Rattle.past_laws.specs.Laws.{SettingsStay}
 use Rattle.past_laws.proofs.Calls as calls_of_pasts
@@ -43,7 +43,7 @@ all_same old mid new [] same all = record {
 all_same old mid new (h ∷ more) same all = (all.0, all.1, all_same all.0 mid new more same all.2)
 
 -- these messages, and then one more
-all_then : (old mid new : Tables) (more : List Heard) (m : Message) (a : told.Answer) → ServesAll old more mid → Serves mid m a new
+all_then : (old mid new : Tables) (more : List Heard) (m : Message) (a : told.AnswerContent) → ServesAll old more mid → Serves mid m a new
     → ServesAll old (more ++ record { message = m; answer = a } ∷ []) new
 all_then old mid new [] m a same serves = (new, subst (λ t. Serves t m a new) (same_tables mid old same) serves, same_itself new)
 all_then old mid new (h ∷ more) m a all serves = (all.0, all.1, all_then all.0 mid new more m a all.2 serves)

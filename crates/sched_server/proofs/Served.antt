@@ -14,7 +14,7 @@ use Rattle.sched_server.specs.Arrivals.{Came, StoreStandsFor, HandledInTurn}
 use Rattle.sched_server.specs.Handled.{is_answered, HandledAs, IsHandled, StaysSound}
 use Rattle.sched_server.specs.Laws.{ReadsStand}
 use Rattle.sched_server.specs.Serving.{ServiceStandsFor, ServesOne, ServesInTurn, ServesConnection, ServesMessage, messages_of}
-use Rattle.sched_server.specs.Views.{store_of, key_of}
+use Rattle.sched_server.specs.Views.{store_of, operator_key_of}
 use Rattle.sched_server.specs.declared.service.Service.{Service}
 use Rattle.sched_server.proofs.Stopped.{handled_stands, unavailable_later}
 
@@ -22,10 +22,10 @@ use Rattle.sched_server.proofs.Stopped.{handled_stands, unavailable_later}
 pub record Does {S : Type 0} (store : Parts S) (old : Service S) (now : ℕ) (bytes text : List ℕ) (new : Service S) : Type 0 where
   pub answer : Answer
   pub text_is : text ≡ answer_bytes answer
-  pub acts : Acts store (is_answered answer) (IsHandled (key_of old) bytes now (store.holds (store_of old))) (store_of old) (store_of new)
-  pub key : key_of new ≡ key_of old
+  pub acts : Acts store (is_answered answer) (IsHandled (operator_key_of old) bytes now (store.holds (store_of old))) (store_of old) (store_of new)
+  pub key : operator_key_of new ≡ operator_key_of old
   pub exact : store.honest (store_of new) → store.well_kept (store_of old)
-      → HandledAs (key_of old) bytes now answer (store.holds (store_of old)) (store.holds (store_of new))
+      → HandledAs (operator_key_of old) bytes now answer (store.holds (store_of old)) (store.holds (store_of new))
   pub reopens : (store.honest (store_of old) → store.well_kept (store_of old)) → store.reopens (store_of old) → store.reopens (store_of new)
 
 stays_sound : (held : Held) → StaysSound held held
@@ -80,9 +80,9 @@ module _ {S : Type 0} (store : Parts S)
       let stood : (key points : List ℕ) (before : List Came) → ServiceStandsFor store key points before old → store.clean (store_of new) → store.honest (store_of old)
       → StoreStandsFor store key points (record { arrival = record { now = now; bytes = bytes }; answer = does.answer } ∷ before) (store_of new) =
       λ key points before st clean honest.
-      under_key (key_of old) key points _ (store_of new) (sym (st.keyed honest))
-      (handled_stands store settled (key_of old) bytes now does.answer (store_of old) (store_of new) does.acts does.exact points before
-      (under_key key (key_of old) points before (store_of old) (st.keyed honest) st.stands) clean) in record {
+      under_key (operator_key_of old) key points _ (store_of new) (sym (st.keyed honest))
+      (handled_stands store settled (operator_key_of old) bytes now does.answer (store_of old) (store_of new) does.acts does.exact points before
+      (under_key key (operator_key_of old) points before (store_of old) (st.keyed honest) st.stands) clean) in record {
         key = does.key;
         was_clean = does.acts.was_clean;
         was_honest = does.acts.was_honest;
@@ -90,7 +90,7 @@ module _ {S : Type 0} (store : Parts S)
         handled = does.exact;
         stands = λ key points before st clean. record {
           keyed = λ honest. st.keyed (does.acts.was_honest honest) ∙ sym does.key;
-          stands = goes_on store key (key_of old) bytes points now does.answer before (store_of old) (store_of new) does.acts (stood key points before st clean) st.stands clean;
+          stands = goes_on store key (operator_key_of old) bytes points now does.answer before (store_of old) (store_of new) does.acts (stood key points before st clean) st.stands clean;
         };
         reopens = does.reopens;
       }
@@ -151,7 +151,7 @@ pub served_read : {S : Type 0} (store : Parts S)
     → ((a b : S) → store.reads a b → store.honest b → store.well_kept a → IsLeft (store.holds a) (store.holds b))
     → ((a b : S) → store.reads a b → (store.honest a → store.well_kept a) → store.reopens a → store.reopens b)
     → ReadsStand store
-    → (came : List Came) (old mid new : Service S) → store.reads (store_of mid) (store_of new) → key_of new ≡ key_of mid → ServesInTurn store came old mid → ServesInTurn store came old new
+    → (came : List Came) (old mid new : Service S) → store.reads (store_of mid) (store_of new) → operator_key_of new ≡ operator_key_of mid → ServesInTurn store came old mid → ServesInTurn store came old new
 served_read store stays_clean stays_honest stays_kept stays_held stays_reopened reads_stand came old mid new reads same first = record {
   key = same ∙ first.key;
   was_clean = λ clean. first.was_clean (stays_clean (store_of mid) (store_of new) reads clean);
@@ -160,7 +160,7 @@ served_read store stays_clean stays_honest stays_kept stays_held stays_reopened 
   handled = λ honest kept.
       let before = stays_honest (store_of mid) (store_of new) reads honest in
       let left = stays_held (store_of mid) (store_of new) reads honest (first.stays_kept before kept) in
-      subst (λ h. HandledInTurn (key_of old) came (store.holds (store_of old)) h) (sym (left_is (store.holds (store_of mid)) (store.holds (store_of new)) left)) (first.handled before kept);
+      subst (λ h. HandledInTurn (operator_key_of old) came (store.holds (store_of old)) h) (sym (left_is (store.holds (store_of mid)) (store.holds (store_of new)) left)) (first.handled before kept);
   stands = λ key points before st clean.
       let there = first.stands key points before st (stays_clean (store_of mid) (store_of new) reads clean) in record {
         keyed = λ honest. there.keyed (stays_honest (store_of mid) (store_of new) reads honest) ∙ sym same;

@@ -13,10 +13,10 @@ use Rattle.pasts.specs.Messages.{Said}
 use Rattle.message_engine.specs.Stores.{MayBeSaid}
 use Rattle.message_engine.proofs.KeptStanding.{sound_where_stands}
 use Rattle.sched_server.specs.Handled.{IsHandled}
-use Rattle.sched_server.specs.Meanings.{Says, said_by}
+use Rattle.sched_server.specs.Meanings.{SaysInThisEra, said_by}
 
 -- what bytes say may be kept
-may_be_said : (key bytes : List ℕ) (asked : Asked) (said : Said) → Means key bytes asked → Says asked said → MayBeSaid said
+may_be_said : (key bytes : List ℕ) (asked : Asked) (said : Said) → Means key bytes asked → SaysInThisEra asked said → MayBeSaid said
 may_be_said key bytes (asks.call body) said means says = subst MayBeSaid (sym says) (cases (meaning body))
   where
     cases : (r : Result Request Fault) → MayBeSaid (said_by r)

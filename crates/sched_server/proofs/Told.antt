@@ -3,7 +3,7 @@ use Rattle.std.proofs.Common.{ℕ, refl}
 use Rattle.rpc_records.specs.declared.fault.Fault.{Fault}
 use Rattle.stores.specs.Held.{Held, IsLeft}
 use Rattle.pasts.specs.Messages.{Refused, heard_now}
-use Rattle.pasts.specs.declared.answer.Answer.TheVariants.{Refusal}
+use Rattle.pasts.specs.declared.answer.AnswerContent.TheVariants.{Refusal}
 use Rattle.message_engine.specs.Stores.{ServesIn}
 use Rattle.message_engine.proofs.EntriesKept.{told_serves}
 

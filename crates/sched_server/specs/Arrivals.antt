@@ -44,17 +44,17 @@ pub record IsHeard (key : List ℕ) (a : Answered) (h : Heard) : Type 0 where
   pub response : a.response ≡ response_to (allowed_by asked) h.answer
 
 -- a past has just the messages and answers of these arrivals
-abbrev pub Tells : List ℕ → List Answered → Past → Type 0
-Tells key [] [] = Unit {0}
-Tells key (a ∷ before) (h ∷ past) = IsHeard key a h × Tells key before past
-Tells key [] (h ∷ past) = ⊥
-Tells key (a ∷ before) [] = ⊥
+abbrev pub IsPastOf : List ℕ → List Answered → Past → Type 0
+IsPastOf key [] [] = Unit {0}
+IsPastOf key (a ∷ before) (h ∷ past) = IsHeard key a h × IsPastOf key before past
+IsPastOf key [] (h ∷ past) = ⊥
+IsPastOf key (a ∷ before) [] = ⊥
 
 -- What a store of an era holds agrees with the arrivals, with these upgrade points. There is a past of them that is in that era, and with
 -- which it agrees. It is sound. The operator's key is that of its settings.
 pub record StandsIn (era : ℕ) (key : List ℕ) (held : Held) (upgrade_points : List ℕ) (before : List Came) : Type 0 where
   pub past : Past
-  pub tells : Tells key (answered before) past
+  pub tells : IsPastOf key (answered before) past
   pub in_era : IsInEra era upgrade_points past
   pub keyed : key ≡ held.world.settings.operator_key
   pub stands : Stands (tables_by held) past

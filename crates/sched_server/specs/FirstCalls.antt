@@ -12,15 +12,15 @@ use Rattle.sched_machine.specs.Classes.{HasTakenClasses}
 use Rattle.sched_machine.specs.Results.{NamesEachJob}
 use Rattle.pasts.specs.Messages.{Rpc}
 use Rattle.pasts.specs.Stands.{told_by}
-use Rattle.pasts.specs.declared.answer.Answer.{Answer}
-use Rattle.pasts.specs.declared.answer.Answer.TheVariants.{Good}
+use Rattle.pasts.specs.declared.answer.AnswerContent.{AnswerContent}
+use Rattle.pasts.specs.declared.answer.AnswerContent.TheVariants.{Good}
 use Rattle.stores.specs.Held.{Held}
 use Rattle.message_engine.specs.Stores.{tables_by}
 use Rattle.sched_server.specs.Arrivals.{Came, StandsFor}
 use Rattle.sched_server.specs.Handled.{Handles}
 
 -- The call made a step of the machine, and was answered by its reply.
-pub record IsAStep (old new : World) (r : Request) (now : ℕ) (answer : Answer) : Type 0 where
+pub record IsAStep (old new : World) (r : Request) (now : ℕ) (answer : AnswerContent) : Type 0 where
   pub caller : Caller
   pub reply : Reply
   pub step : RpcStep old caller r now new reply

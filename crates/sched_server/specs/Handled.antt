@@ -12,10 +12,10 @@ use Rattle.rpc_records.specs.declared.fault.Fault.{Fault}
 use Rattle.stores.specs.Held.{Held}
 use Rattle.pasts.specs.Messages.{Said, heard_now}
 use Rattle.pasts.specs.Stands.{Same}
-use Rattle.pasts.specs.declared.answer.Answer as told
-use Rattle.pasts.specs.declared.answer.Answer.TheVariants as tells
+use Rattle.pasts.specs.declared.answer.AnswerContent as told
+use Rattle.pasts.specs.declared.answer.AnswerContent.TheVariants as tells
 use Rattle.message_engine.specs.Stores.{tables_by, IsSoundStore, ServesIn}
-use Rattle.sched_server.specs.Meanings.{Says, allowed_by}
+use Rattle.sched_server.specs.Meanings.{SaysInThisEra, allowed_by}
 
 -- the response to a refusal; for a wrong method it names the method that the route takes
 abbrev pub refusal_to : Option Method → Fault → Response
@@ -23,7 +23,7 @@ refusal_to None fault = refusal_response fault
 refusal_to (Some allowed) fault = wrong_method_response allowed
 
 -- the response to an answer
-abbrev pub response_to : Option Method → told.Answer → Response
+abbrev pub response_to : Option Method → told.AnswerContent → Response
 response_to allowed (tells.Good body) = good_response body
 response_to allowed (tells.Statement text) = statement_response text
 response_to allowed (tells.Refusal fault) = refusal_to allowed fault
@@ -33,9 +33,9 @@ response_to allowed (tells.Refusal fault) = refusal_to allowed fault
 pub record Handles (key bytes : List ℕ) (now : ℕ) (r : Response) (old new : Held) : Type 0 where
   pub asked : Asked
   pub said : Said
-  pub told : told.Answer
+  pub told : told.AnswerContent
   pub means : Means key bytes asked
-  pub says : Says asked said
+  pub says : SaysInThisEra asked said
   pub serves : ServesIn (heard_now now said) told old new
   pub response : r ≡ response_to (allowed_by asked) told
 

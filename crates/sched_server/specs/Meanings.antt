@@ -29,8 +29,8 @@ SaysIn era (asks.wrong_method allowed) said = said ≡ Refused fault.WrongMethod
 SaysIn era (asks.refused f) said = said ≡ Refused f
 
 -- the same, for this program
-abbrev pub Says : Asked → Said → Type 0
-Says = SaysIn this_era
+abbrev pub SaysInThisEra : Asked → Said → Type 0
+SaysInThisEra = SaysIn this_era
 
 -- the method that the route takes, if the message has another one
 abbrev pub allowed_by : Asked → Option Method

@@ -7,22 +7,22 @@ use Rattle.stores.specs.Acting.{Parts}
 use Rattle.stores.specs.Held.{Held}
 use Rattle.sched_server.specs.Arrivals.{Came, StoreStandsFor, HandledInTurn}
 use Rattle.sched_server.specs.Handled.{HandledAs}
-use Rattle.sched_server.specs.Views.{store_of, key_of}
+use Rattle.sched_server.specs.Views.{store_of, operator_key_of}
 use Rattle.sched_server.specs.declared.service.Service.{Service}
 
 -- A service agrees with the arrivals if its store does. While the store is open, the service's key is the operator's.
 pub record ServiceStandsFor {S : Type 0} (store : Parts S) (key upgrade_points : List ℕ) (before : List Came) (service : Service S) : Type 0 where
-  pub keyed : store.honest (store_of service) → key ≡ key_of service
+  pub keyed : store.honest (store_of service) → key ≡ operator_key_of service
   pub stands : StoreStandsFor store key upgrade_points before (store_of service)
 
 -- A service handled these messages, the newest first, with these answers. Nothing else changed its store. `Handled` says what that makes of
 -- what the store held.
 pub record Serves {S : Type 0} (store : Parts S) (came : List Came) (Handled : List ℕ → Held → Held → Type 0) (old new : Service S) : Type 0 where
-  pub key : key_of new ≡ key_of old
+  pub key : operator_key_of new ≡ operator_key_of old
   pub was_clean : store.clean (store_of new) → store.clean (store_of old)
   pub was_honest : store.honest (store_of new) → store.honest (store_of old)
   pub stays_kept : store.honest (store_of new) → store.well_kept (store_of old) → store.well_kept (store_of new)
-  pub handled : store.honest (store_of new) → store.well_kept (store_of old) → Handled (key_of old) (store.holds (store_of old)) (store.holds (store_of new))
+  pub handled : store.honest (store_of new) → store.well_kept (store_of old) → Handled (operator_key_of old) (store.holds (store_of old)) (store.holds (store_of new))
   -- a service that agreed with some arrivals agrees with these messages in front of them
   pub stands : (key upgrade_points : List ℕ) (before : List Came) → ServiceStandsFor store key upgrade_points before old → store.clean (store_of new)
       → ServiceStandsFor store key upgrade_points (came ++ before) new

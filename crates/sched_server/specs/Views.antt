@@ -6,5 +6,5 @@ abbrev pub store_of : {S : Type 0} → Service S → S
 store_of service = service.store
 
 -- the operator's key
-abbrev pub key_of : {S : Type 0} → Service S → List ℕ
-key_of service = service.key
+abbrev pub operator_key_of : {S : Type 0} → Service S → List ℕ
+operator_key_of service = service.key

@@ -10,13 +10,13 @@ ghost use Rattle.message_engine.specs.Imports.{IsImportServed, ServesImport};
 ghost use Rattle.message_engine.specs.Stores.{ServesIn, IsServed};
 ghost use Rattle.sched_server.specs.Answering.{IsRefusal, Responds};
 ghost use Rattle.sched_server.specs.Handled.{refusal_to, response_to};
-ghost use Rattle.sched_server.specs.Meanings.{Says, said_by, allowed_by};
+ghost use Rattle.sched_server.specs.Meanings.{SaysInThisEra, said_by, allowed_by};
 
 use crate::statements::statement;
 use http_messages::Message;
 use http_responses::{Answer, Method, Response};
 use message_engine::{call, import, tick};
-use pasts::Answer as Told;
+use pasts::AnswerContent as Told;
 use rpc_records::{Fault, decode_request};
 use sched_book::{Cause, Moment, Unavailable};
 use std::alloc::Global;
@@ -66,9 +66,9 @@ pub(crate) fn answer<S: Store>(
     message: Message<'_>,
 ) -> Result<Told, Unavailable>
     ensures acts { ActsWhole S.Store (is_ok result) (λ h.
-        (said : Said) × Says (message_seen message.entry) said × IsServed (heard_now now said) (S.holds store.old) h) store.old store.new }
+        (said : Said) × SaysInThisEra (message_seen message.entry) said × IsServed (heard_now now said) (S.holds store.old) h) store.old store.new }
     ensures exact { Trusted S.Units store.old store.new (IfOk result (λ told.
-        (said : Said) × Says (message_seen message.entry) said × ServesIn (heard_now now said) told (S.holds store.old) (S.holds store.new))) }
+        (said : Said) × SaysInThisEra (message_seen message.entry) said × ServesIn (heard_now now said) told (S.holds store.old) (S.holds store.new))) }
 {
     match message {
         Message::Call(body) => call_in_body(alloc, store, body, now),

@@ -2,7 +2,7 @@
 
 ghost use Rattle.std.specs.Prelude.{◌≡◌, ℕ, ◌∷◌, true, false, Ok, IfOk, IfErr, List};
 ghost use Rattle.http_messages.specs.Deciding.{Asked};
-ghost use Rattle.http_messages.specs.Meaning.{Means, IsSettled, Awaits, Misses, message_seen};
+ghost use Rattle.http_messages.specs.Meaning.{Means, IsDetermined, Awaits, Misses, message_seen};
 ghost use Rattle.http_responses.specs.Answers.{answer_bytes};
 ghost use Rattle.http_responses.specs.declared.answer.Answer as given;
 ghost use Rattle.sched_book.specs.Trusted.{Trusted};
@@ -10,14 +10,14 @@ ghost use Rattle.stores.specs.Acting.{Acts};
 ghost use Rattle.sched_server.specs.Arrivals.{Came, StoreStandsFor};
 ghost use Rattle.sched_server.specs.Serving.{ServiceStandsFor};
 ghost use Rattle.sched_server.specs.Handled.{is_answered, HandledAs, IsHandled};
-ghost use Rattle.sched_server.specs.Views.{store_of, key_of};
+ghost use Rattle.sched_server.specs.Views.{store_of, operator_key_of};
 
 use crate::answers::{allowed_by, answer, respond};
 use crate::service::Service;
-use http_messages::{Heard, hear, new_router};
+use http_messages::{MessageSoFar, hear, new_router};
 use http_responses::Answer;
 use http_serving::Handler;
-use pasts::Answer as Told;
+use pasts::AnswerContent as Told;
 use sched_book::{Cause, Moment, Unavailable};
 use std::alloc::Global;
 use stores::Store;
@@ -41,7 +41,7 @@ impl<S: Store + Drop> Service<S> {
     pub fn new(alloc: Global, mut store: S) -> Result<Service<S>, S>
         ensures store { IfOk result (λ service. S.reads store (store_of service)) }
         ensures key { IfOk result (λ service. Trusted S.Units store (store_of service) (
-            key_of service ≡ (S.world store).settings.operator_key)) }
+            operator_key_of service ≡ (S.world store).settings.operator_key)) }
         ensures stands { (key upgrade_points : List ℕ) (before : List Came) → StoreStandsFor S.Store key upgrade_points before store
             → IfOk result (ServiceStandsFor S.Store key upgrade_points before) }
         ensures reopens { (S.honest store → S.well_kept store) → S.reopens store → IfOk result (λ service. S.reopens (store_of service)) }
@@ -64,17 +64,17 @@ impl<S: Store + Drop> Service<S> {
 
 impl<S> Service<S> {
     /// What these bytes mean, as far as they have come.
-    fn heard<'b>(&self, bytes: &'b [u8]) -> Heard<'b>
-        ensures meaning { Means (key_of self.now) bytes.entry.now (message_seen result.message) }
-        ensures settled { result.missing ≡ 0 → IsSettled (key_of self.now) bytes.entry.now (message_seen result.message) }
-        ensures awaits { Misses (key_of self.now) bytes.entry.now result.missing }
+    fn heard<'b>(&self, bytes: &'b [u8]) -> MessageSoFar<'b>
+        ensures meaning { Means (operator_key_of self.now) bytes.entry.now (message_seen result.message) }
+        ensures settled { result.missing ≡ 0 → IsDetermined (operator_key_of self.now) bytes.entry.now (message_seen result.message) }
+        ensures awaits { Misses (operator_key_of self.now) bytes.entry.now result.missing }
     {
         hear(&self.router, self.key.as_str().as_bytes(), bytes)
     }
 
     /// The operator's key, which each message of an operator must carry.
     pub fn operator_key(&self) -> &str
-        ensures { result.now ≡ key_of self.now }
+        ensures { result.now ≡ operator_key_of self.now }
     {
         self.key.as_str()
     }
@@ -83,7 +83,7 @@ impl<S> Service<S> {
     /// for the response was missing.
     pub fn take_cause(&mut self) -> Option<Cause>
         ensures store { store_of self.new ≡ store_of self.old }
-        ensures key { key_of self.new ≡ key_of self.old }
+        ensures key { operator_key_of self.new ≡ operator_key_of self.old }
     {
         self.cause.take()
     }
@@ -110,7 +110,7 @@ impl<S: Store> Service<S> {
         ensures stands { (key upgrade_points : List ℕ) (before : List Came) → StoreStandsFor S.Store key upgrade_points before (store_of self.old)
             → StoreStandsFor S.Store key upgrade_points before (store_of self.new) }
         ensures reopens { (S.honest (store_of self.old) → S.well_kept (store_of self.old)) → S.reopens (store_of self.old) → S.reopens (store_of self.new) }
-        ensures key { key_of self.new ≡ key_of self.old }
+        ensures key { operator_key_of self.new ≡ operator_key_of self.old }
     {
         self.store.is_open()
     }
@@ -128,12 +128,12 @@ impl<S: Store> Service<S> {
     /// The answer of that one was unavailable, or nobody read it; a repeat gets the same bytes. A store that could be
     /// opened again still can be, as it is and as a stop may leave it.
     pub fn handle(&mut self, alloc: Global, now: Moment, bytes: &[u8]) -> Answer
-        ensures acts { Acts S.Store (is_answered result) (IsHandled (key_of self.old) bytes.now now (S.holds (store_of self.old))) (store_of self.old) (store_of self.new) }
-        ensures key { key_of self.new ≡ key_of self.old }
+        ensures acts { Acts S.Store (is_answered result) (IsHandled (operator_key_of self.old) bytes.now now (S.holds (store_of self.old))) (store_of self.old) (store_of self.new) }
+        ensures key { operator_key_of self.new ≡ operator_key_of self.old }
         ensures exact { Trusted S.Units (store_of self.old) (store_of self.new) (
-            HandledAs (key_of self.old) bytes.now now result (S.holds (store_of self.old)) (S.holds (store_of self.new))) }
-        ensures stands { (upgrade_points : List ℕ) (before : List Came) → StoreStandsFor S.Store (key_of self.old) upgrade_points before (store_of self.old) → S.clean (store_of self.new)
-            → StoreStandsFor S.Store (key_of self.old) upgrade_points (record { arrival = record { now = now; bytes = bytes.now }; answer = result } ∷ before) (store_of self.new) }
+            HandledAs (operator_key_of self.old) bytes.now now result (S.holds (store_of self.old)) (S.holds (store_of self.new))) }
+        ensures stands { (upgrade_points : List ℕ) (before : List Came) → StoreStandsFor S.Store (operator_key_of self.old) upgrade_points before (store_of self.old) → S.clean (store_of self.new)
+            → StoreStandsFor S.Store (operator_key_of self.old) upgrade_points (record { arrival = record { now = now; bytes = bytes.now }; answer = result } ∷ before) (store_of self.new) }
         ensures reopens { (S.honest (store_of self.old) → S.well_kept (store_of self.old)) → S.reopens (store_of self.old) → S.reopens (store_of self.new) }
     {
         let message = self.heard(bytes).message;
@@ -145,15 +145,15 @@ impl<S: Store> Service<S> {
 }
 
 impl<S: Store> Handler for Service<S> {
-    ghost settled = { λ service bytes. (asked : Asked) × IsSettled (key_of service) bytes asked };
+    ghost settled = { λ service bytes. (asked : Asked) × IsDetermined (operator_key_of service) bytes asked };
 
-    ghost wanting = { λ service bytes. Awaits (key_of service) bytes };
+    ghost wanting = { λ service bytes. Awaits (operator_key_of service) bytes };
 
     ghost handles = { λ old now bytes text new. (answer : given.Answer) × (text ≡ answer_bytes answer)
-        × Acts S.Store (is_answered answer) (IsHandled (key_of old) bytes now (S.holds (store_of old))) (store_of old) (store_of new)
-        × (key_of new ≡ key_of old)
+        × Acts S.Store (is_answered answer) (IsHandled (operator_key_of old) bytes now (S.holds (store_of old))) (store_of old) (store_of new)
+        × (operator_key_of new ≡ operator_key_of old)
         × ((S.honest (store_of old) → S.well_kept (store_of old)) → S.reopens (store_of old) → S.reopens (store_of new))
-        × Trusted S.Units (store_of old) (store_of new) (HandledAs (key_of old) bytes now answer (S.holds (store_of old)) (S.holds (store_of new))) };
+        × Trusted S.Units (store_of old) (store_of new) (HandledAs (operator_key_of old) bytes now answer (S.holds (store_of old)) (S.holds (store_of new))) };
 
     fn missing(&self, bytes: &[u8]) -> usize {
         self.heard(bytes).missing

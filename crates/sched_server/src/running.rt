@@ -3,7 +3,7 @@
 ghost use Rattle.std.specs.Prelude.{◌≡◌, length, IfOk};
 ghost use Rattle.sched_book.specs.Trusted.{Trusted};
 ghost use Rattle.sched_server.specs.Arrivals.{ActInTurn};
-ghost use Rattle.sched_server.specs.Views.{store_of, key_of};
+ghost use Rattle.sched_server.specs.Views.{store_of, operator_key_of};
 
 use crate::arrival::Arrival;
 use crate::service::Service;
@@ -27,10 +27,10 @@ impl<S: Store> Service<S> {
         ensures honest { S.honest (store_of self.new) → S.honest (store_of self.old) }
         ensures lasts { S.lasting → S.honest (store_of self.old) → S.honest (store_of self.new) }
         ensures kept { Trusted S.Units (store_of self.old) (store_of self.new) (S.well_kept (store_of self.new)) }
-        ensures key { key_of self.new ≡ key_of self.old }
+        ensures key { operator_key_of self.new ≡ operator_key_of self.old }
         ensures reopens { (S.honest (store_of self.old) → S.well_kept (store_of self.old)) → S.reopens (store_of self.old) → S.reopens (store_of self.new) }
         ensures count { IfOk result (λ answers. length answers.items ≡ length arrivals.now) }
-        ensures acts { ActInTurn S.Store (key_of self.old) arrivals.now (λ answers. IfOk result (λ all. all.items ≡ answers)) (store_of self.old) (store_of self.new) }
+        ensures acts { ActInTurn S.Store (operator_key_of self.old) arrivals.now (λ answers. IfOk result (λ all. all.items ≡ answers)) (store_of self.old) (store_of self.new) }
     {
         let mut answers = Vec::new(alloc);
         for arrival in arrivals {

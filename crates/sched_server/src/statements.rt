@@ -8,7 +8,7 @@ ghost use Rattle.message_engine.specs.Stores.{ServesIn};
 ghost use Rattle.sched_server.specs.Statements.{statement_told, told_of_host};
 
 use office_files::host_statement;
-use pasts::Answer;
+use pasts::AnswerContent;
 use rpc_records::Fault;
 use sched_book::Unavailable;
 use std::alloc::Global;
@@ -16,12 +16,12 @@ use stores::{Store, confirmed};
 use texts::Text;
 
 /// The answer for a host's statement, or for a host that does not exist.
-fn tell(statement: Option<Text>) -> Answer
+fn tell(statement: Option<Text>) -> AnswerContent
     ensures { result ≡ statement_told statement }
 {
     match statement {
-        Some(text) => Answer::Statement(text),
-        None => Answer::Refusal(Fault::NoSuchHost),
+        Some(text) => AnswerContent::Statement(text),
+        None => AnswerContent::Refusal(Fault::NoSuchHost),
     }
 }
 
@@ -34,7 +34,7 @@ pub(crate) fn statement<S: Store>(
     alloc: Global,
     store: &mut S,
     host: u32,
-) -> Result<Answer, Unavailable>
+) -> Result<AnswerContent, Unavailable>
     ensures acts { ActsWhole S.Store (is_ok result) (λ h. ⊥) store.old store.new }
     ensures exact { Trusted S.Units store.old store.new (IfOk result (λ answer. (now : ℕ) →
         ServesIn (heard_now now (Read (told_of_host host))) answer (S.holds store.old) (S.holds store.new))) }

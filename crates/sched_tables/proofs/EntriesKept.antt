@@ -33,10 +33,10 @@ use Rattle.sched_book.specs.declared.world.World.{World}
 use Rattle.sched_book.proofs.Fitting.{settings_stay_in, all_apps_stay}
 use Rattle.table_meaning.specs.declared.rows.StoredRow.{StoredRow}
 use Rattle.table_meaning.specs.declared.rows.StoredRow.TheVariants as stored
-use Rattle.table_meaning.specs.Rows.{RowKey, kept_key, batch_key, columns_of, same_key}
+use Rattle.table_meaning.specs.Rows.{RowKey, kept_key, batch_key, columns_of, same_row_key}
 use Rattle.table_meaning.specs.Worlds.{BatchText, SlotCalls, call_row, HoldWorld}
 use Rattle.table_meaning.proofs.Keys.{key_itself}
-use Rattle.sched_tables.specs.Commits.{Imports, Keeps, apps_with}
+use Rattle.sched_tables.specs.Commits.{Imports, AreRowsToKeep, apps_with}
 use Rattle.sched_tables.specs.Entries.{IsRowOf, MakesWith, kept_batch, calls_of, batches_of}
 use Rattle.sched_tables.specs.Slots.{calls_in_slots, with_slot}
 use Rattle.table_cache.specs.NextSlot.{IsSlotFor}
@@ -56,8 +56,8 @@ use Rattle.sched_tables.proofs.FourKept.{slots_keep_the_latest}
 pub same_bytes : (a b : List ℕ) → bytes_eq a b ≡ true → a ≡ b
 same_bytes a b = (bytes_eq-Decides a b).0
 
-other_key : (a b : RowKey) → (same_key a b || false) ≡ false → a ≡ b → ⊥
-other_key a b apart same = absurd (true≢false (sym (ap (λ k. same_key k b || false) same ∙ ap (λ c. c || false) (key_itself b)) ∙ apart))
+other_key : (a b : RowKey) → (same_row_key a b || false) ≡ false → a ≡ b → ⊥
+other_key a b apart same = absurd (true≢false (sym (ap (λ k. same_row_key k b || false) same ∙ ap (λ c. c || false) (key_itself b)) ∙ apart))
 
 -- the calls in slots, with one more
 abbrev pub with_call : ℕ → ℕ → Kept → SlotCalls → SlotCalls
@@ -78,7 +78,7 @@ as_batches batches kind name = option_map kept_batch (batches (kind_name kind) n
 pub record AreKeptThen (w : World) (e : Entry) (row : Option StoredRow) (calls : SlotCalls) (batches : Imports) : Type 0 where
   pub calls' : SlotCalls
   pub batches' : Imports
-  pub keeps : Keeps w (cons_option row []) calls batches calls' batches'
+  pub keeps : AreRowsToKeep w (cons_option row []) calls batches calls' batches'
   pub calls_then : IsNewest e (as_calls calls) → (host : ℕ) → as_calls calls' host ≡ calls_with e (as_calls calls) host
   pub batches_then : (kind : Kind) (name : List ℕ) → as_batches batches' kind name ≡ batches_with e (as_batches batches) kind name
 
@@ -87,14 +87,14 @@ module _ (w : World) (host slot : ℕ) (k : Kept) (calls : SlotCalls) (batches :
   call_itself : with_call host slot k calls host slot ≡ Some k
   call_itself = ap (λ b. cond b (with_slot slot k (calls host) slot) (calls host slot)) (eq-eqb host host refl) ∙ ap (λ b. cond b (Some k) (calls host slot)) (eq-eqb slot slot refl)
 
-  call_keeps : Keeps w (stored.Kept (call_row host slot k) ∷ []) calls batches (with_call host slot k calls) batches
+  call_keeps : AreRowsToKeep w (stored.Kept (call_row host slot k) ∷ []) calls batches (with_call host slot k calls) batches
   call_keeps = record {
     each = (ap (option_map (λ (c : Kept). stored.Kept (call_row host slot c))) call_itself, tt);
     other_calls = λ id other none. others id other (eqb host id) (eqb slot other) refl refl none;
     other_batches = λ kind name none. refl;
   }
     where
-      others : (id other : ℕ) (b c : Bool) → eqb host id ≡ b → eqb slot other ≡ c → (same_key (kept_key id other) (kept_key host slot) || false) ≡ false
+      others : (id other : ℕ) (b c : Bool) → eqb host id ≡ b → eqb slot other ≡ c → (same_row_key (kept_key id other) (kept_key host slot) || false) ≡ false
           → calls id other ≡ cond b (cond c (Some k) (calls id other)) (calls id other)
       others id other true true one two apart = absurd (other_key (kept_key id other) (kept_key host slot) apart (ap₂ kept_key (sym (eqb-true host id one)) (sym (eqb-true slot other two))))
       others id other true false one two apart = refl
@@ -110,7 +110,7 @@ module _ (w : World) (host slot : ℕ) (k : Kept) (calls : SlotCalls) (batches :
 
 -- an import at its kind and name
 import_keeps : (w : World) (kind : Kind) (name : List ℕ) (b : KeptBatch) (calls : SlotCalls) (batches : Imports)
-    → Keeps w (stored.Batch (record { kind = kind_name kind; name = name; text = b.text; answer = b.answer }) ∷ []) calls batches calls (with_import kind name b batches)
+    → AreRowsToKeep w (stored.Batch (record { kind = kind_name kind; name = name; text = b.text; answer = b.answer }) ∷ []) calls batches calls (with_import kind name b batches)
 import_keeps w kind name b calls batches = record {
   each = (
     ap₂ (λ (c d : Bool). option_map (λ (t : BatchText). stored.Batch (record { kind = kind_name kind; name = name; text = t.0; answer = t.1 })) (cond (c && d) (Some (b.text, b.answer)) (batches (kind_name kind) name)))
@@ -121,7 +121,7 @@ import_keeps w kind name b calls batches = record {
   other_batches = λ k n none. other k n (bytes_eq (kind_name kind) k) (bytes_eq name n) refl refl none;
 }
   where
-    other : (k n : List ℕ) (c d : Bool) → bytes_eq (kind_name kind) k ≡ c → bytes_eq name n ≡ d → (same_key (batch_key k n) (batch_key (kind_name kind) name) || false) ≡ false
+    other : (k n : List ℕ) (c d : Bool) → bytes_eq (kind_name kind) k ≡ c → bytes_eq name n ≡ d → (same_row_key (batch_key k n) (batch_key (kind_name kind) name) || false) ≡ false
         → batches k n ≡ cond (c && d) (Some (b.text, b.answer)) (batches k n)
     other k n true true one two apart =
         absurd (other_key (batch_key k n) (batch_key (kind_name kind) name) apart (ap₂ batch_key (sym (same_bytes (kind_name kind) k one)) (sym (same_bytes name n two))))
@@ -140,21 +140,21 @@ pub are_kept_then : (w : World) (e : Entry) (row : Option StoredRow) (calls : Sl
 are_kept_then w (entry.Kept host k) row calls batches is = record {
   calls' = with_call host is.0 k calls;
   batches' = batches;
-  keeps = subst (λ r. Keeps w (cons_option r []) calls batches (with_call host is.0 k calls) batches) (sym is.2) (call_keeps w host is.0 k calls batches is.1);
+  keeps = subst (λ r. AreRowsToKeep w (cons_option r []) calls batches (with_call host is.0 k calls) batches) (sym is.2) (call_keeps w host is.0 k calls batches is.1);
   calls_then = call_kept w host is.0 k calls batches is.1;
   batches_then = λ kind name. refl;
 }
 are_kept_then w (entry.Batch kind name b) row calls batches is = record {
   calls' = calls;
   batches' = with_import kind name b batches;
-  keeps = subst (λ r. Keeps w (cons_option r []) calls batches calls (with_import kind name b batches)) (sym is) (import_keeps w kind name b calls batches);
+  keeps = subst (λ r. AreRowsToKeep w (cons_option r []) calls batches calls (with_import kind name b batches)) (sym is) (import_keeps w kind name b calls batches);
   calls_then = λ _ host. refl;
   batches_then = λ k n. import_kept kind name b batches k n;
 }
 are_kept_then w entry.Nothing row calls batches is = record {
   calls' = calls;
   batches' = batches;
-  keeps = subst (λ r. Keeps w (cons_option r []) calls batches calls batches) (sym is) (record { each = tt; other_calls = λ id slot none. refl; other_batches = λ kind name none. refl });
+  keeps = subst (λ r. AreRowsToKeep w (cons_option r []) calls batches calls batches) (sym is) (record { each = tt; other_calls = λ id slot none. refl; other_batches = λ kind name none. refl });
   calls_then = λ _ host. refl;
   batches_then = λ kind name. refl;
 }

@@ -16,7 +16,7 @@ use Rattle.table_meaning.specs.Reads.{Reads}
 use Rattle.table_meaning.specs.Kept.{calls_in}
 use Rattle.table_meaning.proofs.UpgradedWorlds.{hold_same}
 use Rattle.stores.specs.declared.entry.Entry.{Entry}
-use Rattle.sched_tables.specs.Commits.{LeadsTo, ArePut, Makes}
+use Rattle.sched_tables.specs.Commits.{LeadsTo, AreRowsToCommit, MakesWorld}
 use Rattle.sched_tables.specs.Entries.{ArePutWith, MakesWith}
 use Rattle.sched_tables.specs.Held.{IsHonest}
 use Rattle.sched_tables.proofs.TextsKept.{utf8_then}
@@ -28,7 +28,7 @@ leads w cs rows all more old new changes pushed puts = λ calls calls' batches b
     (subst (PutsRows old new) pushed puts (contents_of w calls batches) holds)
 
 -- so putting rows makes the changes
-makes : (w : World) (cs : Delta) (more : Option StoredRow) (rows : List StoredRow) (old new : Database) → ArePut w cs more rows → PutsRows old new rows → HaveUtf8 rows → Makes w cs more old new
+makes : (w : World) (cs : Delta) (more : Option StoredRow) (rows : List StoredRow) (old new : Database) → AreRowsToCommit w cs more rows → PutsRows old new rows → HaveUtf8 rows → MakesWorld w cs more old new
 makes w cs more rows old new put puts utf8 = record {
   leads = leads w cs put.changed rows more old new put.are put.all puts;
   readable = put.readable;

@@ -19,7 +19,7 @@ use Rattle.sched_book.specs.Offers.{OrSkips}
 use Rattle.table_desk.proofs.Jumps.{all_implied, some_implied}
 use Rattle.table_worlds.proofs.ByPlace.{nth_next}
 use Rattle.table_cache.specs.Covering.{jobs_of, IsSkipFor}
-use Rattle.table_desk.specs.WaitingPage.{waiting_of}
+use Rattle.table_desk.specs.WaitingWindow.{waiting_of}
 use Rattle.sched_tables.specs.Offering.{IsCandidateOf, MaySkip}
 use Rattle.table_cache.specs.Remembering.{IsUnitOf}
 use Rattle.sched_tables.specs.declared.offering.Noting.{Noting}

@@ -31,8 +31,8 @@ use Rattle.table_desk.proofs.Found.{equal_texts}
 use Rattle.table_reading.specs.Reading.{HasBadTable, RepresentNone, HasOtherSchema}
 use Rattle.table_rows.specs.declared.opening.OpenFault.{OpenFault}
 use Rattle.table_rows.specs.declared.opening.OpenFault.TheVariants as fault
-use Rattle.table_rows.specs.declared.opening.Refused.{Refused}
-use Rattle.table_rows.specs.declared.opening.Refused.TheVariants as refused
+use Rattle.table_rows.specs.declared.opening.OpenRefusal.{OpenRefusal}
+use Rattle.table_rows.specs.declared.opening.OpenRefusal.TheVariants as refused
 use Rattle.table_rows.specs.Refusing.{fault_of, refusal_for, given_back, IsUnavailable}
 use Rattle.sched_tables.specs.Held.{NeverFails}
 use Rattle.sched_tables.specs.Refusals.{AreRefusedFor}
@@ -110,7 +110,7 @@ none_earlier db known n earlier = elim (of_two n earlier.earlier.0 earlier.earli
 -- ---- what a refusal says
 
 -- a refusal before any row is read except that of the schema
-pub told_by_schema : {S : Type 0} (store : Ghosts S) (db : Database) (r : Refused S) → ((n : ℕ) (c : Held S) → r ≡ refused.OldSchema n c → HasCleanDisk (state store c) → AreEarlier n db)
+pub told_by_schema : {S : Type 0} (store : Ghosts S) (db : Database) (r : OpenRefusal S) → ((n : ℕ) (c : Held S) → r ≡ refused.OldSchema n c → HasCleanDisk (state store c) → AreEarlier n db)
     → ((c : Held S) → r ≡ refused.NotTables c → HasCleanDisk (state store c) → db.schema ≢ stored_schema) → ((c : Held S) → r ≡ refused.NotTables c → HasCleanDisk (state store c) → (n : ℕ) → ¬ AreEarlier n db)
     → ((c : Held S) → r ≢ refused.BadRow c) → IfSome (given_back r) (λ c. HasCleanDisk (state store c) → AreRefusedFor (fault_of r) db)
 told_by_schema store db (refused.NotTables c) old other neither fits = λ clean. record { not_newest = λ newest. other c refl clean newest.known.schema; not_earlier = neither c refl clean }
@@ -121,9 +121,9 @@ told_by_schema store db (refused.Unavailable cause) old other neither fits = tt
 -- a refusal for a fault in reading tables of the newest schema
 pub told_by_rows : {S : Type 0} (store : Ghosts S) (db : Database) (e : OpenFault) (conn : Held S) → ((n : ℕ) → e ≢ fault.OldSchema n) → (HasCleanDisk (state store conn) → AreKnown db)
     → (HasCleanDisk (state store conn) → e ≡ fault.NotTables → HasOtherSchema db.trees) → (HasCleanDisk (state store conn) → e ≡ fault.BadRow → HasBadTable db.trees ⊎ RepresentNone db.trees)
-    → (r : Refused S) → r ≡ refusal_for e conn → IfSome (given_back r) (λ c. HasCleanDisk (state store c) → AreRefusedFor (fault_of r) db)
+    → (r : OpenRefusal S) → r ≡ refusal_for e conn → IfSome (given_back r) (λ c. HasCleanDisk (state store c) → AreRefusedFor (fault_of r) db)
 told_by_rows {S} store db e conn not_old known other bad r is =
-    subst (λ (r : Refused S). IfSome (given_back r) (λ c. HasCleanDisk (state store c) → AreRefusedFor (fault_of r) db)) (sym is) (cases e not_old other bad)
+    subst (λ (r : OpenRefusal S). IfSome (given_back r) (λ c. HasCleanDisk (state store c) → AreRefusedFor (fault_of r) db)) (sym is) (cases e not_old other bad)
   where
     cases : (e : OpenFault) → ((n : ℕ) → e ≢ fault.OldSchema n) → (HasCleanDisk (state store conn) → e ≡ fault.NotTables → HasOtherSchema db.trees)
         → (HasCleanDisk (state store conn) → e ≡ fault.BadRow → HasBadTable db.trees ⊎ RepresentNone db.trees)
@@ -134,8 +134,8 @@ told_by_rows {S} store db e conn not_old known other bad r is =
     cases (fault.Unavailable cause) not_old other bad = tt
 
 -- what holds of the connection of a refusal holds of the one that it gives back
-pub given_same : {S : Type 0} (P : Held S → Type 0) (e : OpenFault) (conn : Held S) → P conn → (r : Refused S) → r ≡ refusal_for e conn → IfSome (given_back r) P
-given_same {S} P e conn holds r is = subst (λ (r : Refused S). IfSome (given_back r) P) (sym is) (cases e)
+pub given_same : {S : Type 0} (P : Held S → Type 0) (e : OpenFault) (conn : Held S) → P conn → (r : OpenRefusal S) → r ≡ refusal_for e conn → IfSome (given_back r) P
+given_same {S} P e conn holds r is = subst (λ (r : OpenRefusal S). IfSome (given_back r) P) (sym is) (cases e)
   where
     cases : (e : OpenFault) → IfSome (given_back (refusal_for e conn)) P
     cases fault.NotTables = holds
@@ -146,7 +146,7 @@ given_same {S} P e conn holds r is = subst (λ (r : Refused S). IfSome (given_ba
 -- ---- a store that never fails
 
 -- the connection that a refusal gives back has a clean disk, so the refusal says why the tables are refused
-pub refused_for_all : {S : Type 0} (store : Ghosts S) → NeverFails store → (r : Refused S) (db : Database) → IfSome (given_back r) (λ c. HasCleanDisk (state store c) → AreRefusedFor (fault_of r) db) → AreRefusedFor (fault_of r) db
+pub refused_for_all : {S : Type 0} (store : Ghosts S) → NeverFails store → (r : OpenRefusal S) (db : Database) → IfSome (given_back r) (λ c. HasCleanDisk (state store c) → AreRefusedFor (fault_of r) db) → AreRefusedFor (fault_of r) db
 refused_for_all store never (refused.NotTables c) db told = told (never c.store).1
 refused_for_all store never (refused.OldSchema n c) db told = told (never c.store).1
 refused_for_all store never (refused.BadRow c) db told = told (never c.store).1

@@ -3,7 +3,7 @@ use Rattle.std.proofs.Common.{◌≡◌, subst, ◌∙◌}
 use Rattle.sched_book.specs.declared.world.World.{World}
 use Rattle.sqlite_trees.specs.declared.store.Store.{Ghosts}
 use Rattle.sqlite.specs.Held.{Held, state}
-use Rattle.table_desk.specs.Asked.{Asked}
+use Rattle.table_desk.specs.Asked.{LooksUp}
 use Rattle.table_meaning.specs.Kept.{calls_in, batches_in}
 use Rattle.table_meaning.specs.Reads.{Reads}
 use Rattle.table_meaning.proofs.StepLemmas.{reads_on}
@@ -12,7 +12,7 @@ use Rattle.sched_tables.specs.ReadLaws.{stays_same, was_honest, stays_both, rows
 use Rattle.sched_tables.specs.Views.{state_of, world_of, AreKept, AreReadOn}
 use Rattle.sched_tables.specs.declared.tables.Tables.{Tables}
 
-pub told : {S : Type 0} (store : Ghosts S) (t : Tables S) (after : Held S) (says : World → Type 0) → Asked store t.conn after says → IsHonest (state store after) → AreKept store t → says (world_of store t)
+pub told : {S : Type 0} (store : Ghosts S) (t : Tables S) (after : Held S) (says : World → Type 0) → LooksUp store t.conn after says → IsHonest (state store after) → AreKept store t → says (world_of store t)
 told store t after says asked honest kept =
     let trees = (state_of store t).now.trees in
     asked honest.0 honest.1 kept.0.rests (world_of store t) (record { calls = calls_in trees; batches = batches_in trees; holds = kept.0.holds; readable = kept.0.readable })
@@ -40,7 +40,7 @@ read_on store first mid last on later = (
 )
 
 -- an answer after another read is that of the world before both
-pub answer_later : {S : Type 0} (store : Ghosts S) (first mid : Tables S) (after : Held S) (says : World → Type 0) → AreReadOn store first mid → Reads (state_of store mid) (state store after) → Asked store mid.conn after says
+pub answer_later : {S : Type 0} (store : Ghosts S) (first mid : Tables S) (after : Held S) (says : World → Type 0) → AreReadOn store first mid → Reads (state_of store mid) (state store after) → LooksUp store mid.conn after says
     → IsHonest (state store after) → AreKept store first → says (world_of store first)
 answer_later store first mid after says on reads asked honest kept =
     let then = was_honest (state_of store mid) (state store after) reads honest in

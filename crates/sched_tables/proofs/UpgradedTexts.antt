@@ -15,7 +15,7 @@ use Rattle.sched_book.specs.declared.rows.ClassRule.{ClassRule}
 use Rattle.sched_book.specs.declared.rows.Version.{Version}
 use Rattle.sched_book.specs.declared.world.World.{World}
 use Rattle.table_meaning.specs.Holding.{Contents, with_row}
-use Rattle.table_meaning.specs.Rows.{RowKey, setting_key, account_key, app_key, version_key, unit_key, host_key, instance_key, kept_key, batch_key, class_key, mark_key, columns_of, same_key, table_at}
+use Rattle.table_meaning.specs.Rows.{RowKey, setting_key, account_key, app_key, version_key, unit_key, host_key, instance_key, kept_key, batch_key, class_key, mark_key, columns_of, same_row_key, table_at}
 use Rattle.table_meaning.specs.Schemas.{IsSchema, has_table, HoldAt}
 use Rattle.table_meaning.specs.Fills.{former_columns}
 use Rattle.table_meaning.specs.Upgrades.{FitsSchema, schema_row_of}
@@ -90,9 +90,9 @@ module _ (n : ℕ) (is : IsSchema n) (w : World) (calls : SlotCalls) (batches : 
     gained (suc (suc (suc (suc m)))) same = absurd (omega (arith, same, is.1))
 
     all_texts : HaveTexts all
-    all_texts (setting_key name) = one (same_key (setting_key name) (setting_key (codes "schema"))) refl
+    all_texts (setting_key name) = one (same_row_key (setting_key name) (setting_key (codes "schema"))) refl
       where
-        one : (b : Bool) → same_key (setting_key name) (setting_key (codes "schema")) ≡ b → HasThem (setting_key name)
+        one : (b : Bool) → same_row_key (setting_key name) (setting_key (codes "schema")) ≡ b → HasThem (setting_key name)
         one true same = subst HasThem (sym (one_key (setting_key name) (setting_key (codes "schema")) same)) (IsUtf8-word (codes "schema") refl, (tt, tt))
         one false other = subst (λ b. HasTexts (cond b (Some (schema_row_of n)) (all (setting_key name)))) other (texts (setting_key name) (stands_since_first n is Setting refl))
     all_texts (account_key id) = texts (account_key id) (stands_since_first n is Account refl)

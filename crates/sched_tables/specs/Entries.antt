@@ -13,7 +13,7 @@ use Rattle.table_meaning.specs.declared.rows.StoredRow.{StoredRow}
 use Rattle.table_meaning.specs.declared.rows.StoredRow.TheVariants as stored
 use Rattle.table_meaning.specs.Kept.{calls_in, batches_in}
 use Rattle.table_meaning.specs.Worlds.{BatchText, SlotCalls, call_row}
-use Rattle.sched_tables.specs.Commits.{ArePut, Makes}
+use Rattle.sched_tables.specs.Commits.{AreRowsToCommit, MakesWorld}
 use Rattle.sched_tables.specs.Slots.{calls_in_slots}
 use Rattle.table_cache.specs.NextSlot.{IsSlotFor}
 
@@ -25,11 +25,11 @@ IsRowOf calls entry.Nothing row = row ≡ None
 
 -- These rows lead from a world to the one with the changes made, and the row that the entry puts is the last.
 abbrev pub ArePutWith : World → Delta → SlotCalls → Entry → List StoredRow → Type 0
-ArePutWith w cs calls e rows = (row : Option StoredRow) × IsRowOf calls e row × ArePut w cs row rows
+ArePutWith w cs calls e rows = (row : Option StoredRow) × IsRowOf calls e row × AreRowsToCommit w cs row rows
 
 -- If the old tables held a world, the new ones hold it with the changes made, and with what the entry puts.
 abbrev pub MakesWith : World → Delta → Entry → Database → Database → Type 0
-MakesWith w cs e old new = (row : Option StoredRow) × IsRowOf (calls_in old.trees) e row × Makes w cs row old new
+MakesWith w cs e old new = (row : Option StoredRow) × IsRowOf (calls_in old.trees) e row × MakesWorld w cs row old new
 
 -- ---- what is kept, as a store says it
 

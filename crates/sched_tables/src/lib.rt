@@ -14,6 +14,6 @@ mod tables;
 mod upgrading;
 
 pub use stores::{Entry, KeptBatch, Kind, Store};
-pub use table_rows::{OpenFault, Refused};
+pub use table_rows::{OpenFault, OpenRefusal};
 pub use tables::Tables;
 pub use upgrading::{SCHEMA_1, upgrade};

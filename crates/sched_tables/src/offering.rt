@@ -1,5 +1,5 @@
-//! What waits is offered. If the page that was read last has the place, the offers begin on it. The page is remembered,
-//! and so are the workunits of the first offers.
+//! What waits is offered. If the window that was read last has the place, the offers begin on it. The window is
+//! remembered, and so are the workunits of the first offers.
 
 ghost use Rattle.std.specs.Prelude.{◌≡◌, All, OnErr, OnOk};
 ghost use Rattle.sched_book.specs.Offers.{OffersAll, OffersSome, unsent};
@@ -70,7 +70,7 @@ impl<'a, T: Taker> Taker for Noting<'a, T> {
 
 impl<S: Alter> Tables<S> {
     /// Offers what waits from this place on, and notes the workunits of the first offers. If an account is named, it leaves
-    /// out what the skip of its user covers. The page on which the offers begin is remembered.
+    /// out what the skip of its user covers. The window on which the offers begin is remembered.
     pub(crate) fn offer_from<T: Taker>(
         &mut self,
         account: Option<u32>,
@@ -84,7 +84,7 @@ impl<S: Alter> Tables<S> {
         ensures noted { IsHonest (state_of S.Store self.new) → AreKept S.Store self.old
             → All (IsUnitOf (world_of S.Store self.old)) noted.old.items → All (IsUnitOf (world_of S.Store self.old)) noted.new.items }
     {
-        let mut page = self.cache.take_page();
+        let mut window = self.cache.take_window();
         let mut noting = Noting { taker, noted };
         let offered = table_desk::unsent_from(
             self.alloc,
@@ -92,11 +92,11 @@ impl<S: Alter> Tables<S> {
             self.apps.as_slice(),
             &self.cache,
             self.cache.skip_of(account),
-            &mut page,
+            &mut window,
             from,
             &mut noting,
         );
-        self.cache.remember_page(page);
+        self.cache.remember_window(window);
         offered
     }
 

@@ -23,7 +23,7 @@ use std::alloc::Global;
 use table_cache::Cache;
 use table_meaning::rows::RowChange;
 use table_reading::stored_world;
-use table_rows::{OpenFault, Refused, create, known, test_open};
+use table_rows::{OpenFault, OpenRefusal, create, known, test_open};
 use table_worlds::setting_rows;
 use texts::Listed;
 
@@ -64,7 +64,7 @@ impl<S: Alter + Drop> Tables<S> {
     /// [`table_reading::stored_world`] says. A connection that is given back is opened anew: it has no open transaction, and
     /// its file is as it was. If memory or the disk failed, the connection is dropped. A stop after the opening leaves what the
     /// tables hold, and that can be opened again.
-    pub fn adopt(alloc: Global, conn: Connection<S>) -> Result<Tables<S>, Refused<S>>
+    pub fn adopt(alloc: Global, conn: Connection<S>) -> Result<Tables<S>, OpenRefusal<S>>
         ensures open { IfOk result (λ t. HasCleanDisk (state_of S.Store t) → IsHonest (state_of S.Store t)) }
         ensures sound { IfOk result (λ t. HasCleanDisk (state_of S.Store t) → Sound (world_of S.Store t)) }
         ensures held { IfOk result (λ t. HasCleanDisk (state_of S.Store t) → AreKept S.Store t) }
@@ -79,7 +79,7 @@ impl<S: Alter + Drop> Tables<S> {
         let mut conn = known(alloc, conn)?;
         let read = stored_world(alloc, &mut conn);
         if test_open(&mut conn).is_err() {
-            return Err(Refused::Unavailable(Cause::Storage(StorageFault::Closed)));
+            return Err(OpenRefusal::Unavailable(Cause::Storage(StorageFault::Closed)));
         }
         match read {
             Ok(kept) => Ok(Tables {
@@ -91,7 +91,7 @@ impl<S: Alter + Drop> Tables<S> {
                 due_from: kept.due_from,
                 asked: 0,
             }),
-            Err(fault) => Err(Refused::of(fault, conn)),
+            Err(fault) => Err(OpenRefusal::of(fault, conn)),
         }
     }
 

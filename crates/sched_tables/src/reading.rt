@@ -6,7 +6,7 @@ ghost use Rattle.sched_book.specs.Desk.{account_by_key, counts, workunit_at, ins
 ghost use Rattle.sched_book.specs.Fits.{version_at};
 ghost use Rattle.sched_book.specs.Limits.{most_instances};
 ghost use Rattle.sched_book.specs.Places.{held_by, known_host, sent_on_day, unit_named, user_credit};
-ghost use Rattle.table_desk.specs.Asked.{Asked};
+ghost use Rattle.table_desk.specs.Asked.{LooksUp};
 ghost use Rattle.table_desk.specs.Columns.{counted_host_at};
 ghost use Rattle.table_meaning.specs.Reads.{Reads};
 ghost use Rattle.sched_tables.specs.Held.{IsHonest};
@@ -29,7 +29,7 @@ fn places_held<S: Alter>(
     most: u32,
 ) -> Result<Listed<Place>, Unavailable>
     ensures reads { Reads (state S.Store conn.old) (state S.Store conn.new) }
-    ensures answer { Asked S.Store conn.old conn.new (λ w. length (held_by w host) ≤ most → IfOk result (λ r. r ≡ held_by w host)) }
+    ensures answer { LooksUp S.Store conn.old conn.new (λ w. length (held_by w host) ≤ most → IfOk result (λ r. r ≡ held_by w host)) }
 {
     if most == 0 {
         return Ok(Listed::new(alloc));

@@ -24,7 +24,7 @@ use Rattle.table_desk.specs.declared.hosts.CountedHost.{CountedHost}
 use Rattle.table_meaning.specs.declared.rows.StoredInstance.{StoredInstance}
 use Rattle.table_meaning.specs.declared.rows.StoredRow.{StoredRow}
 use Rattle.table_meaning.specs.declared.rows.StoredRow.TheVariants as stored
-use Rattle.table_meaning.specs.Rows.{RowKey, unit_key, host_key, instance_key, key_of}
+use Rattle.table_meaning.specs.Rows.{RowKey, unit_key, host_key, instance_key, row_key_of}
 use Rattle.table_meaning.specs.Worlds.{SlotCalls}
 use Rattle.table_worlds.specs.Keys.{row_key, row_in}
 use Rattle.table_worlds.specs.Readable.{IsReadable}
@@ -34,7 +34,7 @@ use Rattle.table_cache.specs.Carrying.{IsStillKnown, job_of, counted_of, with_ho
 use Rattle.table_cache.specs.LastNumbers.{AreNoJobsPast, AreNonePast}
 use Rattle.table_cache.specs.Leading.{IsOtherKey, IsUnput, IsPut}
 use Rattle.table_cache.specs.Covering.{jobs_of, with_wait, with_waits, AreSkipsFor}
-use Rattle.table_desk.specs.WaitingPage.{waiting_of, IsPageFor}
+use Rattle.table_desk.specs.WaitingWindow.{waiting_of, IsWindowFor}
 use Rattle.table_cache.specs.Holding.{holders_of, AreHeldOf, IsHeldOf}
 use Rattle.table_cache.specs.Keys.{title_at, with_title, with_titles, AreKeysOf, AreNamesOf, IsFirstHost, IsFirstUnit}
 use Rattle.table_cache.specs.Remembering.{IsAccountOf, IsVersionOf, IsSlotOf, IsCacheOf}
@@ -258,12 +258,12 @@ holds_of_some cmp Of Before After old new some before carry = λ k row is.
     let was = some k row is in carry k row was.0 (before k row was.1)
 
 module _ (w w' : World) (readable : IsReadable w) (readable' : IsReadable w') (Stays : RowKey → Type 0) (stay : (k : WorldKey) → Stays (row_key k) → row_in w k ≡ row_in w' k)
-    (Puts : StoredRow → Type 0) (put : (r : StoredRow) (k : WorldKey) → Puts r → key_of r ≡ row_key k → row_in w' k ≡ Some r)
+    (Puts : StoredRow → Type 0) (put : (r : StoredRow) (k : WorldKey) → Puts r → row_key_of r ≡ row_key k → row_in w' k ≡ Some r)
     (hosts : ℕ → Option CountedHost) (known : (n : ℕ) → IsStillKnown Stays Puts counted_of (host_key n) (counted_host_at w n) (hosts n))
     (jobs : ℕ → ℕ → Option Job) (jobs_known : (n num : ℕ) → IsStillKnown Stays Puts job_of (instance_key n num) (jobs_of w n num) (jobs n num))
     (waiting : ℕ → ℕ → Option Bool) (waits_known : (n num : ℕ) → IsStillKnown Stays Puts queued_of (instance_key n num) (waiting_of w n num) (waiting n num))
     (titles : ℕ → Option (List ℕ)) (titles_known : (n : ℕ) → IsStillKnown Stays Puts title_of (unit_key n) (title_at w n) (titles n))
-    (calls calls' : SlotCalls) (old new : Cache) (of_hosts : AreOfHosts hosts new.hosts) (of_jobs : AreOfJobs jobs new.jobs) (of_skips : AreSkipsFor waiting jobs hosts new.skips) (of_page : IfSome new.page (IsPageFor waiting)) (of_held : AreHeldOf (holders_of jobs) new.held)
+    (calls calls' : SlotCalls) (old new : Cache) (of_hosts : AreOfHosts hosts new.hosts) (of_jobs : AreOfJobs jobs new.jobs) (of_skips : AreSkipsFor waiting jobs hosts new.skips) (of_window : IfSome new.window (IsWindowFor waiting)) (of_held : AreHeldOf (holders_of jobs) new.held)
     (of_keys : AreKeysOf hosts new.keys) (of_names : AreNamesOf titles new.units) (left : AreCarried Stays old new) (none : new.slot ≡ None) (before : IsCacheOf w calls old) where
   apps_stay : ((id : ℕ) → Stays (row_key (key.App id))) → w.apps ≡ w'.apps
   apps_stay unput = same_apps w w' readable readable' (λ n. stay (key.App n) (unput n))
@@ -338,7 +338,7 @@ module _ (w w' : World) (readable : IsReadable w) (readable' : IsReadable w') (S
     last_jobs = subst (λ (js : ℕ → ℕ → Option Job). IfSome new.jobs.last (AreNoJobsPast js)) (λ i n num. jobs_then n num i) of_jobs.none_past;
     versions = versions_left old.versions.items new.versions.items left.versions before.versions;
     slot = subst (λ o. IfSome o (IsSlotOf calls')) (sym none) tt;
-    page = subst (λ (ws : ℕ → ℕ → Option Bool). IfSome new.page (IsPageFor ws)) (λ i n num. waits_then n num i) of_page;
+    window = subst (λ (ws : ℕ → ℕ → Option Bool). IfSome new.window (IsWindowFor ws)) (λ i n num. waits_then n num i) of_window;
     skips =
         subst (λ (ws : ℕ → ℕ → Option Bool). AreSkipsFor ws (jobs_of w') (counted_host_at w') new.skips) (λ i n num. waits_then n num i)
         (subst (λ (js : ℕ → ℕ → Option Job). AreSkipsFor waiting js (counted_host_at w') new.skips) (λ i n num. jobs_then n num i)

@@ -16,7 +16,7 @@ use Rattle.sched_book.proofs.Settling.{slice_get-enumerate_from}
 use Rattle.table_desk.specs.Columns.{counted_host_at}
 use Rattle.table_desk.specs.declared.hosts.CountedHost.{CountedHost}
 use Rattle.table_cache.specs.Carrying.{with_counted, share, shares, AreCreditsOf, IsShareOf}
-use Rattle.table_cache.specs.LastNumbers.{AreNonePast, IsAtMost, IsPast}
+use Rattle.table_cache.specs.LastNumbers.{AreNonePast, IsAtMost, IsPastLast}
 use Rattle.table_cache.specs.RowsRead.{HoldOfEach, HasKept, IsWithout}
 use Rattle.table_cache.specs.declared.rows_read.RowsRead.{RowsRead}
 
@@ -111,7 +111,7 @@ module _ (hosts : ℕ → Option CountedHost) (number old : ℕ) (new : CountedH
 
 -- ---- one number past the last
 
-pub none_at : {X : Type 0} (found : ℕ → Option X) (last : Option ℕ) (number : ℕ) → IsPast last number → IfSome last (AreNonePast found) → found number ≡ None
+pub none_at : {X : Type 0} (found : ℕ → Option X) (last : Option ℕ) (number : ℕ) → IsPastLast last number → IfSome last (AreNonePast found) → found number ≡ None
 none_at found None number past none = absurd past
 none_at found (Some last) number past none = none number past
 

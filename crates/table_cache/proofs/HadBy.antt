@@ -14,7 +14,7 @@ use Rattle.sched_book.specs.declared.world.World.{World}
 use Rattle.table_desk.specs.Columns.{counted_host_at}
 use Rattle.table_desk.specs.declared.hosts.CountedHost.{CountedHost}
 use Rattle.table_cache.specs.Covering.{jobs_of, WasGiven}
-use Rattle.table_desk.specs.WaitingPage.{waiting_of}
+use Rattle.table_desk.specs.WaitingWindow.{waiting_of}
 use Rattle.sched_book.specs.Skipping.{user_had_at, HadAllBefore}
 
 module _ (w : World) (account : ℕ) where

@@ -19,7 +19,7 @@ use Rattle.table_meaning.specs.declared.rows.StoredHost.{StoredHost}
 use Rattle.table_meaning.specs.declared.rows.StoredRow.TheVariants as stored
 use Rattle.table_meaning.specs.declared.rows.StoredUnit.{StoredUnit}
 use Rattle.table_cache.specs.Carrying.{counted_of, with_host}
-use Rattle.table_cache.specs.LastNumbers.{AreNonePast, IsPast}
+use Rattle.table_cache.specs.LastNumbers.{AreNonePast, IsPastLast}
 use Rattle.table_cache.specs.Keys.{has_key, title_at, with_title, AreFirstUnits, AreKeysOf, AreTitled, IsFirst, IsFirstHost, IsFirstUnit, KeepsKey, KeepsName}
 use Rattle.table_cache.specs.RowsRead.{IsWithout}
 use Rattle.table_cache.specs.declared.keys.HostKeyRead.{HostKeyRead}
@@ -149,7 +149,7 @@ module _ (hosts : ℕ → Option CountedHost) (row : StoredHost) (keeps : KeepsK
   }
 
 -- a new host changes no key
-pub keys_still : (hosts : ℕ → Option CountedHost) (row : StoredHost) (last : Option ℕ) → IsPast last row.id → IfSome last (AreNonePast hosts) → (keys : RowsRead (List ℕ) HostKeyRead) → AreKeysOf hosts keys
+pub keys_still : (hosts : ℕ → Option CountedHost) (row : StoredHost) (last : Option ℕ) → IsPastLast last row.id → IfSome last (AreNonePast hosts) → (keys : RowsRead (List ℕ) HostKeyRead) → AreKeysOf hosts keys
     → AreKeysOf (with_host hosts (stored.Host row)) keys
 keys_still hosts row None past none keys are = absurd past
 keys_still hosts row (Some last) past none keys are = record {
@@ -176,7 +176,7 @@ module _ (titles : ℕ → Option (List ℕ)) (row : StoredUnit) where
       same n false is = sym (then_titled n false is)
 
   -- a new workunit changes no place of a name
-  pub names_still : (last : Option ℕ) → IsPast last row.id → IfSome last (AreNonePast titles) → (names : RowsRead (List ℕ) ℕ) → AreFirstUnits titles names → AreFirstUnits (with_title titles (stored.Unit row)) names
+  pub names_still : (last : Option ℕ) → IsPastLast last row.id → IfSome last (AreNonePast titles) → (names : RowsRead (List ℕ) ℕ) → AreFirstUnits titles names → AreFirstUnits (with_title titles (stored.Unit row)) names
   names_still None past none names are = absurd past
   names_still (Some last) past none names are = λ name n is.
       first_still (λ m. option_any (λ title. bytes_eq title name) (titles m)) (λ m. option_any (λ title. bytes_eq title name) (with_title titles (stored.Unit row) m)) last row.id n past

@@ -13,7 +13,7 @@ use Rattle.table_desk.specs.Columns.{counted_host_at}
 use Rattle.table_meaning.specs.Worlds.{SlotCalls}
 use Rattle.table_cache.specs.LastNumbers.{AreNoJobsPast, AreNonePast}
 use Rattle.table_cache.specs.Covering.{jobs_of, AreSkipsFor}
-use Rattle.table_desk.specs.WaitingPage.{waiting_of, IsPageOf}
+use Rattle.table_desk.specs.WaitingWindow.{waiting_of, IsWindowOf}
 use Rattle.table_cache.specs.Remembering.{IsAccountOf, IsKeyOf, IsNameOf, IsVersionOf, IsSlotOf, IsCacheOf}
 use Rattle.table_cache.specs.declared.cache.Cache.{Cache}
 use Rattle.table_cache.specs.declared.rows_read.RowsRead.{RowsRead}
@@ -24,8 +24,8 @@ HasNone {K} {T} cmp read = (key : K) → get cmp read.rows key ≡ None
 
 pub none_remembered : (w : World) (calls : SlotCalls) (r : Cache) → HasNone nat_cmp r.units.rows → HasNone (slice_cmp nat_cmp) r.units.names → r.units.last ≡ None → HasNone nat_cmp r.jobs.instances → HasNone nat_cmp r.jobs.sent → r.jobs.last ≡ None → HasNone nat_cmp r.hosts.rows → HasNone nat_cmp r.hosts.credits → r.hosts.last ≡ None → HasNone nat_cmp r.held → HasNone (slice_cmp nat_cmp) r.accounts
     → HasNone (slice_cmp nat_cmp) r.keys
-    → r.versions.items ≡ [] → r.slot ≡ None → r.page ≡ None → AreSkipsFor (waiting_of w) (jobs_of w) (counted_host_at w) r.skips → IsCacheOf w calls r
-none_remembered w calls r units names last_unit instances sent last_jobs hosts credits last_host held accounts keys versions slot page skips = record {
+    → r.versions.items ≡ [] → r.slot ≡ None → r.window ≡ None → AreSkipsFor (waiting_of w) (jobs_of w) (counted_host_at w) r.skips → IsCacheOf w calls r
+none_remembered w calls r units names last_unit instances sent last_jobs hosts credits last_host held accounts keys versions slot window skips = record {
   units = hold_of_none nat_cmp (λ n u. workunit_at w n ≡ Some u) r.units.rows units;
   instances = hold_of_none nat_cmp (λ n xs. xs ≡ instances_at w n) r.jobs.instances instances;
   hosts = hold_of_none nat_cmp (λ n h. counted_host_at w n ≡ Some h) r.hosts.rows hosts;
@@ -40,6 +40,6 @@ none_remembered w calls r units names last_unit instances sent last_jobs hosts c
   last_jobs = subst (λ o. IfSome o (AreNoJobsPast (jobs_of w))) (sym last_jobs) tt;
   versions = subst (All (IsVersionOf w)) (sym versions) (All-nil (IsVersionOf w));
   slot = subst (λ o. IfSome o (IsSlotOf calls)) (sym slot) tt;
-  page = subst (λ o. IfSome o (IsPageOf w)) (sym page) tt;
+  window = subst (λ o. IfSome o (IsWindowOf w)) (sym window) tt;
   skips = skips;
 }

@@ -15,7 +15,7 @@ use Rattle.sched_book.specs.declared.instance.UnitBook.{UnitBook}
 use Rattle.sched_book.specs.declared.world.World.{World}
 use Rattle.sched_book.proofs.PlacesOf.{nth-suc}
 use Rattle.table_cache.specs.Carrying.{sending_of, given_to, weight, with_one, sent_of_unit, sent_among, AreSentOf, HaveOneMore, IsRenewed}
-use Rattle.table_cache.specs.LastNumbers.{AreNoJobsPast, IsAtMost, IsPast}
+use Rattle.table_cache.specs.LastNumbers.{AreNoJobsPast, IsAtMost, IsPastLast}
 use Rattle.table_cache.specs.RowsRead.{HoldOfEach, HasKept, IsWithout}
 use Rattle.table_cache.specs.declared.sent.Sending.{Sending}
 use Rattle.table_cache.specs.declared.sent.SentRead.{SentRead}
@@ -176,12 +176,12 @@ none_counted jobs units numbers sent none =
 
 -- ---- one place past the last
 
-pub no_jobs_at : (jobs : ℕ → ℕ → Option Instance) (last : Option ℕ) (unit : ℕ) → IsPast last unit → IfSome last (AreNoJobsPast jobs) → (number : ℕ) → jobs unit number ≡ None
+pub no_jobs_at : (jobs : ℕ → ℕ → Option Instance) (last : Option ℕ) (unit : ℕ) → IsPastLast last unit → IfSome last (AreNoJobsPast jobs) → (number : ℕ) → jobs unit number ≡ None
 no_jobs_at jobs None unit past none number = absurd past
 no_jobs_at jobs (Some last) unit past none number = none unit number past
 
 -- at a greater place there is none either
-pub no_jobs_past : (jobs : ℕ → ℕ → Option Instance) (last : Option ℕ) (unit : ℕ) → IsPast last unit → IfSome last (AreNoJobsPast jobs) → AreNoJobsPast jobs unit
+pub no_jobs_past : (jobs : ℕ → ℕ → Option Instance) (last : Option ℕ) (unit : ℕ) → IsPastLast last unit → IfSome last (AreNoJobsPast jobs) → AreNoJobsPast jobs unit
 no_jobs_past jobs None unit past none = absurd past
 no_jobs_past jobs (Some last) unit past none = λ other number after. none other number (omega (arith, past, after))
 

@@ -24,10 +24,10 @@ use Rattle.table_meaning.specs.declared.rows.StoredHost.{StoredHost}
 use Rattle.table_meaning.specs.declared.rows.StoredInstance.{StoredInstance}
 use Rattle.table_meaning.specs.declared.rows.StoredRow.{StoredRow}
 use Rattle.table_meaning.specs.declared.rows.StoredRow.TheVariants as stored
-use Rattle.table_worlds.specs.ReadBack.{number_at, number_in, owner_in}
+use Rattle.table_worlds.specs.ReadBack.{number_at, number_or_none, owner_in}
 use Rattle.table_cache.specs.Carrying.{counted_of, job_of, with_host, with_hosts, with_job, with_jobs}
 use Rattle.table_cache.specs.Covering.{with_wait, with_waits, AreSkipsFor, IsSkipFor, IsHadBefore, IsUserSkip, KeepsAccount, KeepsHost, WasGiven}
-use Rattle.table_desk.specs.WaitingPage.{with_wait_at}
+use Rattle.table_desk.specs.WaitingWindow.{with_wait_at}
 use Rattle.table_cache.specs.declared.skips.Skips.{Skips}
 use Rattle.table_cache.specs.declared.skips.UserSkip.{UserSkip}
 
@@ -136,7 +136,7 @@ owner_put row host is = go row.host_id is
     deadline : ℕ
     deadline = number_at (columns_of (stored.Instance row)) 4
 
-    go : (h : Option ℕ) → h ≡ Some host → (o : Owner) × (owner_in (number_in (or_null whole h)) sent deadline ≡ Some o) × (o.host ≡ host)
+    go : (h : Option ℕ) → h ≡ Some host → (o : Owner) × (owner_in (number_or_none (or_null whole h)) sent deadline ≡ Some o) × (o.host ≡ host)
     go None is = absurd cc
     go (Some h) is = (record { host = h; sent = sent; deadline = deadline }, refl, same_Some h host is)
 

@@ -27,7 +27,7 @@ use Rattle.table_worlds.specs.Keys.{row_in}
 use Rattle.table_worlds.specs.ReadBack.{account_in, app_in, version_in, unit_in}
 use Rattle.table_worlds.specs.Readable.{IsReadable}
 use Rattle.table_cache.specs.Carrying.{job_of, counted_of}
-use Rattle.table_desk.specs.WaitingPage.{waiting_of}
+use Rattle.table_desk.specs.WaitingWindow.{waiting_of}
 use Rattle.table_cache.specs.Keys.{title_at}
 use Rattle.table_worlds.specs.declared.keys.WorldKey.TheVariants.{Account as account_at, App as app_at, Version as version_at, Class as class_at, Unit as unit_key_at, Mark as mark_at, Host as host_key_at, Instance as job_at}
 use Rattle.texts.specs.Words.{IsWord}

@@ -10,7 +10,7 @@ use Rattle.sched_book.specs.declared.instance.Owner.{Owner}
 use Rattle.table_desk.specs.declared.hosts.CountedHost.{CountedHost}
 use Rattle.table_meaning.specs.declared.rows.StoredRow.{StoredRow}
 use Rattle.table_meaning.specs.declared.rows.StoredRow.TheVariants as stored
-use Rattle.table_meaning.specs.Rows.{RowKey, account_key, app_key, version_key, class_key, unit_key, mark_key, key_of, columns_of}
+use Rattle.table_meaning.specs.Rows.{RowKey, account_key, app_key, version_key, class_key, unit_key, mark_key, row_key_of, columns_of}
 use Rattle.table_worlds.specs.ReadBack.{number_at, host_in, job_in}
 use Rattle.table_cache.specs.LastNumbers.{AreNoJobsPast, AreNonePast}
 use Rattle.table_cache.specs.RowsRead.{HoldOfEach, AreSome}
@@ -39,7 +39,7 @@ IsRenewed number x old new = (at : ℕ) → slice_get new at ≡ cond (eqb numbe
 
 -- Either the key stays, and what is known of it is what was known; or a row is put there, and it follows from that row.
 abbrev pub IsStillKnown : {X : Type 0} → (RowKey → Type 0) → (StoredRow → Type 0) → (StoredRow → X) → RowKey → Option X → Option X → Type 0
-IsStillKnown Stays Puts told key old new = (Stays key × (new ≡ old)) ⊎ ((row : StoredRow) × Puts row × (key_of row ≡ key) × (new ≡ Some (told row)))
+IsStillKnown Stays Puts told key old new = (Stays key × (new ≡ old)) ⊎ ((row : StoredRow) × Puts row × (row_key_of row ≡ key) × (new ≡ Some (told row)))
 
 -- What is remembered was so before, and rests on rows at keys that stay: a workunit on its row, its mark and the applications, accounts
 -- and versions on all that there are.

@@ -11,9 +11,9 @@ abbrev pub AreNoJobsPast : (ℕ → ℕ → Option Instance) → ℕ → Type 0
 AreNoJobsPast jobs last = (unit number : ℕ) → last < unit → jobs unit number ≡ None
 
 -- a last number is known, and this one is greater
-abbrev pub IsPast : Option ℕ → ℕ → Type 0
-IsPast None number = ⊥
-IsPast (Some last) number = last < number
+abbrev pub IsPastLast : Option ℕ → ℕ → Type 0
+IsPastLast None number = ⊥
+IsPastLast (Some last) number = last < number
 
 -- a last number was known, and it and this one are at most the new last one
 abbrev pub IsAtMost : Option ℕ → ℕ → ℕ → Type 0

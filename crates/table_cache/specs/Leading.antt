@@ -2,7 +2,7 @@
 use Rattle.std.specs.Prelude.{◌≡◌, ◌≢◌, ◌⊎◌, List, [], ◌∷◌, Some}
 use Rattle.std.specs.List.{AllByRecursion}
 use Rattle.sched_book.specs.declared.world.World.{World}
-use Rattle.table_meaning.specs.Rows.{RowKey, key_of}
+use Rattle.table_meaning.specs.Rows.{RowKey, row_key_of}
 use Rattle.table_meaning.specs.declared.rows.StoredRow.{StoredRow}
 use Rattle.table_worlds.specs.Keys.{row_key, row_in}
 use Rattle.table_worlds.specs.Readable.{IsReadable}
@@ -10,7 +10,7 @@ use Rattle.table_worlds.specs.declared.keys.WorldKey.{WorldKey}
 
 -- a key is not that of this row
 abbrev pub IsOtherKey : StoredRow → RowKey → Type 0
-IsOtherKey row key = key_of row ≢ key
+IsOtherKey row key = row_key_of row ≢ key
 
 -- no row of these is put at this key
 abbrev pub IsUnput : List StoredRow → RowKey → Type 0
@@ -27,4 +27,4 @@ pub record Lead (rows : List StoredRow) (before after : World) : Type 0 where
   pub was_readable : IsReadable before
   pub is_readable : IsReadable after
   pub stays : (key : WorldKey) → IsUnput rows (row_key key) → row_in before key ≡ row_in after key
-  pub put : (row : StoredRow) (key : WorldKey) → IsPut rows row → key_of row ≡ row_key key → row_in after key ≡ Some row
+  pub put : (row : StoredRow) (key : WorldKey) → IsPut rows row → row_key_of row ≡ row_key key → row_in after key ≡ Some row

@@ -4,18 +4,18 @@ use Rattle.reply_register.specs.Keeping.{most_kept}
 use Rattle.reply_register.specs.declared.kept.Kept.{Kept}
 
 -- the number of the call in a slot
-abbrev pub number_in : (ℕ → Option Kept) → ℕ → Option ℕ
-number_in calls slot = option_map (λ (k : Kept). k.seqno) (calls slot)
+abbrev pub seqno_in : (ℕ → Option Kept) → ℕ → Option ℕ
+seqno_in calls slot = option_map (λ (k : Kept). k.seqno) (calls slot)
 
 -- A free slot comes before a full one, and a lesser number before a greater one.
-abbrev pub is_before : Option ℕ → Option ℕ → Bool
-is_before None None = false
-is_before None (Some n) = true
-is_before (Some n) None = false
-is_before (Some n) (Some m) = nat_lt n m
+abbrev pub is_slot_before : Option ℕ → Option ℕ → Bool
+is_slot_before None None = false
+is_slot_before None (Some n) = true
+is_slot_before (Some n) None = false
+is_slot_before (Some n) (Some m) = nat_lt n m
 
 -- The slot into which one more call is put: the first free one or, if none is free, the first one with the least number.
 pub record IsSlotFor (calls : ℕ → Option Kept) (slot : ℕ) : Type 0 where
   pub within : slot < most_kept
-  pub least : (other : ℕ) → other < most_kept → is_before (number_in calls other) (number_in calls slot) ≡ false
-  pub first : (other : ℕ) → other < slot → is_before (number_in calls slot) (number_in calls other) ≡ true
+  pub least : (other : ℕ) → other < most_kept → is_slot_before (seqno_in calls other) (seqno_in calls slot) ≡ false
+  pub first : (other : ℕ) → other < slot → is_slot_before (seqno_in calls slot) (seqno_in calls other) ≡ true

@@ -12,7 +12,7 @@ use Rattle.table_desk.specs.Columns.{counted_host_at}
 use Rattle.table_meaning.specs.Worlds.{SlotCalls}
 use Rattle.table_cache.specs.LastNumbers.{AreNoJobsPast, AreNonePast}
 use Rattle.table_cache.specs.Covering.{jobs_of, AreSkipsFor}
-use Rattle.table_desk.specs.WaitingPage.{waiting_of, IsPageOf}
+use Rattle.table_desk.specs.WaitingWindow.{waiting_of, IsWindowOf}
 use Rattle.table_cache.specs.RowsRead.{HoldOfEach}
 use Rattle.table_cache.specs.NextSlot.{IsSlotFor}
 use Rattle.table_cache.specs.declared.keys.HostKeyRead.{HostKeyRead}
@@ -51,8 +51,8 @@ IsNameOf w name unit = unit_named w name ≡ Some unit
 abbrev pub IsSlotOf : SlotCalls → SlotRead → Type 0
 IsSlotOf calls s = IsSlotFor (calls s.host) s.slot
 
--- What is remembered is what the world has, of what waits a page of its places, and of the calls in the slots of a host which slot is for the
--- next.
+-- What is remembered is what the world has, of what waits a window of its places, and of the calls in the slots of a host which slot is for
+-- the next.
 pub record IsCacheOf (w : World) (calls : SlotCalls) (cache : Cache) : Type 0 where
   pub units : AreUnitsOf w cache.units.rows
   pub instances : HoldOfEach nat_cmp (λ n xs. xs ≡ instances_at w n) cache.jobs.instances
@@ -68,5 +68,5 @@ pub record IsCacheOf (w : World) (calls : SlotCalls) (cache : Cache) : Type 0 wh
   pub last_jobs : IfSome cache.jobs.last (AreNoJobsPast (jobs_of w))
   pub versions : All (IsVersionOf w) cache.versions.items
   pub slot : IfSome cache.slot (IsSlotOf calls)
-  pub page : IfSome cache.page (IsPageOf w)
+  pub window : IfSome cache.window (IsWindowOf w)
   pub skips : AreSkipsFor (waiting_of w) (jobs_of w) (counted_host_at w) cache.skips

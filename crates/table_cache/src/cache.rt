@@ -6,7 +6,7 @@ ghost use Rattle.sched_book.specs.declared.world.World.{World};
 ghost use Rattle.table_desk.specs.Columns.{counted_host_at};
 ghost use Rattle.table_meaning.specs.Worlds.{SlotCalls};
 ghost use Rattle.table_cache.specs.Covering.{jobs_of, IsSkipFor};
-ghost use Rattle.table_desk.specs.WaitingPage.{waiting_of, IsPageOf};
+ghost use Rattle.table_desk.specs.WaitingWindow.{waiting_of, IsWindowOf};
 ghost use Rattle.table_cache.specs.Remembering.{IsCacheOf, IsUnitOf};
 ghost use Rattle.table_cache.specs.NextSlot.{IsSlotFor};
 ghost use Rattle.sched_book.specs.Skipping.{HadAllBefore};
@@ -19,7 +19,7 @@ use crate::skips::Skips;
 use crate::versions::VersionRead;
 use sched_book::{Counts, Place, Workunit};
 use std::alloc::Global;
-use table_desk::{KnownUnits, PageRead, Skip};
+use table_desk::{KnownUnits, QueueWindow, Skip};
 use texts::{Listed, Memory, Text};
 
 /// The most that is remembered of each large kind: workunits, their instances with outputs, and lists of places.
@@ -44,8 +44,8 @@ pub(crate) struct SlotRead {
 
 /// What was read, and is as it was read or as it was put since: rows by their keys, credits by accounts, how many jobs hosts
 /// were sent on a day, the places that hosts hold, hosts by their keys, workunits by their names, versions, the slot for the next
-/// call of the host whose calls were read last, the page of what waits that was read last, the skips of users, the number of the
-/// last host, and the place of the last workunit.
+/// call of the host whose calls were read last, the window of what waits that was read last, the skips of users, the
+/// number of the last host, and the place of the last workunit.
 pub struct Cache {
     pub(crate) units: UnitsRead,
     pub(crate) jobs: JobsRead,
@@ -55,7 +55,7 @@ pub struct Cache {
     pub(crate) keys: RowsRead<Text, HostKeyRead>,
     pub(crate) versions: Vec<VersionRead>,
     pub(crate) slot: Option<SlotRead>,
-    pub(crate) page: Option<PageRead>,
+    pub(crate) window: Option<QueueWindow>,
     pub(crate) skips: Skips,
 }
 
@@ -71,7 +71,7 @@ impl Drop for Cache {
             keys: _keys,
             versions: _versions,
             slot: _slot,
-            page: _page,
+            window: _window,
             skips: _skips,
         } = self;
     }
@@ -91,7 +91,7 @@ impl Cache {
             keys: RowsRead::new(alloc, MOST_SMALL),
             versions: Vec::new(alloc),
             slot: None,
-            page: None,
+            window: None,
             skips: Skips::new(alloc),
         }
     }
@@ -131,18 +131,18 @@ impl Cache {
         self.slot = Some(SlotRead { host, slot });
     }
 
-    /// Takes away the page of what waits that was read last.
-    pub fn take_page(&mut self) -> Option<PageRead>
-        ensures { (w : World) (calls : SlotCalls) → IsCacheOf w calls self.old → IsCacheOf w calls self.new × IfSome result (IsPageOf w) }
+    /// Takes away the window of what waits that was read last.
+    pub fn take_window(&mut self) -> Option<QueueWindow>
+        ensures { (w : World) (calls : SlotCalls) → IsCacheOf w calls self.old → IsCacheOf w calls self.new × IfSome result (IsWindowOf w) }
     {
-        self.page.take()
+        self.window.take()
     }
 
-    /// Remembers a page of what waits, if one was read.
-    pub fn remember_page(&mut self, page: Option<PageRead>)
-        ensures { (w : World) (calls : SlotCalls) → IsCacheOf w calls self.old → IfSome page (IsPageOf w) → IsCacheOf w calls self.new }
+    /// Remembers a window of what waits, if one was read.
+    pub fn remember_window(&mut self, window: Option<QueueWindow>)
+        ensures { (w : World) (calls : SlotCalls) → IsCacheOf w calls self.old → IfSome window (IsWindowOf w) → IsCacheOf w calls self.new }
     {
-        self.page = page;
+        self.window = window;
     }
 
     /// The skip of the user of this account. It covers nothing if none is known, or no account is named.
@@ -180,7 +180,7 @@ impl Cache {
         self.keys.forget_all();
         self.versions.clear();
         self.slot = None;
-        self.page = None;
+        self.window = None;
         self.skips.forget_all();
     }
 }

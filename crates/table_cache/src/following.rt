@@ -8,7 +8,7 @@ ghost use Rattle.table_meaning.specs.Worlds.{SlotCalls};
 ghost use Rattle.table_meaning.specs.declared.rows.StoredRow.TheVariants as stored;
 ghost use Rattle.table_cache.specs.Carrying.{with_host, with_hosts, with_job, with_jobs, AreCarried, AreOfHosts, AreOfJobs};
 ghost use Rattle.table_cache.specs.Covering.{with_wait, with_waits, AreSkipsFor};
-ghost use Rattle.table_desk.specs.WaitingPage.{IsPageFor};
+ghost use Rattle.table_desk.specs.WaitingWindow.{IsWindowFor};
 ghost use Rattle.table_cache.specs.Holding.{holders_of, AreHeldOf};
 ghost use Rattle.table_cache.specs.Keys.{with_title, with_titles, AreKeysOf, AreNamesOf};
 ghost use Rattle.table_cache.specs.Remembering.{IsCacheOf};
@@ -21,14 +21,15 @@ use crate::keys::{follow_host_key, follow_unit};
 use crate::sent::{note_unit, renew_instance};
 use sched_book::Place;
 use std::alloc::Global;
-use table_desk::PageRead;
+use table_desk::QueueWindow;
 use table_meaning::rows::{RowChange, StoredInstance, StoredRow};
 
-/// Lets a page of what waits follow the row of an instance that was put. If it is not worth keeping then, it is forgotten.
-fn follow_page(alloc: Global, page: &mut Option<PageRead>, row: &StoredInstance)
-    ensures { (waiting : ℕ → ℕ → Option Bool) → IfSome page.old (IsPageFor waiting) → IfSome page.new (IsPageFor (with_wait waiting (stored.Instance row.now))) }
+/// Lets a window of what waits follow the row of an instance that was put. If it is not worth keeping then, it is
+/// forgotten.
+fn follow_window(alloc: Global, window: &mut Option<QueueWindow>, row: &StoredInstance)
+    ensures { (waiting : ℕ → ℕ → Option Bool) → IfSome window.old (IsWindowFor waiting) → IfSome window.new (IsWindowFor (with_wait waiting (stored.Instance row.now))) }
 {
-    let Some(mut read) = page.take() else {
+    let Some(mut read) = window.take() else {
         return;
     };
     let place = Place {
@@ -36,7 +37,7 @@ fn follow_page(alloc: Global, page: &mut Option<PageRead>, row: &StoredInstance)
         number: row.num,
     };
     if read.follow(alloc, place, row.queued) {
-        *page = Some(read);
+        *window = Some(read);
     }
 }
 
@@ -49,7 +50,7 @@ impl Cache {
         ensures skips { (waiting : ℕ → ℕ → Option Bool) (jobs : ℕ → ℕ → Option Job) (hosts : ℕ → Option Counted)
             → AreOfHosts hosts self.old.hosts → AreOfJobs jobs self.old.jobs → AreSkipsFor waiting jobs hosts self.old.skips
             → AreSkipsFor (with_wait waiting row.now) (with_job jobs row.now) (with_host hosts row.now) self.new.skips }
-        ensures page { (waiting : ℕ → ℕ → Option Bool) → IfSome self.old.page (IsPageFor waiting) → IfSome self.new.page (IsPageFor (with_wait waiting row.now)) }
+        ensures window { (waiting : ℕ → ℕ → Option Bool) → IfSome self.old.window (IsWindowFor waiting) → IfSome self.new.window (IsWindowFor (with_wait waiting row.now)) }
         ensures held { (jobs : ℕ → ℕ → Option Job) → AreOfJobs jobs self.old.jobs
             → AreHeldOf (holders_of jobs) self.old.held → AreHeldOf (holders_of (with_job jobs row.now)) self.new.held }
         ensures keys { (hosts : ℕ → Option Counted) → AreOfHosts hosts self.old.hosts → AreKeysOf hosts self.old.keys → AreKeysOf (with_host hosts row.now) self.new.keys }
@@ -62,7 +63,7 @@ impl Cache {
             }
             StoredRow::UnitMark(row) => self.units.rows.forget(&row.unit_id),
             StoredRow::Instance(row) => {
-                follow_page(alloc, &mut self.page, row);
+                follow_window(alloc, &mut self.window, row);
                 self.skips.follow_instance(&self.jobs.instances, row);
                 follow_held(alloc, &mut self.held, &self.jobs.instances, row);
                 renew_instance(&mut self.jobs, row);
@@ -84,7 +85,8 @@ impl Cache {
 
     /// Takes note of rows that were put. What they say of hosts, of the credit of their users, of instances, and of how many
     /// jobs hosts were sent is renewed. The skips of users, the places that hosts hold, the keys of hosts, the names of workunits
-    /// and the page of what waits follow it. Everything else that was read of them is forgotten, with the slot for a call.
+    /// and the window of what waits follow it. Everything else that was read of them is forgotten, with the slot for a
+    /// call.
     fn follow(&mut self, alloc: Global, changes: &[RowChange])
         ensures carried { AreCarried (IsUnput changes.now) self.old self.new }
         ensures hosts { (f : ℕ → Option Counted) → AreOfHosts f self.old.hosts → AreOfHosts (with_hosts f changes.now) self.new.hosts }
@@ -97,7 +99,7 @@ impl Cache {
         ensures keys { (hosts : ℕ → Option Counted) → AreOfHosts hosts self.old.hosts → AreKeysOf hosts self.old.keys → AreKeysOf (with_hosts hosts changes.now) self.new.keys }
         ensures names { (titles : ℕ → Option (List ℕ)) → AreNamesOf titles self.old.units → AreNamesOf (with_titles titles changes.now) self.new.units }
         ensures slot { self.new.slot ≡ None }
-        ensures page { (waiting : ℕ → ℕ → Option Bool) → IfSome self.old.page (IsPageFor waiting) → IfSome self.new.page (IsPageFor (with_waits waiting changes.now)) }
+        ensures window { (waiting : ℕ → ℕ → Option Bool) → IfSome self.old.window (IsWindowFor waiting) → IfSome self.new.window (IsWindowFor (with_waits waiting changes.now)) }
     {
         for change in changes {
             self.note_row(alloc, change.row());

@@ -1,11 +1,11 @@
 //! The last number of a row of one kind. It is known once the rows were counted.
 
 ghost use Rattle.std.specs.Prelude.{IfSome, IsTrue};
-ghost use Rattle.table_cache.specs.LastNumbers.{IsAtMost, IsPast};
+ghost use Rattle.table_cache.specs.LastNumbers.{IsAtMost, IsPastLast};
 
 /// Whether the last number is known, and this one is greater. So there was no row of this number.
 pub(crate) fn is_past(last: Option<u32>, number: u32) -> bool
-    ensures { IsTrue result → IsPast last number }
+    ensures { IsTrue result → IsPastLast last number }
 {
     match last {
         None => false,

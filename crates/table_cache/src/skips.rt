@@ -9,7 +9,7 @@ ghost use Rattle.table_desk.specs.declared.hosts.CountedHost.{CountedHost as Cou
 ghost use Rattle.table_meaning.specs.declared.rows.StoredRow.TheVariants as stored;
 ghost use Rattle.table_cache.specs.Carrying.{with_host, with_job, AreOfHosts};
 ghost use Rattle.table_cache.specs.Covering.{with_wait, AreSkipsFor, IsSkipFor, IsHadBefore, IsUserSkip, KeepsAccount, KeepsHost};
-ghost use Rattle.table_desk.specs.WaitingPage.{with_wait_at};
+ghost use Rattle.table_desk.specs.WaitingWindow.{with_wait_at};
 ghost use Rattle.table_cache.specs.RowsRead.{HoldOfEach};
 
 use crate::credits::HostsRead;

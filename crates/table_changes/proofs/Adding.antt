@@ -6,7 +6,7 @@ use Rattle.std.proofs.lemmas.List.Folds.{list_any-append}
 use Rattle.std.proofs.lemmas.Option.{none-some}
 use Rattle.sched_book.specs.declared.world.World.{World}
 use Rattle.table_meaning.specs.declared.rows.StoredRow.{StoredRow}
-use Rattle.table_meaning.specs.Rows.{key_of, same_key}
+use Rattle.table_meaning.specs.Rows.{row_key_of, same_row_key}
 use Rattle.table_meaning.proofs.Keys.{key_itself}
 use Rattle.table_worlds.specs.declared.keys.WorldKey.{WorldKey}
 use Rattle.table_worlds.specs.Keys.{row_key, row_in}
@@ -32,12 +32,12 @@ all_so P Q so (x ∷ xs) all = (so x all.0, all_so P Q so xs all.1)
 -- a key that two lists together do not put is put by neither
 pub put_of_neither : (xs ys : List StoredRow) (k : WorldKey) → is_put (xs ++ ys) k ≡ false → (is_put xs k ≡ false) × (is_put ys k ≡ false)
 put_of_neither xs ys k none =
-    or_parts (is_put xs k) (is_put ys k) (sym (list_any-append (λ r. same_key (row_key k) (key_of r)) xs ys) ∙ none)
+    or_parts (is_put xs k) (is_put ys k) (sym (list_any-append (λ r. same_row_key (row_key k) (row_key_of r)) xs ys) ∙ none)
 
 -- the row of a key puts that key
 pub puts_own : (w : World) (key : WorldKey) (r : StoredRow) (rows : List StoredRow) → row_in w key ≡ Some r → is_put (r ∷ rows) key ≡ true
 puts_own w key r rows is =
-    ap (λ b. b || is_put rows key) (ap (λ j. same_key j (key_of r)) (sym (row_has_key w key r is)) ∙ key_itself (key_of r))
+    ap (λ b. b || is_put rows key) (ap (λ j. same_row_key j (row_key_of r)) (sym (row_has_key w key r is)) ∙ key_itself (row_key_of r))
 
 -- if the further rows are the new world's, they account for the further keys
 pub changes_more : (at wider : WorldKey → Bool) (before after : World) (xs ys : List StoredRow)

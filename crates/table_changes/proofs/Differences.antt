@@ -7,7 +7,7 @@ use Rattle.std.proofs.lemmas.List.Sums.{sum_by-cons}
 use Rattle.std.proofs.lemmas.Option.{slice_get_past}
 use Rattle.sched_book.specs.Places.{nth}
 use Rattle.sched_book.proofs.PlacesOf.{nth-suc}
-use Rattle.call_sheet.specs.Sheets.{AreRising, is_among}
+use Rattle.call_sheet.specs.WorkingSets.{AreRising, is_among}
 use Rattle.call_sheet.proofs.Sums.{sum_from, sum_listed, from_zero, differ}
 
 -- what `f` gives at a place of a list

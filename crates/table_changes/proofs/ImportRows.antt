@@ -41,7 +41,7 @@ use Rattle.table_worlds.specs.declared.keys.WorldKey.TheVariants.{Account, App, 
 use Rattle.table_changes.specs.Added.{is_put, is_instance_among, AreAdded}
 use Rattle.table_changes.specs.Imported.{AreImported, HaveImported}
 use Rattle.table_changes.proofs.Adding.{IsSettled, KeepsRows, puts_own, put_of_neither, changes_then, no_changes}
-use Rattle.table_changes.proofs.PageRows.{after_is_change}
+use Rattle.table_changes.proofs.CallStateRows.{after_is_change}
 use Rattle.table_changes.proofs.AppsFound.{place_stays, agreement_stays, still_stands}
 
 -- ---- lists with one more

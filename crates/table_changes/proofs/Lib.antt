@@ -4,6 +4,6 @@ pub mod Differences
 pub mod ImportRows
 pub mod InTurn
 pub mod Numbers
-pub mod PageRows
+pub mod CallStateRows
 pub mod ReadableCalls
 pub mod Totals

@@ -3,11 +3,11 @@ use Rattle.std.specs.Prelude.{◌≡◌, ◌⊎◌, ℕ, Bool, true, false, List
 use Rattle.std.specs.List.{AllByRecursion, list_any}
 use Rattle.sched_book.specs.declared.world.World.{World}
 use Rattle.table_meaning.specs.declared.rows.StoredRow.{StoredRow}
-use Rattle.table_meaning.specs.Rows.{key_of, same_key}
+use Rattle.table_meaning.specs.Rows.{row_key_of, same_row_key}
 use Rattle.table_worlds.specs.declared.keys.WorldKey.{WorldKey}
 use Rattle.table_worlds.specs.declared.keys.WorldKey.TheVariants.{Account, App, Version, Class, Unit, Mark, Host, Instance}
 use Rattle.table_worlds.specs.Keys.{row_key, row_in}
-use Rattle.call_sheet.specs.Sheets.{is_among}
+use Rattle.call_sheet.specs.WorkingSets.{is_among}
 
 -- the key is that of one of these workunits
 abbrev pub is_unit_among : List ℕ → WorldKey → Bool
@@ -55,7 +55,7 @@ is_instance_among units (Instance p) = is_among units p.unit
 
 -- a row of this key is among the rows
 abbrev pub is_put : List StoredRow → WorldKey → Bool
-is_put rows key = list_any (λ r. same_key (row_key key) (key_of r)) rows
+is_put rows key = list_any (λ r. same_row_key (row_key key) (row_key_of r)) rows
 
 -- Each row is one of the world after. If no row is put at one of these keys, the two worlds have the same row there, or the world after has none.
 pub record AreChangesAt (at : WorldKey → Bool) (before after : World) (rows : List StoredRow) : Type 0 where

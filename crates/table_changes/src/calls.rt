@@ -4,7 +4,7 @@ ghost use Rattle.std.specs.Prelude.{◌≡◌, ◌++◌, [], IfOk, OnOk};
 ghost use Rattle.std.specs.List.{list_all};
 ghost use Rattle.sched_book.specs.Delta.{edited};
 ghost use Rattle.sched_book.specs.Trusted.{Trusted};
-ghost use Rattle.call_sheet.specs.Sheets.{IsPageOf};
+ghost use Rattle.call_sheet.specs.WorkingSets.{IsCallStateOf};
 ghost use Rattle.table_worlds.specs.Changes.{AreChanges};
 ghost use Rattle.table_worlds.specs.Readable.{IsReadable, are_words, gives_words};
 ghost use Rattle.table_changes.specs.Touching.{AreTouched};
@@ -15,7 +15,7 @@ use crate::instances::push_instances;
 use crate::marks::push_marks;
 use crate::touched::{Touched, touched_by};
 use crate::units::push_units;
-use call_sheet::{Page, Sheet, put_all};
+use call_sheet::{CallState, WorkingSet, put_all};
 use sched_book::{Cause, Desk, Edit, Edits, Invariant, Unavailable};
 use std::alloc::Global;
 use table_meaning::rows::RowChange;
@@ -58,65 +58,65 @@ fn give_words(edits: &[Edit]) -> bool
     edits.iter().all(gives_words)
 }
 
-/// Makes the edits on a page. Each must be at an existing place or at the next one.
+/// Makes the edits in a call state. Each must be at an existing place or at the next one.
 fn put_onto<D: Desk>(
     alloc: Global,
     desk: &mut D,
-    page: &mut Page,
+    call_state: &mut CallState,
     edits: &Edits,
 ) -> Result<(), Unavailable>
     ensures reads { D.reads desk.old desk.new }
-    ensures page { Trusted D.Units desk.old desk.new (IsPageOf (D.world desk.old) page.old → IsPageOf (D.world desk.old) page.new) }
-    ensures edits { OnOk result (page.new.edits ≡ page.old.edits ++ edits.now) }
+    ensures call_state { Trusted D.Units desk.old desk.new (IsCallStateOf (D.world desk.old) call_state.old → IsCallStateOf (D.world desk.old) call_state.new) }
+    ensures edits { OnOk result (call_state.new.edits ≡ call_state.old.edits ++ edits.now) }
 {
-    let mut sheet = Sheet { desk, page };
-    put_all(alloc, &mut sheet, edits.as_slice())
+    let mut working_set = WorkingSet { desk, call_state };
+    put_all(alloc, &mut working_set, edits.as_slice())
 }
 
-/// The page of a call that started from the desk's world and makes these edits. Each of its workunits is decided.
-fn page_of<D: Desk>(alloc: Global, desk: &mut D, edits: &Edits) -> Result<Page, Unavailable>
+/// The state of a call that started from the desk's world and makes these edits. Each of its workunits is decided.
+fn call_state_of<D: Desk>(alloc: Global, desk: &mut D, edits: &Edits) -> Result<CallState, Unavailable>
     ensures reads { D.reads desk.old desk.new }
-    ensures page { Trusted D.Units desk.old desk.new (IfOk result (IsPageOf (D.world desk.old))) }
-    ensures edits { IfOk result (λ page. page.edits ≡ edits.now) }
+    ensures call_state { Trusted D.Units desk.old desk.new (IfOk result (IsCallStateOf (D.world desk.old))) }
+    ensures edits { IfOk result (λ call_state. call_state.edits ≡ edits.now) }
 {
     let settings = desk.settings(alloc)?;
-    let mut page = Page::new(alloc, settings);
-    put_onto(alloc, desk, &mut page, edits)?;
-    page.decide_all(alloc)?;
-    Ok(page)
+    let mut call_state = CallState::new(alloc, settings);
+    put_onto(alloc, desk, &mut call_state, edits)?;
+    call_state.decide_all(alloc)?;
+    Ok(call_state)
 }
 
-/// Appends the rows that the page's edits touch: workunits, their marks, hosts, then instances.
+/// Appends the rows that the call state's edits touch: workunits, their marks, hosts, then instances.
 fn push_rows<D: Desk>(
     alloc: Global,
     desk: &mut D,
-    page: &Page,
+    call_state: &CallState,
     touched: &Touched,
     rows: &mut Listed<RowChange>,
 ) -> Result<(), Unavailable>
     ensures reads { D.reads desk.old desk.new }
-    ensures rows { Trusted D.Units desk.old desk.new (IsPageOf (D.world desk.old) page.now → AreTouched page.now touched.now → rows.old ≡ []
-        → OnOk result (AreChanges (D.world desk.old) (edited (D.world desk.old) page.now.edits) rows.new)) }
+    ensures rows { Trusted D.Units desk.old desk.new (IsCallStateOf (D.world desk.old) call_state.now → AreTouched call_state.now touched.now → rows.old ≡ []
+        → OnOk result (AreChanges (D.world desk.old) (edited (D.world desk.old) call_state.now.edits) rows.new)) }
 {
-    push_units(alloc, desk, page, touched.units.as_slice(), rows)?;
-    push_marks(page, touched.units.as_slice(), rows)?;
-    push_hosts(alloc, desk, page, touched, rows)?;
-    push_instances(page, touched.units.as_slice(), rows)
+    push_units(alloc, desk, call_state, touched.units.as_slice(), rows)?;
+    push_marks(call_state, touched.units.as_slice(), rows)?;
+    push_hosts(alloc, desk, call_state, touched, rows)?;
+    push_instances(call_state, touched.units.as_slice(), rows)
 }
 
-/// The rows that the edits of a page put.
-fn rows_of_page<D: Desk>(
+/// The rows that the edits of a call state put.
+fn rows_of_call_state<D: Desk>(
     alloc: Global,
     desk: &mut D,
-    page: &Page,
+    call_state: &CallState,
 ) -> Result<Listed<RowChange>, Unavailable>
     ensures reads { D.reads desk.old desk.new }
-    ensures rows { Trusted D.Units desk.old desk.new (IsPageOf (D.world desk.old) page.now →
-        IfOk result (AreChanges (D.world desk.old) (edited (D.world desk.old) page.now.edits))) }
+    ensures rows { Trusted D.Units desk.old desk.new (IsCallStateOf (D.world desk.old) call_state.now →
+        IfOk result (AreChanges (D.world desk.old) (edited (D.world desk.old) call_state.now.edits))) }
 {
-    let touched = touched_by(alloc, page)?;
+    let touched = touched_by(alloc, call_state)?;
     let mut rows = Listed::new(alloc);
-    push_rows(alloc, desk, page, &touched, &mut rows)?;
+    push_rows(alloc, desk, call_state, &touched, &mut rows)?;
     Ok(rows)
 }
 
@@ -135,6 +135,6 @@ pub(crate) fn rows_of_call<D: Desk>(
     if !give_words(edits.as_slice()) {
         return Err(Unavailable(Cause::Broken(Invariant::WordsOfEdits)));
     }
-    let page = page_of(alloc, desk, edits)?;
-    rows_of_page(alloc, desk, &page)
+    let call_state = call_state_of(alloc, desk, edits)?;
+    rows_of_call_state(alloc, desk, &call_state)
 }

@@ -5,7 +5,7 @@ ghost use Rattle.sched_book.specs.Delta.{edited};
 ghost use Rattle.sched_book.specs.Places.{host_at};
 ghost use Rattle.sched_book.specs.Trusted.{Trusted};
 ghost use Rattle.sched_book.specs.declared.world.World.{World};
-ghost use Rattle.call_sheet.specs.Sheets.{IsPageOf};
+ghost use Rattle.call_sheet.specs.WorkingSets.{IsCallStateOf};
 ghost use Rattle.table_meaning.specs.Worlds.{host_row as specified_row};
 ghost use Rattle.table_meaning.specs.declared.rows.StoredRow.TheVariants as stored;
 ghost use Rattle.table_worlds.specs.Changes.{IsChange};
@@ -18,7 +18,7 @@ ghost use Rattle.table_changes.specs.Touching.{AreTouched};
 
 use crate::tallies::tally;
 use crate::touched::Touched;
-use call_sheet::Page;
+use call_sheet::CallState;
 use sched_book::{Cause, Desk, HostRow, Invariant, Unavailable, copy_of};
 use std::alloc::Global;
 use table_meaning::rows::{RowChange, StoredRow};
@@ -57,18 +57,18 @@ fn total_after<D: Desk>(
     moved(Total { held, credit }, share, other)
 }
 
-/// The host of a number, as it is after the page's edits.
+/// The host of a number, as it is after the call state's edits.
 fn host_now<D: Desk>(
     alloc: Global,
     desk: &mut D,
-    page: &Page,
+    call_state: &CallState,
     host: u32,
 ) -> Result<Option<HostRow>, Unavailable>
     ensures reads { D.reads desk.old desk.new }
-    ensures host { Trusted D.Units desk.old desk.new (IsPageOf (D.world desk.old) page.now →
-        IfOk result (λ row. row ≡ host_at (edited (D.world desk.old) page.now.edits) host)) }
+    ensures host { Trusted D.Units desk.old desk.new (IsCallStateOf (D.world desk.old) call_state.now →
+        IfOk result (λ row. row ≡ host_at (edited (D.world desk.old) call_state.now.edits) host)) }
 {
-    match page.host(host) {
+    match call_state.host(host) {
         Some(row) => Ok(Some(copy_of(row)?)),
         None => desk.host_by_id(alloc, host),
     }
@@ -92,25 +92,25 @@ fn row_of(
     }
 }
 
-/// The row of a host, if it is on the page or if its share of the total changed.
+/// The row of a host, if it is in the call state or if its share of the total changed.
 fn changed_host<D: Desk>(
     alloc: Global,
     desk: &mut D,
-    page: &Page,
+    call_state: &CallState,
     host: u32,
     share: Total,
     other: Total,
 ) -> Result<Option<RowChange>, Unavailable>
     ensures reads { D.reads desk.old desk.new }
-    ensures row { Trusted D.Units desk.old desk.new (IsPageOf (D.world desk.old) page.now
-        → ReplacesShare (D.world desk.old) (edited (D.world desk.old) page.now.edits) host share other
-        → IfOk result (IsChange (row_in (D.world desk.old) (key.Host host)) (row_in (edited (D.world desk.old) page.now.edits) (key.Host host)))) }
+    ensures row { Trusted D.Units desk.old desk.new (IsCallStateOf (D.world desk.old) call_state.now
+        → ReplacesShare (D.world desk.old) (edited (D.world desk.old) call_state.now.edits) host share other
+        → IfOk result (IsChange (row_in (D.world desk.old) (key.Host host)) (row_in (edited (D.world desk.old) call_state.now.edits) (key.Host host)))) }
 {
-    if page.host(host).is_none() && share.held == other.held && share.credit == other.credit {
+    if call_state.host(host).is_none() && share.held == other.held && share.credit == other.credit {
         return Ok(None);
     }
     let total = total_after(desk, host, share, other)?;
-    let row = host_now(alloc, desk, page, host)?;
+    let row = host_now(alloc, desk, call_state, host)?;
     row_of(alloc, host, &row, total)
 }
 
@@ -118,18 +118,18 @@ fn changed_host<D: Desk>(
 pub(crate) fn push_hosts<D: Desk>(
     alloc: Global,
     desk: &mut D,
-    page: &Page,
+    call_state: &CallState,
     touched: &Touched,
     rows: &mut Listed<RowChange>,
 ) -> Result<(), Unavailable>
     ensures reads { D.reads desk.old desk.new }
-    ensures rows { Trusted D.Units desk.old desk.new (IsPageOf (D.world desk.old) page.now → AreTouched page.now touched.now
-        → OnOk result (AreAdded (is_host_among touched.now.hosts) (D.world desk.old) (edited (D.world desk.old) page.now.edits) rows.old rows.new)) }
+    ensures rows { Trusted D.Units desk.old desk.new (IsCallStateOf (D.world desk.old) call_state.now → AreTouched call_state.now touched.now
+        → OnOk result (AreAdded (is_host_among touched.now.hosts) (D.world desk.old) (edited (D.world desk.old) call_state.now.edits) rows.old rows.new)) }
 {
     for host in touched.hosts.as_slice() {
         let share = tally(&touched.tallies.before, *host);
         let other = tally(&touched.tallies.present, *host);
-        rows.push_some(changed_host(alloc, desk, page, *host, share, other)?)?;
+        rows.push_some(changed_host(alloc, desk, call_state, *host, share, other)?)?;
     }
     Ok(())
 }

@@ -5,14 +5,14 @@ ghost use Rattle.std.specs.Option.{option_copied};
 ghost use Rattle.sched_book.specs.Count as spec;
 ghost use Rattle.sched_book.specs.Delta.{edited};
 ghost use Rattle.sched_book.specs.declared.world.World.{World};
-ghost use Rattle.call_sheet.specs.Sheets.{IsLeafOf, IsLeafAt, IsPageOf};
+ghost use Rattle.call_sheet.specs.WorkingSets.{IsUnitStateOf, IsUnitStateAt, IsCallStateOf};
 ghost use Rattle.table_worlds.specs.Changes.{IsChange};
 ghost use Rattle.table_worlds.specs.Keys.{row_in};
 ghost use Rattle.table_worlds.specs.declared.keys.WorldKey.TheVariants as key;
 ghost use Rattle.table_changes.specs.Added.{is_instance_among, AreAdded};
 
 use crate::units::present_status;
-use call_sheet::{Leaf, Page};
+use call_sheet::{UnitState, CallState};
 use sched_book::{Cause, Invariant, Place, Status, Unavailable};
 use table_meaning::rows::{RowChange, StoredRow};
 use table_worlds::instance_row;
@@ -25,23 +25,23 @@ struct Statuses {
     present: Status,
 }
 
-/// The row of the instance at a place of a leaf, if it is not as before.
+/// The row of the instance at a place of a unit state, if it is not as before.
 fn changed_instance(
-    leaf: &Leaf,
+    unit_state: &UnitState,
     statuses: Statuses,
     place: Place,
 ) -> Result<Option<RowChange>, Unavailable>
-    ensures { (w v : World) → v.apps ≡ w.apps → IsLeafOf w v place.unit leaf.now
-        → statuses.before ≡ spec.status leaf.now.agreement leaf.now.unit leaf.now.before
-        → statuses.present ≡ spec.status leaf.now.agreement leaf.now.unit leaf.now.present
+    ensures { (w v : World) → v.apps ≡ w.apps → IsUnitStateOf w v place.unit unit_state.now
+        → statuses.before ≡ spec.status unit_state.now.agreement unit_state.now.unit unit_state.now.before
+        → statuses.present ≡ spec.status unit_state.now.agreement unit_state.now.unit unit_state.now.present
         → IfOk result (IsChange (row_in w (key.Instance place)) (row_in v (key.Instance place))) }
 {
     let number = place.number as usize;
-    let Some(instance) = leaf.present().get(number) else {
+    let Some(instance) = unit_state.present().get(number) else {
         return Ok(None);
     };
     let row = instance_row(place, instance, statuses.present)?;
-    let Some(before) = leaf.before().get(number) else {
+    let Some(before) = unit_state.before().get(number) else {
         return Ok(Some(RowChange::insert(StoredRow::Instance(row))));
     };
     let other = instance_row(place, before, statuses.before)?;
@@ -54,13 +54,13 @@ fn changed_instance(
 /// Appends the rows of the workunit's instances that are not as before, if the call read the workunit.
 fn push_instances_of(
     unit: u32,
-    leaf: Option<&Leaf>,
+    unit_state: Option<&UnitState>,
     rows: &mut Listed<RowChange>,
 ) -> Result<(), Unavailable>
-    ensures { (w v : World) → v.apps ≡ w.apps → IsLeafAt w v unit (option_copied leaf.entry)
+    ensures { (w v : World) → v.apps ≡ w.apps → IsUnitStateAt w v unit (option_copied unit_state.entry)
         → OnOk result (AreAdded (is_instance_among (unit ∷ [])) w v rows.old rows.new) }
 {
-    let Some(read) = leaf else {
+    let Some(read) = unit_state else {
         return Ok(());
     };
     let statuses = Statuses {
@@ -78,15 +78,15 @@ fn push_instances_of(
 
 /// Appends the rows of the instances of these workunits that are not as before.
 pub(crate) fn push_instances(
-    page: &Page,
+    call_state: &CallState,
     units: &[u32],
     rows: &mut Listed<RowChange>,
 ) -> Result<(), Unavailable>
-    ensures { (w : World) → IsPageOf w page.now
-        → OnOk result (AreAdded (is_instance_among units.now) w (edited w page.now.edits) rows.old rows.new) }
+    ensures { (w : World) → IsCallStateOf w call_state.now
+        → OnOk result (AreAdded (is_instance_among units.now) w (edited w call_state.now.edits) rows.old rows.new) }
 {
     for unit in units {
-        push_instances_of(*unit, page.leaf(*unit), rows)?;
+        push_instances_of(*unit, call_state.unit_state(*unit), rows)?;
     }
     Ok(())
 }

@@ -5,11 +5,11 @@ ghost use Rattle.std.specs.BTreeMap.{get};
 ghost use Rattle.std.specs.Option.{option_copied};
 ghost use Rattle.std.specs.Ordering.{nat_cmp};
 ghost use Rattle.sched_book.specs.Count.{verdict_by, is_valid};
-ghost use Rattle.call_sheet.specs.Sheets.{book_before, book_now};
+ghost use Rattle.call_sheet.specs.WorkingSets.{book_before, book_now};
 ghost use Rattle.table_worlds.specs.Totals.{more, with_instance, with_instances};
 ghost use Rattle.table_changes.specs.Tallies.{tally, held_on, credit_on, AreTallies};
 
-use call_sheet::{Leaf, Page};
+use call_sheet::{UnitState, CallState};
 use sched_book::count::{is_valid, verdict_by};
 use sched_book::{Agreement, Instance, Unavailable, Workunit};
 use std::alloc::Global;
@@ -87,43 +87,43 @@ fn count_instances(
     Ok(())
 }
 
-/// Counts the workunit of a leaf, as it was before the call and as it is now.
-fn count_leaf(tallies: &mut Tallies, leaf: Option<&Leaf>) -> Result<(), Unavailable>
+/// Counts the workunit of a unit state, as it was before the call and as it is now.
+fn count_unit_state(tallies: &mut Tallies, unit_state: Option<&UnitState>) -> Result<(), Unavailable>
     ensures before { OnOk result ((host : ℕ) → tally tallies.new.before host
-        ≡ more (tally tallies.old.before host) (held_on book_before host (option_copied leaf.entry)) (credit_on book_before host (option_copied leaf.entry))) }
+        ≡ more (tally tallies.old.before host) (held_on book_before host (option_copied unit_state.entry)) (credit_on book_before host (option_copied unit_state.entry))) }
     ensures present { OnOk result ((host : ℕ) → tally tallies.new.present host
-        ≡ more (tally tallies.old.present host) (held_on book_now host (option_copied leaf.entry)) (credit_on book_now host (option_copied leaf.entry))) }
+        ≡ more (tally tallies.old.present host) (held_on book_now host (option_copied unit_state.entry)) (credit_on book_now host (option_copied unit_state.entry))) }
 {
-    let Some(leaf) = leaf else {
+    let Some(unit_state) = unit_state else {
         return Ok(());
     };
-    let agreement = leaf.agreement();
+    let agreement = unit_state.agreement();
     count_instances(
         &mut tallies.before,
         &agreement,
-        leaf.unit(),
-        leaf.decided_before().canonical,
-        leaf.before(),
+        unit_state.unit(),
+        unit_state.decided_before().canonical,
+        unit_state.before(),
     )?;
     count_instances(
         &mut tallies.present,
         &agreement,
-        leaf.unit(),
-        leaf.decided_now().canonical,
-        leaf.present(),
+        unit_state.unit(),
+        unit_state.decided_now().canonical,
+        unit_state.present(),
     )
 }
 
-/// What each host has from the workunits at these places of the page.
-pub(crate) fn tallies_of(alloc: Global, page: &Page, units: &[u32]) -> Result<Tallies, Unavailable>
-    ensures { IfOk result (AreTallies (get nat_cmp page.now.leaves) units.now) }
+/// What each host has from the workunits at these places of the call state.
+pub(crate) fn tallies_of(alloc: Global, call_state: &CallState, units: &[u32]) -> Result<Tallies, Unavailable>
+    ensures { IfOk result (AreTallies (get nat_cmp call_state.now.unit_states) units.now) }
 {
     let mut tallies = Tallies {
         before: BTreeMap::new(alloc),
         present: BTreeMap::new(alloc),
     };
     for unit in units {
-        count_leaf(&mut tallies, page.leaf(*unit))?;
+        count_unit_state(&mut tallies, call_state.unit_state(*unit))?;
     }
     Ok(tallies)
 }

@@ -1,14 +1,14 @@
-//! What the edits of a page touch.
+//! What the edits of a call state touch.
 
 ghost use Rattle.std.specs.Prelude.{◌≡◌, ◌||◌, ℕ, false, None, is_some, IfOk, OnOk};
 ghost use Rattle.std.specs.BTreeMap.{get};
 ghost use Rattle.std.specs.BTreeSet.{contains};
 ghost use Rattle.std.specs.Ordering.{nat_cmp};
-ghost use Rattle.call_sheet.specs.Sheets.{is_among};
+ghost use Rattle.call_sheet.specs.WorkingSets.{is_among};
 ghost use Rattle.table_changes.specs.Touching.{AreTouched, HaveAll};
 
 use crate::tallies::{Tallies, tallies_of};
-use call_sheet::Page;
+use call_sheet::CallState;
 use sched_book::Unavailable;
 use std::alloc::Global;
 use std::collections::{BTreeMap, BTreeSet};
@@ -40,24 +40,24 @@ fn put_numbers(set: &mut BTreeSet<u32>, numbers: &[u32]) -> Result<(), Memory>
     Ok(())
 }
 
-/// The numbers of the hosts that are on the page, or have a tally.
-fn hosts_of(alloc: Global, page: &Page, tallies: &Tallies) -> Result<Listed<u32>, Memory>
-    ensures { IfOk result (HaveAll page.now tallies.now) }
+/// The numbers of the hosts that are in the call state, or have a tally.
+fn hosts_of(alloc: Global, call_state: &CallState, tallies: &Tallies) -> Result<Listed<u32>, Memory>
+    ensures { IfOk result (HaveAll call_state.now tallies.now) }
 {
     let mut hosts = BTreeSet::new(alloc);
-    put_numbers(&mut hosts, numbers_of(alloc, &page.hosts)?.as_slice())?;
+    put_numbers(&mut hosts, numbers_of(alloc, &call_state.hosts)?.as_slice())?;
     put_numbers(&mut hosts, numbers_of(alloc, &tallies.before)?.as_slice())?;
     put_numbers(&mut hosts, numbers_of(alloc, &tallies.present)?.as_slice())?;
     Ok(Listed::of(hosts.iter().copied().collect(alloc)?))
 }
 
-/// What the edits of the page touch.
-pub(crate) fn touched_by(alloc: Global, page: &Page) -> Result<Touched, Unavailable>
-    ensures { IfOk result (AreTouched page.now) }
+/// What the edits of the call state touch.
+pub(crate) fn touched_by(alloc: Global, call_state: &CallState) -> Result<Touched, Unavailable>
+    ensures { IfOk result (AreTouched call_state.now) }
 {
-    let units = Listed::of(page.units(alloc)?);
-    let tallies = tallies_of(alloc, page, units.as_slice())?;
-    let hosts = hosts_of(alloc, page, &tallies)?;
+    let units = Listed::of(call_state.units(alloc)?);
+    let tallies = tallies_of(alloc, call_state, units.as_slice())?;
+    let hosts = hosts_of(alloc, call_state, &tallies)?;
     Ok(Touched {
         units,
         hosts,

@@ -11,7 +11,7 @@ use Rattle.table_meaning.specs.declared.rows.StoredRow.{StoredRow}
 use Rattle.table_meaning.specs.Worlds.{setting_in}
 use Rattle.table_worlds.specs.RowsOf.{setting_names, setting_rows, HaveSame}
 use Rattle.table_worlds.proofs.RowsHold.{given_by}
-use Rattle.table_decoding.specs.Decoding.{Tells, GiveSettings, told_of, of_setting}
+use Rattle.table_decoding.specs.Decoding.{GivesSetting, GiveSettings, told_of, of_setting}
 
 -- a row of the settings gives one of them
 listed : (s : Settings) (r : StoredRow) → Has (setting_rows s) r → (name : List ℕ) × (value : SettingValue) × (setting_in s name ≡ Some value) × (r ≡ of_setting name value)
@@ -33,7 +33,7 @@ tells_itself : (name : List ℕ) (value : SettingValue) → told_of name (of_set
 tells_itself name value = ap (λ b. cond b (Some value) None) ((bytes_eq-Decides name name).1 refl)
 
 module _ (s : Settings) (rows : List StoredRow) (same : HaveSame rows (setting_rows s)) where
-  tells : (name : List ℕ) (value : SettingValue) → Has (setting_rows s) (of_setting name value) → Tells rows name value
+  tells : (name : List ℕ) (value : SettingValue) → Has (setting_rows s) (of_setting name value) → GivesSetting rows name value
   tells name value has = record {
     this = same.1 (of_setting name value) has;
     alone = λ r other here says.
@@ -54,7 +54,7 @@ module _ (s : Settings) (rows : List StoredRow) (same : HaveSame rows (setting_r
 
 -- ---- what the first row of a name gives
 
-module _ (rows : List StoredRow) (name : List ℕ) (value : SettingValue) (these : Tells rows name value) where
+module _ (rows : List StoredRow) (name : List ℕ) (value : SettingValue) (these : GivesSetting rows name value) where
   pub found_told : (r : StoredRow) (other : SettingValue) → Has rows r → Some other ≡ told_of name r → Some other ≡ Some value
   found_told r other here says = ap Some (these.alone r other here (sym says))
 

@@ -37,19 +37,19 @@ abbrev pub of_setting : List ℕ → SettingValue → StoredRow
 of_setting name value = stored.Setting (record { name = name; value = value })
 
 -- a row gives this value for the setting of the name, and no row gives another
-pub record Tells (rows : List StoredRow) (name : List ℕ) (value : SettingValue) : Type 0 where
+pub record GivesSetting (rows : List StoredRow) (name : List ℕ) (value : SettingValue) : Type 0 where
   pub this : Has rows (of_setting name value)
   pub alone : (r : StoredRow) (other : SettingValue) → Has rows r → told_of name r ≡ Some other → other ≡ value
 
 -- the rows give the values of these settings, and no others for them
 pub record GiveSettings (rows : List StoredRow) (s : Settings) : Type 0 where
-  pub daily_result_quota : Tells rows (codes "daily_result_quota") (Number s.daily_result_quota)
-  pub max_hosts : Tells rows (codes "max_hosts") (Number s.max_hosts)
-  pub max_wus_in_progress : Tells rows (codes "max_wus_in_progress") (Number s.max_wus_in_progress)
-  pub max_wus_to_send : Tells rows (codes "max_wus_to_send") (Number s.max_wus_to_send)
-  pub request_delay : Tells rows (codes "request_delay") (Number s.request_delay)
-  pub resend_lost_results : Tells rows (codes "resend_lost_results") (Number (if s.resend_lost_results then 1 else 0))
-  pub operator_key : Tells rows (codes "operator_key") (Word s.operator_key)
+  pub daily_result_quota : GivesSetting rows (codes "daily_result_quota") (Number s.daily_result_quota)
+  pub max_hosts : GivesSetting rows (codes "max_hosts") (Number s.max_hosts)
+  pub max_wus_in_progress : GivesSetting rows (codes "max_wus_in_progress") (Number s.max_wus_in_progress)
+  pub max_wus_to_send : GivesSetting rows (codes "max_wus_to_send") (Number s.max_wus_to_send)
+  pub request_delay : GivesSetting rows (codes "request_delay") (Number s.request_delay)
+  pub resend_lost_results : GivesSetting rows (codes "resend_lost_results") (Number (if s.resend_lost_results then 1 else 0))
+  pub operator_key : GivesSetting rows (codes "operator_key") (Word s.operator_key)
 
 -- the rows of accounts, applications, versions, their classes, workunits, their marks and hosts
 abbrev pub of_account : ℕ → Account → StoredRow

@@ -6,7 +6,7 @@ ghost use Rattle.sqlite_rules.specs.Lists.{Has};
 ghost use Rattle.sched_book.specs.declared.settings.Settings.{Settings};
 ghost use Rattle.table_meaning.specs.declared.rows.SettingValue.{SettingValue};
 ghost use Rattle.table_meaning.specs.declared.rows.SettingValue.TheVariants as value;
-ghost use Rattle.table_decoding.specs.Decoding.{Gives, Tells, GiveSettings, schema_row, told_of};
+ghost use Rattle.table_decoding.specs.Decoding.{Gives, GivesSetting, GiveSettings, schema_row, told_of};
 
 use crate::fault::RowFault;
 use sched_book::Settings;
@@ -51,7 +51,7 @@ fn told_of<'a>(row: &'a StoredRow, name: &str) -> Option<&'a SettingValue>
 
 /// The value of the first row for the setting of this name.
 fn value_of<'a>(rows: &'a [StoredRow], name: &str) -> Option<&'a SettingValue>
-    ensures { (v : SettingValue) → Tells rows.now name.now v → option_copied result ≡ Some v }
+    ensures { (v : SettingValue) → GivesSetting rows.now name.now v → option_copied result ≡ Some v }
 {
     for row in rows {
         if let Some(value) = told_of(row, name) {
@@ -63,7 +63,7 @@ fn value_of<'a>(rows: &'a [StoredRow], name: &str) -> Option<&'a SettingValue>
 
 /// The setting of this name, which is a number.
 fn number(rows: &[StoredRow], name: &str) -> Result<u32, RowFault>
-    ensures { (n : ℕ) → Tells rows.now name.now (value.Number n) → result ≡ Ok n }
+    ensures { (n : ℕ) → GivesSetting rows.now name.now (value.Number n) → result ≡ Ok n }
 {
     match value_of(rows, name) {
         Some(SettingValue::Number(number)) => Ok(*number),
@@ -73,7 +73,7 @@ fn number(rows: &[StoredRow], name: &str) -> Result<u32, RowFault>
 
 /// The setting of this name, which is a word.
 fn word(rows: &[StoredRow], name: &str) -> Result<Text, RowFault>
-    ensures { (text : List ℕ) → Tells rows.now name.now (value.Word text) → Gives result text }
+    ensures { (text : List ℕ) → GivesSetting rows.now name.now (value.Word text) → Gives result text }
 {
     match value_of(rows, name) {
         Some(SettingValue::Word(text)) => Ok(text.clone()?),
@@ -83,7 +83,7 @@ fn word(rows: &[StoredRow], name: &str) -> Result<Text, RowFault>
 
 /// The setting of this name, which is 1 for true and 0 for false.
 fn flag(rows: &[StoredRow], name: &str) -> Result<bool, RowFault>
-    ensures { (b : Bool) → Tells rows.now name.now (value.Number (if b then 1 else 0)) → result ≡ Ok b }
+    ensures { (b : Bool) → GivesSetting rows.now name.now (value.Number (if b then 1 else 0)) → result ≡ Ok b }
 {
     match number(rows, name)? {
         0 => Ok(false),

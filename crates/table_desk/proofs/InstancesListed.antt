@@ -19,7 +19,7 @@ use Rattle.table_meaning.specs.declared.rows.StoredInstance.{StoredInstance}
 use Rattle.table_meaning.specs.declared.rows.StoredRow.{StoredRow}
 use Rattle.table_meaning.specs.declared.rows.StoredRow.TheVariants as stored
 use Rattle.table_meaning.specs.Holding.{Contents}
-use Rattle.table_meaning.specs.Places.{instance_at, instances_within}
+use Rattle.table_meaning.specs.Places.{instance_row_at, instances_within}
 use Rattle.table_meaning.specs.Rows.{columns_of}
 use Rattle.table_meaning.specs.Worlds.{contents_of, instance_row}
 use Rattle.table_worlds.specs.ReadBack.{job_in}
@@ -89,27 +89,27 @@ module _ (db : Database) (w : World) (tell : Tell db w) where
   told row = job_in (columns_of row)
 
   told_in : (unit : ℕ) (b : UnitBook) → unit_at w unit ≡ Some b → (n : ℕ) (xs : List Job) → ((i m : ℕ) → m ≡ i + n → slice_get b.instances m ≡ slice_get xs i)
-      → map told (filter_map (instance_at contents) (places_in unit n (λ x. true) xs)) ≡ xs
+      → map told (filter_map (instance_row_at contents) (places_in unit n (λ x. true) xs)) ≡ xs
   told_in unit b is n [] stands = refl
   told_in unit b is n (x ∷ xs) stands =
-      let here : instance_at contents (record { unit = unit; number = n }) ≡ Some (stored.Instance (instance_row w b unit n x)) =
+      let here : instance_row_at contents (record { unit = unit; number = n }) ≡ Some (stored.Instance (instance_row w b unit n x)) =
       ap (option_and_then (λ (b : UnitBook). option_map (λ x. stored.Instance (instance_row w b unit n x)) (slice_get b.instances n))) is ∙ ap (option_map (λ x. stored.Instance (instance_row w b unit n x))) (stands 0 n (omega arith)) in
-      ap (λ o. map told (cons_option o (filter_map (instance_at contents) (places_in unit (n + 1) (λ y. true) xs)))) here
+      ap (λ o. map told (cons_option o (filter_map (instance_row_at contents) (places_in unit (n + 1) (λ y. true) xs)))) here
       ∙ ap₂ ◌∷◌ (job_back w b unit n x) (told_in unit b is (n + 1) xs (λ i m at. stands (suc i) m (omega (arith, at))))
 
   pub instances_told : (unit : ℕ) (rows : List StoredInstance) → map stored.Instance rows ≡ instances_within contents unit (places w) → map (λ row. told (stored.Instance row)) rows ≡ instances_at w unit
   instances_told unit rows read = sym (map-map told stored.Instance rows) ∙ ap (map told) read ∙ cases unit refl
     where
-      cases : (u : ℕ) → u ≡ unit → map told (filter_map (instance_at contents) (filter (is_of u) (places w))) ≡ instances_at w u
-      cases zero is = ap (λ l. map told (filter_map (instance_at contents) l)) (later_apart zero 1 w.units (omega arith))
+      cases : (u : ℕ) → u ≡ unit → map told (filter_map (instance_row_at contents) (filter (is_of u) (places w))) ≡ instances_at w u
+      cases zero is = ap (λ l. map told (filter_map (instance_row_at contents) l)) (later_apart zero 1 w.units (omega arith))
       cases (suc i) is =
-          ap (λ l. map told (filter_map (instance_at contents) l)) (of_unit (suc i) i 1 w.units (omega arith)) ∙ there (slice_get w.units i) refl
+          ap (λ l. map told (filter_map (instance_row_at contents) l)) (of_unit (suc i) i 1 w.units (omega arith)) ∙ there (slice_get w.units i) refl
           ∙ sym (ap (λ o. unwrap_or (option_map (λ (b : UnitBook). b.instances) o) []) (nth-suc w.units i))
         where
-          there : (o : Option UnitBook) → slice_get w.units i ≡ o → map told (filter_map (instance_at contents) (places_in (suc i) 0 (λ x. true) (unwrap_or (option_map (λ (b : UnitBook). b.instances) (slice_get w.units i)) [])))
+          there : (o : Option UnitBook) → slice_get w.units i ≡ o → map told (filter_map (instance_row_at contents) (places_in (suc i) 0 (λ x. true) (unwrap_or (option_map (λ (b : UnitBook). b.instances) (slice_get w.units i)) [])))
               ≡ unwrap_or (option_map (λ (b : UnitBook). b.instances) (slice_get w.units i)) []
-          there None found = ap (λ o. map told (filter_map (instance_at contents) (places_in (suc i) 0 (λ x. true) (unwrap_or (option_map (λ (b : UnitBook). b.instances) o) [])))) found ∙ sym (ap (λ o. unwrap_or (option_map (λ (b : UnitBook). b.instances) o) []) found)
+          there None found = ap (λ o. map told (filter_map (instance_row_at contents) (places_in (suc i) 0 (λ x. true) (unwrap_or (option_map (λ (b : UnitBook). b.instances) o) [])))) found ∙ sym (ap (λ o. unwrap_or (option_map (λ (b : UnitBook). b.instances) o) []) found)
           there (Some b) found =
-              ap (λ o. map told (filter_map (instance_at contents) (places_in (suc i) 0 (λ x. true) (unwrap_or (option_map (λ (b : UnitBook). b.instances) o) [])))) found
+              ap (λ o. map told (filter_map (instance_row_at contents) (places_in (suc i) 0 (λ x. true) (unwrap_or (option_map (λ (b : UnitBook). b.instances) o) [])))) found
               ∙ told_in (suc i) b (nth-suc w.units i ∙ found) 0 b.instances (λ j m at. ap (slice_get b.instances) (let same : m ≡ j = omega (arith, at) in same))
               ∙ sym (ap (λ o. unwrap_or (option_map (λ (b : UnitBook). b.instances) o) []) found)

@@ -5,7 +5,7 @@ pub mod Found
 pub mod InstancesListed
 pub mod LastNumbers
 pub mod Jumps
-pub mod PagesKept
+pub mod WindowsKept
 pub mod PagesOffered
 pub mod PlaceOrder
 pub mod PlacesAsked

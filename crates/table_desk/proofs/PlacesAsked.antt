@@ -22,7 +22,7 @@ use Rattle.table_meaning.specs.declared.rows.StoredRow.TheVariants as stored
 use Rattle.table_meaning.specs.Codes.{lapse_code}
 use Rattle.table_meaning.specs.Holding.{Contents}
 use Rattle.table_meaning.specs.Places as table
-use Rattle.table_meaning.specs.Places.{instance_at, shows_passing, compares, lies_between, is_of_host, is_running, is_sent_between, is_due}
+use Rattle.table_meaning.specs.Places.{instance_row_at, shows_passing, compares, lies_between, is_of_host, is_running, is_sent_between, is_due}
 use Rattle.table_meaning.specs.Rows.{columns_of, whole}
 use Rattle.table_meaning.specs.Worlds.{contents_of, instance_row}
 use Rattle.table_meaning.proofs.PlacesTests.{equal_numbers, not_below_number, optional_equals, optional_lies_between}
@@ -115,7 +115,7 @@ module _ (w : World) (b : UnitBook) (unit number : ℕ) (x : Job) where
   owned_is : (host : ℕ) → is_of_host host columns ≡ is_owned_by host x
   owned_is host = optional_equals (option_map (λ (o : Owner). o.host) x.owner) host
 
-  held_is : (host : ℕ) → table.is_held_by host columns ≡ is_held_by host x
+  held_is : (host : ℕ) → table.is_row_held_by host columns ≡ is_held_by host x
   held_is host = ap₂ (λ a c. a && c) (owned_is host) (ap₂ (λ a c. a && c) (was_sent_once x.owner) running) ∙ cases x.owner
     where
       cases : (o : Option Owner) → (option_any (λ n. n == host) (option_map (λ (o : Owner). o.host) o) && (is_some o && (is_none x.lapse && is_none x.report)))
@@ -152,24 +152,24 @@ module _ (db : Database) (w : World) (tell : Tell db w) where
 
   -- if a test of columns agrees with a test of instances, both give the same places
   module _ (test : Row → Bool) (p : UnitBook → Job → Bool) (tells : (b : UnitBook) (unit number : ℕ) (x : Job) → test (columns_of (stored.Instance (instance_row w b unit number x))) ≡ p b x) where
-    pub places_agree : table.places_where contents test (places w) ≡ places_where w p
-    places_agree = places_kept w (λ place. shows_passing test (instance_at contents place)) p here
+    pub places_agree : table.places_with_row contents test (places w) ≡ places_where w p
+    places_agree = places_kept w (λ place. shows_passing test (instance_row_at contents place)) p here
       where
-        here : (u n : ℕ) (b : UnitBook) (x : Job) → nth w.units u ≡ Some b → slice_get b.instances n ≡ Some x → shows_passing test (instance_at contents (record { unit = u; number = n })) ≡ p b x
+        here : (u n : ℕ) (b : UnitBook) (x : Job) → nth w.units u ≡ Some b → slice_get b.instances n ≡ Some x → shows_passing test (instance_row_at contents (record { unit = u; number = n })) ≡ p b x
         here u n b x stands is =
             ap (shows_passing test) (ap (option_and_then (λ (b : UnitBook). option_map (λ x. stored.Instance (instance_row w b u n x)) (slice_get b.instances n))) stands ∙ ap (option_map (λ x. stored.Instance (instance_row w b u n x))) is) ∙ tells b u n x
 
-  pub held_told : (host : ℕ) → table.places_where contents (table.is_held_by host) (places w) ≡ held_by w host
-  held_told host = places_agree (table.is_held_by host) (λ b x. is_held_by host x) (λ b unit number x. held_is w b unit number x host)
+  pub held_told : (host : ℕ) → table.places_with_row contents (table.is_row_held_by host) (places w) ≡ held_by w host
+  held_told host = places_agree (table.is_row_held_by host) (λ b x. is_held_by host x) (λ b unit number x. held_is w b unit number x host)
 
-  pub owned_told : (host : ℕ) → table.places_where contents (is_of_host host) (places w) ≡ owned_by w host
+  pub owned_told : (host : ℕ) → table.places_with_row contents (is_of_host host) (places w) ≡ owned_by w host
   owned_told host = places_agree (is_of_host host) (λ b x. is_owned_by host x) (λ b unit number x. owned_is w b unit number x host)
 
-  pub due_told : (from now : ℕ) → overdue w from ≡ [] → table.places_where contents (is_due (pos from) (pos now)) (places w) ≡ overdue w now
+  pub due_told : (from now : ℕ) → overdue w from ≡ [] → table.places_with_row contents (is_due (pos from) (pos now)) (places w) ≡ overdue w now
   due_told from now none =
       places_agree (is_due (pos from) (pos now)) (λ b x. is_due_between from now x) (λ b unit number x. due_is w b unit number x from now)
       ∙ same_among (λ b x. is_overdue from x) (λ b x. is_due_between from now x) (λ b x. is_overdue now x) (λ b x. due_later from now x) 1 w.units none
 
   -- how many were sent on a day
-  pub sent_told : (host day : ℕ) → length (table.places_where contents (is_sent_between host (pos (day * 86400)) (pos (day * 86400 + 86400))) (places w)) ≡ sent_on_day w host day
+  pub sent_told : (host day : ℕ) → length (table.places_with_row contents (is_sent_between host (pos (day * 86400)) (pos (day * 86400 + 86400))) (places w)) ≡ sent_on_day w host day
   sent_told host day = ap length (places_agree (is_sent_between host (pos (day * 86400)) (pos (day * 86400 + 86400))) (λ b x. was_sent host day x) (λ b unit number x. sent_is w b unit number x host day)) ∙ places_counted (was_sent host day) 1 w.units

@@ -197,7 +197,7 @@ module _ (test : UnitBook → Instance → Bool) where
 
 -- the instances listed of a host are those that it owns
 pub owned_listed : (db : Database) (w : World) → Tell db w → (host : ℕ) (owned : List Place)
-    → ((contents : Contents) (ps : List Place) → Hold db contents → AreAllPlaces contents ps → owned ≡ table.places_where contents (is_of_host host) ps) → owned ≡ owned_by w host
+    → ((contents : Contents) (ps : List Place) → Hold db contents → AreAllPlaces contents ps → owned ≡ table.places_with_row contents (is_of_host host) ps) → owned ≡ owned_by w host
 owned_listed db w tell host owned read = read (contents_of w tell.calls tell.batches) (places w) tell.holds (all_places w tell.calls tell.batches) ∙ owned_told db w tell host
 
 -- ---- one more in a set

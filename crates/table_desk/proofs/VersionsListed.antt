@@ -18,7 +18,7 @@ use Rattle.sqlite_keyed.proofs.ListLemmas.{map-map, map_back}
 use Rattle.sqlite_typed.proofs.TestLemmas.{at_ints}
 use Rattle.sqlite.specs.Effect.{Database}
 use Rattle.sched_book.specs.Desk.{version_by_key}
-use Rattle.sched_book.specs.Fits.{newer, newest, is_version_for, version_among}
+use Rattle.sched_book.specs.Fits.{newer, newest_version, is_version_for, version_among}
 use Rattle.sched_book.specs.Imports.{has_app, is_version}
 use Rattle.sched_book.specs.Places.{nth, place_where}
 use Rattle.sched_book.proofs.PlacesOf.{nth-suc, place_where-is}
@@ -182,7 +182,7 @@ module _ (name platform : List ℕ) where
       tests v = grind arith
 
   -- the newest of them is the first one with the greatest number
-  newest_told : (vs : List Made) → newest (filter (is_version_for name platform) vs) ≡ option_and_then (of_number vs) (greatest (numbers_of vs))
+  newest_told : (vs : List Made) → newest_version (filter (is_version_for name platform) vs) ≡ option_and_then (of_number vs) (greatest (numbers_of vs))
   newest_told vs = newest_from None (filter (is_version_for name platform) vs) ∙ same_picks (greatest (numbers_of vs)) _ _ (λ n is. first_of n vs)
 
 -- ---- what is listed
@@ -224,11 +224,11 @@ module _ (db : Database) (w : World) (tell : Tell db w) (name : List ℕ) (place
 
     -- the newest version for the platform, and whether there is one
     newest_listed : (numbers : List ℕ) → map whole numbers ≡ map (λ row. column row 3) (rows_where db.trees Version (listed.is_version_for place platform))
-        → newest (filter (is_version_for name platform) w.versions) ≡ option_and_then (of_number name platform w.versions) (greatest numbers)
+        → newest_version (filter (is_version_for name platform) w.versions) ≡ option_and_then (of_number name platform w.versions) (greatest numbers)
     newest_listed numbers read = newest_told name platform w.versions ∙ ap (λ l. option_and_then (of_number name platform w.versions) (greatest l)) (sym (numbers_listed numbers read))
 
     some_listed : (numbers : List ℕ) → map whole numbers ≡ map (λ row. column row 3) (rows_where db.trees Version (listed.is_version_for place platform))
-        → is_some (newest (filter (is_version_for name platform) w.versions)) ≡ is_some (greatest numbers)
+        → is_some (newest_version (filter (is_version_for name platform) w.versions)) ≡ is_some (greatest numbers)
     some_listed numbers read = some_from None (filter (is_version_for name platform) w.versions) ∙ ap (λ l. is_some (greatest l)) (sym (numbers_listed numbers read))
 
     -- ---- the version of a number
@@ -332,10 +332,10 @@ no_version db w tell name platform n none = sym (found w.versions (recursion_fro
 
 -- the version for the first of some platforms if it has any, or else that for the others
 next_platform : (versions : List Made) (name p : List ℕ) (platforms : List (List ℕ)) (best : Option ℕ)
-    → newest (filter (is_version_for name p) versions) ≡ option_and_then (of_number name p versions) best → is_some (newest (filter (is_version_for name p) versions)) ≡ is_some best
+    → newest_version (filter (is_version_for name p) versions) ≡ option_and_then (of_number name p versions) best → is_some (newest_version (filter (is_version_for name p) versions)) ≡ is_some best
     → version_among versions name (p ∷ platforms) ≡ cond (is_some best) (option_and_then (of_number name p versions) best) (version_among versions name platforms)
 next_platform versions name p platforms best is some =
-    ap (λ b. cond b (newest (filter (is_version_for name p) versions)) (version_among versions name platforms)) some
+    ap (λ b. cond b (newest_version (filter (is_version_for name p) versions)) (version_among versions name platforms)) some
     ∙ ap (λ o. cond (is_some best) o (version_among versions name platforms)) is
 
 -- a platform whose versions are listed, and those after it

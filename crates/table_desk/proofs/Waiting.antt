@@ -29,11 +29,11 @@ use Rattle.table_meaning.specs.declared.rows.StoredRow.TheVariants as stored
 use Rattle.table_meaning.specs.Codes.{status_code}
 use Rattle.table_meaning.specs.Holding.{Contents, Hold}
 use Rattle.table_meaning.specs.Places as table
-use Rattle.table_meaning.specs.Places.{IsBefore, AreAllPlaces, instance_at, shows_passing, compares, waits_from}
+use Rattle.table_meaning.specs.Places.{IsBefore, AreAllPlaces, instance_row_at, shows_passing, compares, waits_from}
 use Rattle.table_meaning.specs.Rows.{columns_of, whole}
 use Rattle.table_meaning.specs.Worlds.{contents_of, instance_row, is_queued}
 use Rattle.table_meaning.proofs.PlacesTests.{equal_numbers, above_number, not_below_number}
-use Rattle.table_desk.specs.Asked.{Asked, Tell}
+use Rattle.table_desk.specs.Asked.{LooksUp, Tell}
 use Rattle.table_desk.specs.Pages.{candidate_at, candidates_at, behind, next_page, unsent_on}
 use Rattle.table_desk.proofs.AllPlaces.{all_places}
 
@@ -66,7 +66,7 @@ module _ (db : Database) (w : World) (tell : Tell db w) (from : Place) where
       ap₂ (λ a c. a && c) (queued_one (is_queued w b x))
       (ap₂ (λ a c. a && c) (not_below_number p.unit from.unit) (ap₂ (λ a c. a || c) (above_number p.unit from.unit) (not_below_number p.number from.number)) ∙ not_before p from)
 
-  waits_is : (p : Place) → shows_passing (waits_from from) (instance_at contents p) ≡ waits w from p
+  waits_is : (p : Place) → shows_passing (waits_from from) (instance_row_at contents p) ≡ waits w from p
   waits_is p = unit (unit_at w p.unit)
     where
       job : (b : UnitBook) (o : Option Job) → shows_passing (waits_from from) (option_map (λ x. stored.Instance (instance_row w b p.unit p.number x)) o) ≡ (unwrap_or (option_map (is_queued w b) o) false && not (is_before p from))
@@ -78,7 +78,7 @@ module _ (db : Database) (w : World) (tell : Tell db w) (from : Place) where
       unit None = refl
       unit (Some b) = job b (slice_get b.instances p.number)
 
-  pub waiting_told : table.places_where contents (waits_from from) (places w) ≡ waiting w from
+  pub waiting_told : table.places_with_row contents (waits_from from) (places w) ≡ waiting w from
   waiting_told = λ i. filter (λ p. waits_is p i) (places w)
 
 -- ---- what is unsent
@@ -256,12 +256,12 @@ module _ (w : World) where
 
 module _ {S : Type 0} (store : Ghosts S) (first mid : Held S) (from : Place) (queued : List Place) where
   abbrev Shows : ℕ → Type 0
-  Shows n = HasCleanDisk (state store mid) → (contents : Contents) (places : List Place) → Hold (state store first).now contents → AreAllPlaces contents places → queued ≡ take n (table.places_where contents (waits_from from) places)
+  Shows n = HasCleanDisk (state store mid) → (contents : Contents) (places : List Place) → Hold (state store first).now contents → AreAllPlaces contents places → queued ≡ take n (table.places_with_row contents (waits_from from) places)
 
-  pub waiting_read : (n : ℕ) → Shows n → Asked store first mid (λ w. queued ≡ take n (waiting w from))
+  pub waiting_read : (n : ℕ) → Shows n → LooksUp store first mid (λ w. queued ≡ take n (waiting w from))
   waiting_read n shown = λ clean is_open rests w tell.
       shown clean (contents_of w tell.calls tell.batches) (places w) tell.holds (all_places w tell.calls tell.batches) ∙ ap (take n) (waiting_told (state store first).now w tell from)
 
-  pub further_page_read : Shows 64 → (page : List Place) → page ≡ queued → Asked store first mid (λ w. unsent w from ≡ candidates_at w page ++ unsent_on w (next_page Further page))
+  pub further_page_read : Shows 64 → (page : List Place) → page ≡ queued → LooksUp store first mid (λ w. unsent w from ≡ candidates_at w page ++ unsent_on w (next_page Further page))
   further_page_read shown page same = λ clean is_open rests w tell.
       unsent_parted w from page (next_page Further page) (parted w 63 from page (same ∙ waiting_read 64 shown clean is_open rests w tell) (slice_get page 63) refl)

@@ -17,5 +17,5 @@ pub record Tell (db : Database) (w : World) : Type 0 where
 
 -- Suppose the disk returned what was written, the connection is open, and no change was waiting for a commit. Then this holds of each
 -- world that the tables held before the look-up.
-abbrev pub Asked : {S : Type 0} → Ghosts S → Held S → Held S → (World → Type 0) → Type 0
-Asked store old new says = HasCleanDisk (state store new) → IsTrue (state store new).is_open → (state store old).now ≡ (state store old).committed → (w : World) → Tell (state store old).now w → says w
+abbrev pub LooksUp : {S : Type 0} → Ghosts S → Held S → Held S → (World → Type 0) → Type 0
+LooksUp store old new says = HasCleanDisk (state store new) → IsTrue (state store new).is_open → (state store old).now ≡ (state store old).committed → (w : World) → Tell (state store old).now w → says w

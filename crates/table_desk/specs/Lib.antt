@@ -5,4 +5,4 @@ pub mod Sorted
 pub mod Pages
 pub mod Users
 pub mod Versions
-pub mod WaitingPage
+pub mod WaitingWindow

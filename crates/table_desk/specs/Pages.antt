@@ -7,7 +7,7 @@ use Rattle.sched_book.specs.declared.instance.Place.{Place}
 use Rattle.sched_book.specs.declared.world.World.{World}
 use Rattle.table_meaning.specs.Places.{page_size}
 use Rattle.table_meaning.specs.declared.tables.QueuePage.{QueuePage}
-use Rattle.table_desk.specs.declared.pages.PageRead.{PageRead}
+use Rattle.table_desk.specs.declared.window.QueueWindow.{QueueWindow}
 
 -- a place with its workunit, if there is one
 abbrev pub candidate_at : World → Place → Option Candidate
@@ -29,6 +29,6 @@ abbrev pub unsent_on : World → Option Place → List Candidate
 unsent_on w None = []
 unsent_on w (Some from) = unsent w from
 
--- the unsent instances after a page
-abbrev pub unsent_after : World → PageRead → List Candidate
-unsent_after w page = unsent_on w page.end
+-- the unsent instances after a window
+abbrev pub unsent_after : World → QueueWindow → List Candidate
+unsent_after w window = unsent_on w window.end

@@ -6,7 +6,7 @@ ghost use Rattle.sched_book.specs.Desk.{account_by_key as account_of_key};
 ghost use Rattle.sched_book.specs.Limits.{IsAccountInLimits};
 ghost use Rattle.sched_book.specs.Places.{known_host};
 ghost use Rattle.table_meaning.specs.Reads.{Reads};
-ghost use Rattle.table_desk.specs.Asked.{Asked};
+ghost use Rattle.table_desk.specs.Asked.{LooksUp};
 
 use sched_book::{Account, Placed, Unavailable};
 use sqlite::{Alter, Connection};
@@ -22,7 +22,7 @@ pub fn account_by_key<S: Alter>(
     authenticator: &str,
 ) -> Result<Option<Placed<Account>>, Unavailable>
     ensures reads { Reads (state S.Store conn.old) (state S.Store conn.new) }
-    ensures answer { Asked S.Store conn.old conn.new (λ w. IfOk result (λ r. r ≡ account_of_key w authenticator.now)) }
+    ensures answer { LooksUp S.Store conn.old conn.new (λ w. IfOk result (λ r. r ≡ account_of_key w authenticator.now)) }
     ensures limits { IfOk result (λ r. IfSome r (λ found. IsAccountInLimits found.row)) }
 {
     match account_with(alloc, conn, authenticator)? {
@@ -43,7 +43,7 @@ pub fn host_by_key<S: Alter>(
     cpid: &str,
 ) -> Result<Option<u32>, Unavailable>
     ensures reads { Reads (state S.Store conn.old) (state S.Store conn.new) }
-    ensures answer { Asked S.Store conn.old conn.new (λ w. IfOk result (λ r. r ≡ known_host w account cpid.now)) }
+    ensures answer { LooksUp S.Store conn.old conn.new (λ w. IfOk result (λ r. r ≡ known_host w account cpid.now)) }
 {
     Ok(host_known(alloc, conn, account, cpid)?)
 }

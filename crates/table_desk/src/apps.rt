@@ -10,7 +10,7 @@ ghost use Rattle.sched_book.specs.Limits.{IsVersionInLimits};
 ghost use Rattle.sched_book.specs.Places.{place_where};
 ghost use Rattle.sched_book.specs.declared.world.World.{World};
 ghost use Rattle.table_meaning.specs.Reads.{Reads};
-ghost use Rattle.table_desk.specs.Asked.{Asked};
+ghost use Rattle.table_desk.specs.Asked.{LooksUp};
 ghost use Rattle.table_desk.specs.Versions.{greatest};
 
 use sched_book::{
@@ -93,7 +93,7 @@ fn version_with<S: Alter>(
     version_num: u32,
 ) -> Result<Option<Version>, Unavailable>
     ensures reads { Reads (state S.Store conn.old) (state S.Store conn.new) }
-    ensures answer { Asked S.Store conn.old conn.new (λ w. Some place ≡ place_where (λ a. bytes_eq a.name app.now) w.apps
+    ensures answer { LooksUp S.Store conn.old conn.new (λ w. Some place ≡ place_where (λ a. bytes_eq a.name app.now) w.apps
         → IfOk result (λ r. r ≡ find (is_version app.now platform.now version_num) w.versions)) }
     ensures limits { IfOk result (λ r. IfSome r IsVersionInLimits) }
 {
@@ -122,7 +122,7 @@ fn version_among<S: Alter>(
     platforms: &[Text],
 ) -> Result<Option<Version>, Unavailable>
     ensures reads { Reads (state S.Store conn.old) (state S.Store conn.new) }
-    ensures answer { Asked S.Store conn.old conn.new (λ w. Some place ≡ place_where (λ a. bytes_eq a.name app.now) w.apps
+    ensures answer { LooksUp S.Store conn.old conn.new (λ w. Some place ≡ place_where (λ a. bytes_eq a.name app.now) w.apps
         → IfOk result (λ r. r ≡ among w.versions app.now platforms.now)) }
     ensures limits { IfOk result (λ r. IfSome r IsVersionInLimits) }
 {
@@ -153,7 +153,7 @@ pub fn version_for<S: Alter>(
     app: u32,
 ) -> Result<Option<Version>, Unavailable>
     ensures reads { Reads (state S.Store conn.old) (state S.Store conn.new) }
-    ensures answer { Asked S.Store conn.old conn.new (λ w. apps.now ≡ w.apps → IfOk result (λ r. r ≡ version_at w host.now app)) }
+    ensures answer { LooksUp S.Store conn.old conn.new (λ w. apps.now ≡ w.apps → IfOk result (λ r. r ≡ version_at w host.now app)) }
     ensures limits { IfOk result (λ r. IfSome r IsVersionInLimits) }
 {
     let Some(named) = nth(apps, app) else {
@@ -176,7 +176,7 @@ pub fn version_by_key<S: Alter>(
     version_num: u32,
 ) -> Result<Option<Version>, Unavailable>
     ensures reads { Reads (state S.Store conn.old) (state S.Store conn.new) }
-    ensures answer { Asked S.Store conn.old conn.new (λ w. apps.now ≡ w.apps → IfOk result (λ r. r ≡ version_of_key w app.now platform.now version_num)) }
+    ensures answer { LooksUp S.Store conn.old conn.new (λ w. apps.now ≡ w.apps → IfOk result (λ r. r ≡ version_of_key w app.now platform.now version_num)) }
     ensures limits { IfOk result (λ r. IfSome r IsVersionInLimits) }
 {
     let Some(place) = place_of(apps, app)? else {

@@ -6,7 +6,7 @@ ghost use Rattle.sqlite.specs.Held.{state};
 ghost use Rattle.sched_book.specs.Desk.{unit_status};
 ghost use Rattle.sched_book.specs.Places.{held_by as held_in, owned_by as owned_in, host_credit, user_credit};
 ghost use Rattle.table_meaning.specs.Reads.{Reads};
-ghost use Rattle.table_desk.specs.Asked.{Asked};
+ghost use Rattle.table_desk.specs.Asked.{LooksUp};
 
 use sched_book::{Cause, Invariant, Status, Unavailable};
 use sqlite::{Alter, Connection};
@@ -21,7 +21,7 @@ pub fn status_of<S: Alter>(
     unit: u32,
 ) -> Result<Option<Status>, Unavailable>
     ensures reads { Reads (state S.Store conn.old) (state S.Store conn.new) }
-    ensures answer { Asked S.Store conn.old conn.new (λ w. IfOk result (λ r. r ≡ unit_status w unit)) }
+    ensures answer { LooksUp S.Store conn.old conn.new (λ w. IfOk result (λ r. r ≡ unit_status w unit)) }
 {
     match status_column(alloc, conn, unit)? {
         None => Ok(None),
@@ -40,7 +40,7 @@ fn test_none_given<S: Alter>(
     host: u32,
 ) -> Result<(), Unavailable>
     ensures reads { Reads (state S.Store conn.old) (state S.Store conn.new) }
-    ensures answer { Asked S.Store conn.old conn.new (λ w. OnOk result (owned_in w host ≡ [])) }
+    ensures answer { LooksUp S.Store conn.old conn.new (λ w. OnOk result (owned_in w host ≡ [])) }
 {
     let owned = places_owned(alloc, conn, host)?;
     if owned.len() > 0 {
@@ -57,7 +57,7 @@ pub fn held_of_none_given<S: Alter>(
     host: u32,
 ) -> Result<u32, Unavailable>
     ensures reads { Reads (state S.Store conn.old) (state S.Store conn.new) }
-    ensures answer { Asked S.Store conn.old conn.new (λ w. IfOk result (λ r. r ≡ length (held_in w host))) }
+    ensures answer { LooksUp S.Store conn.old conn.new (λ w. IfOk result (λ r. r ≡ length (held_in w host))) }
 {
     test_none_given(alloc, conn, host)?;
     Ok(0)
@@ -71,7 +71,7 @@ pub fn credit_of_none_given<S: Alter>(
     host: u32,
 ) -> Result<u64, Unavailable>
     ensures reads { Reads (state S.Store conn.old) (state S.Store conn.new) }
-    ensures answer { Asked S.Store conn.old conn.new (λ w. IfOk result (λ r. r ≡ host_credit w host)) }
+    ensures answer { LooksUp S.Store conn.old conn.new (λ w. IfOk result (λ r. r ≡ host_credit w host)) }
 {
     test_none_given(alloc, conn, host)?;
     Ok(0)
@@ -101,7 +101,7 @@ pub fn credit_of_user<S: Alter>(
     account: u32,
 ) -> Result<u64, Unavailable>
     ensures reads { Reads (state S.Store conn.old) (state S.Store conn.new) }
-    ensures answer { Asked S.Store conn.old conn.new (λ w. IfOk result (λ r. r ≡ user_credit w account)) }
+    ensures answer { LooksUp S.Store conn.old conn.new (λ w. IfOk result (λ r. r ≡ user_credit w account)) }
 {
     let credits = credits_of_user(alloc, conn, account)?;
     sum_of(credits.as_slice())

@@ -7,7 +7,7 @@ ghost use Rattle.table_meaning.specs.Reads.{Reads};
 ghost use Rattle.table_meaning.specs.Rows.{columns_of};
 ghost use Rattle.table_meaning.specs.declared.rows.StoredRow.TheVariants as stored;
 ghost use Rattle.table_worlds.specs.ReadBack.{host_in};
-ghost use Rattle.table_desk.specs.Asked.{Asked};
+ghost use Rattle.table_desk.specs.Asked.{LooksUp};
 ghost use Rattle.table_desk.specs.Columns.{counted_host_at};
 
 use sched_book::{Cause, HostRow, Unavailable};
@@ -58,7 +58,7 @@ pub fn counted_host<S: Alter>(
     number: u32,
 ) -> Result<Option<CountedHost>, Unavailable>
     ensures reads { Reads (state S.Store conn.old) (state S.Store conn.new) }
-    ensures answer { Asked S.Store conn.old conn.new (λ w. IfOk result (λ r. r ≡ counted_host_at w number)) }
+    ensures answer { LooksUp S.Store conn.old conn.new (λ w. IfOk result (λ r. r ≡ counted_host_at w number)) }
     ensures limits { IfOk result (λ r. IfSome r (λ h. IsHostInLimits most_quota h.row)) }
 {
     match host_of(alloc, conn, number)? {

@@ -4,7 +4,7 @@ ghost use Rattle.std.specs.Prelude.{◌≡◌, length, IfOk};
 ghost use Rattle.sqlite.specs.Held.{state};
 ghost use Rattle.sched_book.specs.Desk.{counts as counts_in};
 ghost use Rattle.table_meaning.specs.Reads.{Reads};
-ghost use Rattle.table_desk.specs.Asked.{Asked};
+ghost use Rattle.table_desk.specs.Asked.{LooksUp};
 
 use sched_book::{Counts, Unavailable};
 use sqlite::{Alter, Connection};
@@ -15,7 +15,7 @@ use table_rows::{CountedTable, last_number};
 /// connection shows is unchanged.
 pub fn counts<S: Alter>(alloc: Global, conn: &mut Connection<S>) -> Result<Counts, Unavailable>
     ensures reads { Reads (state S.Store conn.old) (state S.Store conn.new) }
-    ensures answer { Asked S.Store conn.old conn.new (λ w. IfOk result (λ r. r ≡ counts_in w)) }
+    ensures answer { LooksUp S.Store conn.old conn.new (λ w. IfOk result (λ r. r ≡ counts_in w)) }
 {
     let accounts = last_number(alloc, conn, CountedTable::Account)?;
     let apps = last_number(alloc, conn, CountedTable::App)?;

@@ -1,7 +1,7 @@
 //! The look-ups of a desk, answered by statements over the stored tables.
 //!
 //! Each look-up of a desk is a function over a connection. Applications seldom change, so the caller keeps them and passes
-//! them in. What waits is kept as a page of places, which follows each instance that is written.
+//! them in. What waits is kept as a window of places, which follows each instance that is written.
 #![tactic(auto)]
 
 mod accounts;
@@ -10,7 +10,7 @@ mod columns;
 mod hosts;
 mod lengths;
 mod offers;
-mod pages;
+mod window;
 mod places;
 mod skip;
 mod sorted;
@@ -23,7 +23,7 @@ pub use columns::{credit_of_none_given, credit_of_user, held_of_none_given, stat
 pub use hosts::{CountedHost, counted_host};
 pub use lengths::counts;
 pub use offers::{KnownUnits, unsent_from};
-pub use pages::PageRead;
+pub use window::QueueWindow;
 pub use places::{due_before, held_by, owned_by, sent_on_day};
 pub use skip::Skip;
 pub use sorted::{insert_place, remove_place};

@@ -6,13 +6,13 @@ ghost use Rattle.sched_book.specs.Offers.{unsent, OffersAll, OffersSome, Offered
 ghost use Rattle.sched_book.specs.declared.desk.Candidate.{Candidate as BookCandidate};
 ghost use Rattle.sched_book.specs.declared.desk.Flow.TheVariants.{GoOn};
 ghost use Rattle.table_meaning.specs.Reads.{Reads};
-ghost use Rattle.table_desk.specs.Asked.{Asked};
+ghost use Rattle.table_desk.specs.Asked.{LooksUp};
 ghost use Rattle.table_desk.specs.Skips.{IsCovered};
 ghost use Rattle.sched_book.specs.Offers.{OrSkips};
 ghost use Rattle.table_desk.specs.Pages.{candidate_at, candidates_at, unsent_on, unsent_after};
-ghost use Rattle.table_desk.specs.WaitingPage.{IsPageOf};
+ghost use Rattle.table_desk.specs.WaitingWindow.{IsWindowOf};
 
-use crate::pages::{PageRead, next_page};
+use crate::window::{QueueWindow, next_page};
 use crate::skip::Skip;
 use crate::workunits::unit_at;
 use sched_book::limits::{MOST_INSTANCES, MOST_WORKUNITS};
@@ -50,7 +50,7 @@ fn offer_at<S: Alter, K: KnownUnits, T: Taker>(
     taker: &mut T,
 ) -> Result<Flow, Unavailable>
     ensures reads { Reads (state S.Store conn.old) (state S.Store conn.new) }
-    ensures offered { Asked S.Store conn.old conn.new (λ w. apps.now ≡ w.apps → K.are_of w known.now
+    ensures offered { LooksUp S.Store conn.old conn.new (λ w. apps.now ≡ w.apps → K.are_of w known.now
         → IfOk result (λ flow. (c : BookCandidate) × (candidate_at w place ≡ Some c) × T.takes taker.old c flow taker.new)) }
     ensures none { OnErr result (taker.new ≡ taker.old) }
 {
@@ -82,8 +82,8 @@ fn offer_each<S: Alter, K: KnownUnits, T: Taker>(
     taker: &mut T,
 ) -> Result<Flow, Unavailable>
     ensures reads { Reads (state S.Store conn.old) (state S.Store conn.new) }
-    ensures all { Asked S.Store conn.old conn.new (λ w. apps.now ≡ w.apps → K.are_of w known.now → IfOk result (Offered (OrSkips (IsCovered skip.now) T.takes) taker.old (candidates_at w places.now) taker.new)) }
-    ensures some { Asked S.Store conn.old conn.new (λ w. apps.now ≡ w.apps → K.are_of w known.now → OnErr result (OfferedSome (OrSkips (IsCovered skip.now) T.takes) taker.old (candidates_at w places.now) taker.new)) }
+    ensures all { LooksUp S.Store conn.old conn.new (λ w. apps.now ≡ w.apps → K.are_of w known.now → IfOk result (Offered (OrSkips (IsCovered skip.now) T.takes) taker.old (candidates_at w places.now) taker.new)) }
+    ensures some { LooksUp S.Store conn.old conn.new (λ w. apps.now ≡ w.apps → K.are_of w known.now → OnErr result (OfferedSome (OrSkips (IsCovered skip.now) T.takes) taker.old (candidates_at w places.now) taker.new)) }
 {
     for place in places {
         if is_skipped(skip, taker, *place) {
@@ -109,8 +109,8 @@ fn offer_page<S: Alter, K: KnownUnits, T: Taker>(
     taker: &mut T,
 ) -> Result<Option<Place>, Unavailable>
     ensures reads { Reads (state S.Store conn.old) (state S.Store conn.new) }
-    ensures all { Asked S.Store conn.old conn.new (λ w. apps.now ≡ w.apps → K.are_of w known.now → IfOk result (λ next. Leads (OrSkips (IsCovered skip.now) T.takes) taker.old (unsent w from) taker.new (unsent_on w next))) }
-    ensures some { Asked S.Store conn.old conn.new (λ w. apps.now ≡ w.apps → K.are_of w known.now → OnErr result (OffersSome (OrSkips (IsCovered skip.now) T.takes) taker.old (unsent w from) taker.new)) }
+    ensures all { LooksUp S.Store conn.old conn.new (λ w. apps.now ≡ w.apps → K.are_of w known.now → IfOk result (λ next. Leads (OrSkips (IsCovered skip.now) T.takes) taker.old (unsent w from) taker.new (unsent_on w next))) }
+    ensures some { LooksUp S.Store conn.old conn.new (λ w. apps.now ≡ w.apps → K.are_of w known.now → OnErr result (OffersSome (OrSkips (IsCovered skip.now) T.takes) taker.old (unsent w from) taker.new)) }
 {
     let queued = queued_from(alloc, conn, skip.next(from), QueuePage::Further)?;
     match offer_each(alloc, conn, apps, known, skip, queued.as_slice(), taker)? {
@@ -131,8 +131,8 @@ fn offer_pages<S: Alter, K: KnownUnits, T: Taker>(
     taker: &mut T,
 ) -> Result<(), Unavailable>
     ensures reads { Reads (state S.Store conn.old) (state S.Store conn.new) }
-    ensures all { Asked S.Store conn.old conn.new (λ w. apps.now ≡ w.apps → K.are_of w known.now → OnOk result (OffersAll (OrSkips (IsCovered skip.now) T.takes) taker.old (unsent_on w from) taker.new)) }
-    ensures some { Asked S.Store conn.old conn.new (λ w. apps.now ≡ w.apps → K.are_of w known.now → OnErr result (OffersSome (OrSkips (IsCovered skip.now) T.takes) taker.old (unsent_on w from) taker.new)) }
+    ensures all { LooksUp S.Store conn.old conn.new (λ w. apps.now ≡ w.apps → K.are_of w known.now → OnOk result (OffersAll (OrSkips (IsCovered skip.now) T.takes) taker.old (unsent_on w from) taker.new)) }
+    ensures some { LooksUp S.Store conn.old conn.new (λ w. apps.now ≡ w.apps → K.are_of w known.now → OnErr result (OffersSome (OrSkips (IsCovered skip.now) T.takes) taker.old (unsent_on w from) taker.new)) }
 {
     let mut next = from;
     for _turn in 0..MOST_PAGES {
@@ -144,32 +144,32 @@ fn offer_pages<S: Alter, K: KnownUnits, T: Taker>(
     Err(Unavailable(Cause::Broken(Invariant::PagesOfOffers)))
 }
 
-/// Offers the candidates at these places of a page, and then what waits after the page. What the connection shows is
-/// unchanged.
+/// Offers the candidates at these places of a window, and then what waits after the window. What the connection shows
+/// is unchanged.
 fn offer_on<S: Alter, K: KnownUnits, T: Taker>(
     alloc: Global,
     conn: &mut Connection<S>,
     apps: &[App],
     known: &K,
     skip: &Skip,
-    page: &PageRead,
+    window: &QueueWindow,
     places: &[Place],
     taker: &mut T,
 ) -> Result<(), Unavailable>
     ensures reads { Reads (state S.Store conn.old) (state S.Store conn.new) }
-    ensures all { Asked S.Store conn.old conn.new (λ w. apps.now ≡ w.apps → K.are_of w known.now → OnOk result (OffersAll (OrSkips (IsCovered skip.now) T.takes) taker.old (candidates_at w places.now ++ unsent_after w page.now) taker.new)) }
-    ensures some { Asked S.Store conn.old conn.new (λ w. apps.now ≡ w.apps → K.are_of w known.now → OnErr result (OffersSome (OrSkips (IsCovered skip.now) T.takes) taker.old (candidates_at w places.now ++ unsent_after w page.now) taker.new)) }
+    ensures all { LooksUp S.Store conn.old conn.new (λ w. apps.now ≡ w.apps → K.are_of w known.now → OnOk result (OffersAll (OrSkips (IsCovered skip.now) T.takes) taker.old (candidates_at w places.now ++ unsent_after w window.now) taker.new)) }
+    ensures some { LooksUp S.Store conn.old conn.new (λ w. apps.now ≡ w.apps → K.are_of w known.now → OnErr result (OffersSome (OrSkips (IsCovered skip.now) T.takes) taker.old (candidates_at w places.now ++ unsent_after w window.now) taker.new)) }
 {
     match offer_each(alloc, conn, apps, known, skip, places, taker)? {
         Flow::Stop => Ok(()),
-        Flow::GoOn => offer_pages(alloc, conn, apps, known, skip, page.next(), taker),
+        Flow::GoOn => offer_pages(alloc, conn, apps, known, skip, window.next(), taker),
     }
 }
 
 /// Offers the instances of open workunits that were given to nobody, in the order of their places, from this place on.
 /// The offers end when the taker says stop. A candidate that the skip covers or that the taker passes over is not
 /// offered. `apps` are all applications. Pages are read from the first place on that the skip does not cover. If the
-/// page that was read last has what waits there, the offers begin on that page. If not, another page is read and
+/// window that was read last has what waits there, the offers begin on that window. If not, another window is read and
 /// replaces it. A workunit is read if it is not known. If the tables are unavailable, the offers end early. What the
 /// connection shows is unchanged.
 pub fn unsent_from<S: Alter, K: KnownUnits, T: Taker>(
@@ -178,23 +178,23 @@ pub fn unsent_from<S: Alter, K: KnownUnits, T: Taker>(
     apps: &[App],
     known: &K,
     skip: &Skip,
-    read: &mut Option<PageRead>,
+    read: &mut Option<QueueWindow>,
     from: Place,
     taker: &mut T,
 ) -> Result<(), Unavailable>
     ensures reads { Reads (state S.Store conn.old) (state S.Store conn.new) }
-    ensures page { Asked S.Store conn.old conn.new (λ w. IfSome read.old (IsPageOf w) → IfSome read.new (IsPageOf w)) }
-    ensures all { Asked S.Store conn.old conn.new (λ w. apps.now ≡ w.apps → K.are_of w known.now → IfSome read.old (IsPageOf w) → OnOk result (OffersAll (OrSkips (IsCovered skip.now) T.takes) taker.old (unsent w from) taker.new)) }
-    ensures some { Asked S.Store conn.old conn.new (λ w. apps.now ≡ w.apps → K.are_of w known.now → IfSome read.old (IsPageOf w) → OnErr result (OffersSome (OrSkips (IsCovered skip.now) T.takes) taker.old (unsent w from) taker.new)) }
+    ensures window { LooksUp S.Store conn.old conn.new (λ w. IfSome read.old (IsWindowOf w) → IfSome read.new (IsWindowOf w)) }
+    ensures all { LooksUp S.Store conn.old conn.new (λ w. apps.now ≡ w.apps → K.are_of w known.now → IfSome read.old (IsWindowOf w) → OnOk result (OffersAll (OrSkips (IsCovered skip.now) T.takes) taker.old (unsent w from) taker.new)) }
+    ensures some { LooksUp S.Store conn.old conn.new (λ w. apps.now ≡ w.apps → K.are_of w known.now → IfSome read.old (IsWindowOf w) → OnErr result (OffersSome (OrSkips (IsCovered skip.now) T.takes) taker.old (unsent w from) taker.new)) }
 {
     let from = skip.next(from);
-    if let Some(page) = read {
-        if let Some(places) = page.places_from(from) {
-            return offer_on(alloc, conn, apps, known, skip, page, places, taker);
+    if let Some(window) = read {
+        if let Some(places) = window.places_from(from) {
+            return offer_on(alloc, conn, apps, known, skip, window, places, taker);
         }
     }
-    let page = PageRead::read(alloc, conn, from)?;
-    let offered = offer_on(alloc, conn, apps, known, skip, &page, page.places(), taker);
-    *read = Some(page);
+    let window = QueueWindow::read(alloc, conn, from)?;
+    let offered = offer_on(alloc, conn, apps, known, skip, &window, window.places(), taker);
+    *read = Some(window);
     offered
 }

@@ -4,7 +4,7 @@ ghost use Rattle.std.specs.Prelude.{◌≡◌, ◌≤◌, ◌+◌, ◌*◌, pos,
 ghost use Rattle.sqlite.specs.Held.{state};
 ghost use Rattle.sched_book.specs.Places.{held_by as held_in, owned_by as owned_in, overdue as overdue_in, sent_on_day as sent_in};
 ghost use Rattle.table_meaning.specs.Reads.{Reads};
-ghost use Rattle.table_desk.specs.Asked.{Asked};
+ghost use Rattle.table_desk.specs.Asked.{LooksUp};
 
 use sched_book::moment::DAY;
 use sched_book::{Cause, Invariant, Place, Unavailable};
@@ -34,7 +34,7 @@ pub fn held_by<S: Alter>(
     most: u32,
 ) -> Result<Listed<Place>, Unavailable>
     ensures reads { Reads (state S.Store conn.old) (state S.Store conn.new) }
-    ensures answer { Asked S.Store conn.old conn.new (λ w. length (held_in w host) ≤ most → IfOk result (λ r. r ≡ held_in w host)) }
+    ensures answer { LooksUp S.Store conn.old conn.new (λ w. length (held_in w host) ≤ most → IfOk result (λ r. r ≡ held_in w host)) }
 {
     Ok(places_held(alloc, conn, host, most)?)
 }
@@ -46,7 +46,7 @@ pub fn owned_by<S: Alter>(
     host: u32,
 ) -> Result<Listed<Place>, Unavailable>
     ensures reads { Reads (state S.Store conn.old) (state S.Store conn.new) }
-    ensures answer { Asked S.Store conn.old conn.new (λ w. IfOk result (λ r. r ≡ owned_in w host)) }
+    ensures answer { LooksUp S.Store conn.old conn.new (λ w. IfOk result (λ r. r ≡ owned_in w host)) }
 {
     Ok(places_owned(alloc, conn, host)?)
 }
@@ -59,7 +59,7 @@ pub fn sent_on_day<S: Alter>(
     day: u64,
 ) -> Result<u32, Unavailable>
     ensures reads { Reads (state S.Store conn.old) (state S.Store conn.new) }
-    ensures answer { Asked S.Store conn.old conn.new (λ w. IfOk result (λ r. r ≡ sent_in w host day)) }
+    ensures answer { LooksUp S.Store conn.old conn.new (λ w. IfOk result (λ r. r ≡ sent_in w host day)) }
 {
     let Some((from, until)) = bounds_of(day) else {
         return Err(Unavailable(Cause::Broken(Invariant::BoundsOfDay)));
@@ -77,7 +77,7 @@ pub fn due_before<S: Alter>(
     now: u64,
 ) -> Result<Listed<Place>, Unavailable>
     ensures reads { Reads (state S.Store conn.old) (state S.Store conn.new) }
-    ensures answer { Asked S.Store conn.old conn.new (λ w. overdue_in w from ≡ [] → IfOk result (λ r. r ≡ overdue_in w now)) }
+    ensures answer { LooksUp S.Store conn.old conn.new (λ w. overdue_in w from ≡ [] → IfOk result (λ r. r ≡ overdue_in w now)) }
 {
     let Ok(from) = i64::try_from(from) else {
         return Err(Unavailable(Cause::Broken(Invariant::BoundsOfDeadline)));

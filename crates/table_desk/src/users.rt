@@ -7,7 +7,7 @@ ghost use Rattle.sqlite.specs.Held.{state};
 ghost use Rattle.sched_book.specs.Desk.{units_of_user as units_had_by};
 ghost use Rattle.sched_book.specs.Grant.{has_unit};
 ghost use Rattle.table_meaning.specs.Reads.{Reads};
-ghost use Rattle.table_desk.specs.Asked.{Asked};
+ghost use Rattle.table_desk.specs.Asked.{LooksUp};
 ghost use Rattle.table_desk.specs.Users.{HasAdded};
 
 use sched_book::{Place, Unavailable};
@@ -36,7 +36,7 @@ fn add_units_of<S: Alter>(
     units: &mut BTreeSet<u32>,
 ) -> Result<(), Unavailable>
     ensures reads { Reads (state S.Store conn.old) (state S.Store conn.new) }
-    ensures answer { Asked S.Store conn.old conn.new (λ w. OnOk result (HasAdded w hosts.now units.old units.new)) }
+    ensures answer { LooksUp S.Store conn.old conn.new (λ w. OnOk result (HasAdded w hosts.now units.old units.new)) }
 {
     for host in hosts {
         let owned = places_owned(alloc, conn, *host)?;
@@ -53,7 +53,7 @@ pub fn units_of_user<S: Alter>(
     account: u32,
 ) -> Result<Listed<u32>, Unavailable>
     ensures reads { Reads (state S.Store conn.old) (state S.Store conn.new) }
-    ensures answer { Asked S.Store conn.old conn.new (λ w. IfOk result (λ r. r ≡ units_had_by w account)) }
+    ensures answer { LooksUp S.Store conn.old conn.new (λ w. IfOk result (λ r. r ≡ units_had_by w account)) }
 {
     let hosts = hosts_of_user(alloc, conn, account)?;
     let mut units = BTreeSet::new(alloc);

@@ -9,7 +9,7 @@ ghost use Rattle.table_meaning.specs.Reads.{Reads};
 ghost use Rattle.table_meaning.specs.Rows.{columns_of};
 ghost use Rattle.table_meaning.specs.declared.rows.StoredRow.TheVariants as stored;
 ghost use Rattle.table_worlds.specs.ReadBack.{job_in};
-ghost use Rattle.table_desk.specs.Asked.{Asked};
+ghost use Rattle.table_desk.specs.Asked.{LooksUp};
 
 use sched_book::limits::MOST_INSTANCES;
 use sched_book::{App, Cause, Instance, Invariant, Unavailable, Workunit};
@@ -27,7 +27,7 @@ pub fn unit_by_name<S: Alter>(
     name: &str,
 ) -> Result<Option<u32>, Unavailable>
     ensures reads { Reads (state S.Store conn.old) (state S.Store conn.new) }
-    ensures answer { Asked S.Store conn.old conn.new (λ w. IfOk result (λ r. r ≡ unit_named w name.now)) }
+    ensures answer { LooksUp S.Store conn.old conn.new (λ w. IfOk result (λ r. r ≡ unit_named w name.now)) }
 {
     Ok(unit_named(alloc, conn, name)?)
 }
@@ -41,7 +41,7 @@ pub fn unit_at<S: Alter>(
     unit: u32,
 ) -> Result<Option<Workunit>, Unavailable>
     ensures reads { Reads (state S.Store conn.old) (state S.Store conn.new) }
-    ensures answer { Asked S.Store conn.old conn.new (λ w. apps.now ≡ w.apps → IfOk result (λ r. r ≡ workunit_at w unit)) }
+    ensures answer { LooksUp S.Store conn.old conn.new (λ w. apps.now ≡ w.apps → IfOk result (λ r. r ≡ workunit_at w unit)) }
     ensures limits { IfOk result (λ r. IfSome r IsUnitInLimits) }
 {
     let Some(row) = unit_of(alloc, conn, unit)? else {
@@ -62,7 +62,7 @@ pub fn instance_at<S: Alter>(
     number: u32,
 ) -> Result<Option<Instance>, Unavailable>
     ensures reads { Reads (state S.Store conn.old) (state S.Store conn.new) }
-    ensures answer { Asked S.Store conn.old conn.new (λ w. IfOk result (λ r. r ≡ job_at w (record { unit = unit; number = number }))) }
+    ensures answer { LooksUp S.Store conn.old conn.new (λ w. IfOk result (λ r. r ≡ job_at w (record { unit = unit; number = number }))) }
     ensures limits { IfOk result (λ r. IfSome r IsInstanceInLimits) }
 {
     match instance_of(alloc, conn, unit, number)? {
@@ -93,7 +93,7 @@ pub fn instances_at<S: Alter>(
     ensures reads { Reads (state S.Store conn.old) (state S.Store conn.new) }
     ensures few { IfOk result (λ r. length r ≤ most_instances) }
     ensures limits { IfOk result (λ r. All IsInstanceInLimits r) }
-    ensures answer { Asked S.Store conn.old conn.new (λ w. IfOk result (λ r. r ≡ instances_within w unit)) }
+    ensures answer { LooksUp S.Store conn.old conn.new (λ w. IfOk result (λ r. r ≡ instances_within w unit)) }
 {
     let rows = instances_in(alloc, conn, unit)?;
     if rows.len() > MOST_INSTANCES {

@@ -25,7 +25,7 @@ use Rattle.table_meaning.specs.declared.tables.TableName.{TableName}
 use Rattle.table_meaning.specs.declared.tables.TableName.TheVariants.{Setting, Account, App, Version, Unit, Host, Instance, Kept, Batch, VersionClass, UnitMark}
 use Rattle.table_meaning.specs.Kinds.{Kind, number}
 use Rattle.table_meaning.specs.Layouts.{Key, numbered, by_first, layout_of, names}
-use Rattle.table_meaning.specs.Schema.{newest, tables_at, layouts_at, stored_schema, table_by, place_of}
+use Rattle.table_meaning.specs.Schema.{newest, tables_at, layouts_at, stored_schema, table_by, table_place}
 use Rattle.table_meaning.specs.Texts.{read_text, key_text, put_text}
 use Rattle.table_meaning.specs.Rows.{tree_of, places_of, key_places, shown}
 use Rattle.table_meaning.specs.Formats.{kinds_of}
@@ -62,7 +62,7 @@ BeginsBy (by_first n) kinds = ⊤
 
 pub record Computed (t : TableName) : Type 0 where
   -- the table among the others
-  pub listed : slice_get stored_schema.tables (place_of t) ≡ Some (table_by t)
+  pub listed : slice_get stored_schema.tables (table_place t) ≡ Some (table_by t)
   pub found : find (λ other. tree_of other == tree_of t) (tables_at newest) ≡ Some t
   pub stands : list_any (λ l. l.tree == tree_of t) (layouts_at newest) ≡ true
   pub own : (db : Trees) → overlay db [] (tree_of t) ≡ db (tree_of t)
@@ -71,7 +71,7 @@ pub record Computed (t : TableName) : Type 0 where
   pub reads : IsRead t
   pub quiet : IsQuiet (first (read_text t))
   pub reads_key : ReadsByKey t (places_of t) (names_of t) (key_text t)
-  pub puts : command_of (understood stored_schema (put_text t)) ≡ put_command (place_of t) (put_terms (key_by t) (count_of t)) (count_of t + 1) (update_at (key_places t) (tree_of t) (count_of t) (set_terms (key_by t) (count_of t)))
+  pub puts : command_of (understood stored_schema (put_text t)) ≡ put_command (table_place t) (put_terms (key_by t) (count_of t)) (count_of t + 1) (update_at (key_places t) (tree_of t) (count_of t) (set_terms (key_by t) (count_of t)))
   pub plain_text : IsPlain (understood stored_schema (put_text t))
   -- what happens to the columns of a row that is put
   pub values : (c : Row) → value_rows (stamped (table_by t) (written_out t c)) (count_of t + 1) (length (put_terms (key_by t) (count_of t)) / (count_of t + 1)) (put_terms (key_by t) (count_of t))

@@ -9,7 +9,7 @@ use Rattle.sqlite.specs.Effect.{Database}
 use Rattle.sqlite.specs.Listing.{understood}
 use Rattle.table_meaning.specs.Schema.{no_schema, parts, parts_at, schema_at, newest}
 use Rattle.table_meaning.specs.Texts.{Made, definitions}
-use Rattle.table_meaning.specs.Making.{with_made, MakeInTurn, AreFree, IsLeft, no_rows, rows_at}
+use Rattle.table_meaning.specs.Making.{with_made, MakeInTurn, AreFree, AreStillToMake, no_rows, rows_at}
 use Rattle.table_meaning.specs.Schemas.{IsEarlier, definitions_between}
 use Rattle.table_meaning.proofs.EachSchema.{made_by, of_schema, of_step}
 use Rattle.table_meaning.proofs.SchemaTables.{each_tree}
@@ -53,7 +53,7 @@ none_have : (schema : Schema) (all : List (List ℕ × Made)) → AreFree no_row
 none_have schema [] = tt
 none_have schema (d ∷ all) = (refl, none_have (with_made schema d.1) all)
 
-pub none_made : (n : ℕ) → n ≤ newest → (db : Database) → db.schema ≡ no_schema → IsLeft (schema_at n) no_rows (definitions_between 0 n) db
+pub none_made : (n : ℕ) → n ≤ newest → (db : Database) → db.schema ≡ no_schema → AreStillToMake (schema_at n) no_rows (definitions_between 0 n) db
 none_made n within db none = record {
   makes = subst (λ s. MakeInTurn s (definitions_between 0 n)) (sym none) (make_in_turn n within);
   whole = subst (λ s. made_by s (definitions_between 0 n) ≡ schema_at n) (sym none) (makes_schema n within);
@@ -67,7 +67,7 @@ none_made n within db none = record {
 rows_stay : (n : ℕ) (trees : Trees) → AllByRecursion (λ t. trees t.tree ≡ rows_at n trees t.tree) (schema_at n).tables
 rows_stay n trees = each_tree n (λ tree. trees tree ≡ rows_at n trees tree) (λ tree has. sym (ap (λ b. cond b (trees tree) []) has))
 
-pub next_left : (n : ℕ) → IsEarlier n → (db : Database) → db.schema ≡ schema_at n → IsLeft (schema_at (n + 1)) (rows_at n db.trees) (definitions_between n (n + 1)) db
+pub next_left : (n : ℕ) → IsEarlier n → (db : Database) → db.schema ≡ schema_at n → AreStillToMake (schema_at (n + 1)) (rows_at n db.trees) (definitions_between n (n + 1)) db
 next_left n earlier db is =
     let it = of_step n earlier in
     record {

@@ -14,7 +14,7 @@ use Rattle.table_meaning.specs.declared.rows.StoredUnit.{StoredUnit}
 use Rattle.table_meaning.specs.declared.rows.StoredRow.{StoredRow}
 use Rattle.table_meaning.specs.declared.rows.StoredRow.TheVariants.{Setting, Account, App, Version, Unit, Host, Instance, Kept, Batch, VersionClass, UnitMark}
 use Rattle.table_meaning.specs.Kept.{number_of}
-use Rattle.table_meaning.specs.Rows.{columns_of, setting_value, whole, key_places, table_of, key_columns, key_of, RowKey, setting_key, account_key, app_key, version_key, unit_key, host_key, instance_key, kept_key, batch_key, class_key, mark_key, table_at}
+use Rattle.table_meaning.specs.Rows.{columns_of, setting_value, whole, key_places, table_of, key_columns, row_key_of, RowKey, setting_key, account_key, app_key, version_key, unit_key, host_key, instance_key, kept_key, batch_key, class_key, mark_key, table_at}
 use Rattle.table_meaning.specs.Kinds.{number, integer, words, optional, either}
 use Rattle.table_meaning.specs.Layouts.{layout_of, of_key}
 use Rattle.table_meaning.specs.Formats.{kinds_of}
@@ -170,7 +170,7 @@ typed (Instance x) = λ i. or_number x.host_id i && (or_integer x.sent i && (or_
 typed (UnitMark m) = λ i. or_words m.class i && true
 typed _ = refl
 
-pub key_first : (row : StoredRow) → of_key (layout_of (table_of row)) (columns_of row) ≡ key_columns (key_of row)
+pub key_first : (row : StoredRow) → of_key (layout_of (table_of row)) (columns_of row) ≡ key_columns (row_key_of row)
 key_first (Setting s) = refl
 key_first _ = refl
 

@@ -26,10 +26,10 @@ use Rattle.table_meaning.specs.declared.tables.TableName.TheVariants.{Setting}
 use Rattle.table_meaning.specs.declared.rows.StoredRow.{StoredRow}
 use Rattle.table_meaning.specs.declared.rows.StoredRow.TheVariants.{Version, Kept}
 use Rattle.table_meaning.specs.declared.rows.StoredVersion.{StoredVersion}
-use Rattle.table_meaning.specs.Layouts.{former_kept, places_in}
-use Rattle.table_meaning.specs.Schema.{newest, layouts_at, no_schema, schema_at, table_by, place_of}
+use Rattle.table_meaning.specs.Layouts.{former_kept, column_places}
+use Rattle.table_meaning.specs.Schema.{newest, layouts_at, no_schema, schema_at, table_by, table_place}
 use Rattle.table_meaning.specs.Texts.{Made}
-use Rattle.table_meaning.specs.Rows.{tree_of, whole, table_of, columns_of, RowKey, kept_key, version_key, unit_key, class_key, mark_key, table_at, key_of, look_up}
+use Rattle.table_meaning.specs.Rows.{tree_of, whole, table_of, columns_of, RowKey, kept_key, version_key, unit_key, class_key, mark_key, table_at, row_key_of, look_up}
 use Rattle.table_meaning.specs.ByKey.{key_tests}
 use Rattle.table_meaning.specs.Holding.{Contents}
 use Rattle.table_meaning.specs.Worlds.{call_row}
@@ -135,12 +135,12 @@ pub record OfFill (f : Fill) : Type 0 where
   pub plain_next : IsPlain (understood (schema_at (schema_with f)) (next_text f))
   pub unlisted : reads_listing (schema_at (schema_with f)) (next_text f) ≡ false
   -- and the text that fills
-  pub fills : command_of (understood (schema_at (schema_with f)) (fill_text f)) ≡ copy_command (place_of (target_of f)) (fill_query f)
+  pub fills : command_of (understood (schema_at (schema_with f)) (fill_text f)) ≡ copy_command (table_place (target_of f)) (fill_query f)
   pub plain_text : IsPlain (understood (schema_at (schema_with f)) (fill_text f))
-  pub listed : slice_get (schema_at (schema_with f)).tables (place_of (target_of f)) ≡ Some (table_by (target_of f))
+  pub listed : slice_get (schema_at (schema_with f)).tables (table_place (target_of f)) ≡ Some (table_by (target_of f))
   pub own : (trees : Trees) → overlay trees [] (source_of f).tree ≡ trees (source_of f).tree
   pub unstamped : (n : ℕ) → stamped (table_by (target_of f)) (whole n ∷ []) ≡ whole n ∷ []
-  pub shows : (params r : Row) → eval_all (fill_terms f) (params ∷ r ∷ []) ≡ source_by (key_by (target_of f)) (filled_columns f (map (column r) (places_in (source_of f))))
+  pub shows : (params r : Row) → eval_all (fill_terms f) (params ∷ r ∷ []) ≡ source_by (key_by (target_of f)) (filled_columns f (map (column r) (column_places (source_of f))))
   -- the tables exist, and the filled one differs from the other two
   pub is_schema : IsSchema (schema_with f)
   pub source_exists : has_tree (schema_with f) (source_of f).tree ≡ true
@@ -150,7 +150,7 @@ pub record OfFill (f : Fill) : Type 0 where
   pub calls_apart : former_kept.tree ≢ tree_of (target_of f)
   -- the key of the row that is put
   pub from_key : (n : ℕ) → filled_from f (filled_key f n) ≡ Some n
-  pub row_key : (n : ℕ) (c : Row) → key_of (filled_row f n c) ≡ filled_key f n
+  pub row_key : (n : ℕ) (c : Row) → row_key_of (filled_row f n c) ≡ filled_key f n
   pub row_table : (n : ℕ) (c : Row) → table_of (filled_row f n c) ≡ target_of f
   -- the source has the rows of these calls and contents
   pub rows_are : (calls : HostCalls) (contents : Contents) (trees : Trees) → ((key : RowKey) → has_table (schema_with f) (table_at key) ≡ true → look_up trees key ≡ option_map columns_of (contents key))
@@ -186,7 +186,7 @@ version_of _ is = absurd (true≢false (sym is))
 module _ (calls : HostCalls) (contents : Contents) where
   -- each row of the source is a row of its tree, with its number
   abbrev pub HaveNumbers : Fill → Type 0
-  HaveNumbers f = (n : ℕ) (c : Row) → taken_from calls contents f n ≡ Some c → (r : Row) × (map (column r) (places_in (source_of f)) ≡ c) × (rowid r ≡ whole n)
+  HaveNumbers f = (n : ℕ) (c : Row) → taken_from calls contents f n ≡ Some c → (r : Row) × (map (column r) (column_places (source_of f)) ≡ c) × (rowid r ≡ whole n)
 
   -- the row at the key of a version is a version
   version_at : HaveNumbers Classes → (n : ℕ) (row : StoredRow) → contents (version_key n) ≡ Some row → (v : StoredVersion) × (row ≡ Version v) × (whole v.id ≡ whole n)

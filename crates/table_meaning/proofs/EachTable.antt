@@ -5,12 +5,12 @@ use Rattle.std.specs.List.{AllByRecursion}
 use Rattle.sqlite_schema.specs.declared.schema.Table.{Table}
 use Rattle.sqlite_keyed.proofs.ListLemmas.{all-slice_get}
 use Rattle.table_meaning.specs.declared.tables.TableName.{TableName}
-use Rattle.table_meaning.specs.Schema.{newest, tables_at, stored_schema, table_by, place_of}
+use Rattle.table_meaning.specs.Schema.{newest, tables_at, stored_schema, table_by, table_place}
 use Rattle.table_meaning.specs.Rows.{tree_of}
 use Rattle.table_meaning.proofs.ByComputing.{computed}
 
 pub of_each : (P : Table → Type 0) → AllByRecursion P stored_schema.tables → (t : TableName) → P (table_by t)
-of_each P all t = all-slice_get P stored_schema.tables (place_of t) (table_by t) (computed t).listed all
+of_each P all t = all-slice_get P stored_schema.tables (table_place t) (table_by t) (computed t).listed all
 
 pub same_table : (a b : TableName) → tree_of a ≡ tree_of b → a ≡ b
 same_table a b same =

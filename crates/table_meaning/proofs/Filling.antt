@@ -26,9 +26,9 @@ use Rattle.sqlite.specs.State.{State, Executes}
 use Rattle.table_meaning.specs.declared.tables.Fill.{Fill}
 use Rattle.table_meaning.specs.declared.tables.TableName.{TableName}
 use Rattle.table_meaning.specs.declared.rows.StoredRow.{StoredRow}
-use Rattle.table_meaning.specs.Layouts.{Layout, former_kept, places_in}
-use Rattle.table_meaning.specs.Schema.{schema_at, table_by, place_of}
-use Rattle.table_meaning.specs.Rows.{tree_of, key_places, shown, table_of, columns_of, RowKey, whole, table_at, key_of, slots_of, key_columns, has_key, same_key, look_up}
+use Rattle.table_meaning.specs.Layouts.{Layout, former_kept, column_places}
+use Rattle.table_meaning.specs.Schema.{schema_at, table_by, table_place}
+use Rattle.table_meaning.specs.Rows.{tree_of, key_places, shown, table_of, columns_of, RowKey, whole, table_at, row_key_of, slots_of, key_columns, has_key, same_row_key, look_up}
 use Rattle.table_meaning.specs.ByKey.{key_tests}
 use Rattle.table_meaning.specs.Holding.{AreApart, Contents, HaveKeys, with_row}
 use Rattle.table_meaning.specs.Schemas.{has_tree, has_table, HoldAt}
@@ -117,7 +117,7 @@ begun f db contents rows holds none kept = record {
 keeps_rows : (l : Layout) (old new : Trees) (rows : NumberedRows) → new l.tree ≡ old l.tree → Keeps l old rows → Keeps l new rows
 keeps_rows l old new rows same kept = record {
   ordered = subst (IsShaped TableTree) (sym same) kept.ordered;
-  kept = λ n. ap (λ all. option_map (λ row. map (column row) (places_in l)) (find (is_of n) all)) same ∙ kept.kept n;
+  kept = λ n. ap (λ all. option_map (λ row. map (column row) (column_places l)) (find (is_of n) all)) same ∙ kept.kept n;
 }
 
 -- a fill keeps the calls of the first schema
@@ -152,11 +152,11 @@ hold_unchanged m t old new schema sound applies contents holds = record {
 -- the rows below one number more
 module _ (f : Fill) (contents : Contents) (rows : NumberedRows) (n : ℕ) (c : Row) (is : rows n ≡ Some c) where
   filled_more : (key : RowKey) → with_row (with_filled f contents (below n rows)) (filled_row f n c) key ≡ with_filled f contents (below (n + 1) rows) key
-  filled_more key = go (same_key key (key_of (filled_row f n c))) refl
+  filled_more key = go (same_row_key key (row_key_of (filled_row f n c))) refl
     where
-      go : (put : Bool) → same_key key (key_of (filled_row f n c)) ≡ put → cond put (Some (filled_row f n c)) (with_filled f contents (below n rows) key) ≡ with_filled f contents (below (n + 1) rows) key
+      go : (put : Bool) → same_row_key key (row_key_of (filled_row f n c)) ≡ put → cond put (Some (filled_row f n c)) (with_filled f contents (below n rows) key) ≡ with_filled f contents (below (n + 1) rows) key
       go true here =
-          let one : key ≡ filled_key f n = one_key key (key_of (filled_row f n c)) here ∙ (of_fill f).row_key n c in
+          let one : key ≡ filled_key f n = one_key key (row_key_of (filled_row f n c)) here ∙ (of_fill f).row_key n c in
           let low : nat_lt n (n + 1) ≡ true = grind arith in
           sym (ap (with_filled f contents (below (n + 1) rows)) one
           ∙ ap (λ o. unwrap_or (option_map (λ k. option_map (filled_row f k) (below (n + 1) rows k)) o) (contents (filled_key f n))) ((of_fill f).from_key n)
@@ -167,7 +167,7 @@ module _ (f : Fill) (contents : Contents) (rows : NumberedRows) (n : ℕ) (c : R
               → unwrap_or (option_map (λ k. option_map (filled_row f k) (below n rows k)) o) (contents key) ≡ unwrap_or (option_map (λ k. option_map (filled_row f k) (below (n + 1) rows k)) o) (contents key)
           turn None none = refl
           turn (Some k) from =
-              let elsewhere : k ≢ n = λ same. both_ways _ apart (subst (λ at. same_key at (key_of (filled_row f n c)) ≡ true) ((of_fill f).row_key n c ∙ ap (filled_key f) (sym same) ∙ sym (key_back f key k from)) (key_itself (key_of (filled_row f n c)))) in
+              let elsewhere : k ≢ n = λ same. both_ways _ apart (subst (λ at. same_row_key at (row_key_of (filled_row f n c)) ≡ true) ((of_fill f).row_key n c ∙ ap (filled_key f) (sym same) ∙ sym (key_back f key k from)) (key_itself (row_key_of (filled_row f n c)))) in
               let same : nat_lt k n ≡ nat_lt k (n + 1) = grind (arith, elsewhere) in
               ap (option_map (filled_row f k)) (ap (λ b. cond b (rows k) None) same)
 
@@ -186,14 +186,14 @@ module _ (f : Fill) (n : ℕ) (old new : State) (count : ℕ) (h : Executes (fil
 
   -- the row that is put for a row of the source
   abbrev put_of : Row → Row
-  put_of r = source_by (key_by t) (filled_columns f (map (column r) (places_in l)))
+  put_of r = source_by (key_by t) (filled_columns f (map (column r) (column_places l)))
 
   ran : (new.now.schema ≡ schema_at m) × IsDatabase new.now × (all : List Row) × (all ≡ map put_of (filter (is_of n) (trees l.tree)))
       × Applies (schema_at m) Enforced trees (edit_of trees (table_by t) [] Chosen 0 all) new.now.trees
   ran =
       let it = of_fill f in
       let params = whole n ∷ [] in
-      let went = inserts (schema_at m) (no_acts m) (fill_text f) params old new filled.holds.known.schema (place_of t) (table_by t) (fill_query f) it.fills it.plain_text it.listed refl (it.unstamped n) count h in
+      let went = inserts (schema_at m) (no_acts m) (fill_text f) params old new filled.holds.known.schema (table_place t) (table_by t) (fill_query f) it.fills it.plain_text it.listed refl (it.unstamped n) count h in
       let all = projected_rows trees l.tree (key_tests 0 (0 ∷ [])) params (is_of n) (it.own trees) filled.kept.ordered (λ x. tests_key (0 ∷ []) 0 params (as_row x)) (fill_terms f)
       (map (λ _. Binary) (fill_terms f)) (lit (Int (negsuc 0))) went.2 went.3 in
       (went.0, went.1, went.2, all ∙ map_same _ put_of (it.shows params) (filter (is_of n) (trees l.tree)), went.4)
@@ -212,7 +212,7 @@ module _ (f : Fill) (n : ℕ) (old new : State) (count : ℕ) (h : Executes (fil
   filled_none none each =
       let all : ran.2 ≡ [] = ran.3 ∙ ap (map put_of) (filter_none (is_of n) _ (all_from (λ x. is_of n x ≡ false) _ each)) in
       let applies = subst (λ rs. Applies (schema_at m) Enforced trees (edit_of trees (table_by t) [] Chosen 0 rs) new.now.trees) all ran.4 in
-      let no : rows n ≡ None = sym (filled.kept.kept n) ∙ ap (option_map (λ row. map (column row) (places_in l))) none in
+      let no : rows n ≡ None = sym (filled.kept.kept n) ∙ ap (option_map (λ row. map (column row) (column_places l))) none in
       record {
         holds = hold_rows f contents new.now (below n rows) (below (n + 1) rows)
             (below_same n (n + 1) rows (omega arith) (λ k le lt. let here : k ≡ n = omega (arith, le, lt) in ap rows here ∙ no)) (hold_unchanged m t old.now new.now ran.0 ran.1 applies _ filled.holds);
@@ -230,7 +230,7 @@ module _ (f : Fill) (n : ℕ) (old new : State) (count : ℕ) (h : Executes (fil
     is_free id named x has = false_from_ne_true _ (λ same.
         let u = table_of row in
         let raw = Int id ∷ behind u (columns_of row) in
-        let key = key_of row in
+        let key = row_key_of row in
         let shows : shown u raw ≡ columns_of row = (facts u (columns_of row) (typed row)).shows id named in
         let here : has_key key x ≡ true = agree_back plain (slots_of key) (key_places u) (key_columns key) x
         (sym (agree_from plain (key_places u) (slots_of key) (key_places u) raw (key_columns key) x (row_key_shown row raw shows)) ∙ agree_back plain (key_places u) (key_places u) x raw same) in
@@ -262,8 +262,8 @@ module _ (f : Fill) (n : ℕ) (old new : State) (count : ℕ) (h : Executes (fil
 
   filled_found : (r : Row) → find (is_of n) (trees l.tree) ≡ Some r → Has (trees l.tree) r → is_of n r ≡ true → Filled f (n + 1) start new.now contents rows
   filled_found r first has same =
-      let c = map (column r) (places_in l) in
-      let is : rows n ≡ Some c = sym (filled.kept.kept n) ∙ ap (option_map (λ row. map (column row) (places_in l))) first in
+      let c = map (column r) (column_places l) in
+      let is : rows n ≡ Some c = sym (filled.kept.kept n) ∙ ap (option_map (λ row. map (column row) (column_places l))) first in
       let number : rowid r ≡ whole n = number_is (trees l.tree) filled.kept.ordered n r has same in
       let alone : filter (is_of n) (trees l.tree) ≡ r ∷ [] = only [] (trees l.tree) r (pos n) filled.kept.ordered has number (is_of n) (compares number) in
       filled_one c is (ran.3 ∙ ap (map put_of) alone ∙ ap (λ columns. source_by (key_by t) columns ∷ []) (fit n c is))

@@ -15,8 +15,8 @@ use Rattle.sqlite_schema.specs.Rules.{agree, equal}
 use Rattle.sqlite_keyed.proofs.KeyedLemmas.{same_int}
 use Rattle.sqlite_typed.proofs.TestLemmas.{at_ints, at_texts, same_bytes, bytes_eq_refl}
 use Rattle.table_meaning.specs.declared.rows.StoredRow.{StoredRow}
-use Rattle.table_meaning.specs.Rows.{tree_of, RowKey, table_at, key_columns, key_of, same_key}
-use Rattle.table_meaning.specs.Holding.{Contents, with_row, with_rows}
+use Rattle.table_meaning.specs.Rows.{tree_of, RowKey, table_at, key_columns, row_key_of, same_row_key}
+use Rattle.table_meaning.specs.Holding.{Contents, with_row, with_stored_rows}
 use Rattle.table_meaning.proofs.EachRow.{is_cell, is_key_row, key_from, key_is}
 use Rattle.table_meaning.proofs.EachTable.{same_table}
 
@@ -46,7 +46,7 @@ same_columns (v ∷ []) _ p q h = absurd (true≢false (sym q))
 same_columns (v ∷ v' ∷ []) _ p q h = absurd (true≢false (sym q))
 same_columns _ ys p q h = absurd (true≢false (sym p))
 
-pub one_key : (a b : RowKey) → same_key a b ≡ true → a ≡ b
+pub one_key : (a b : RowKey) → same_row_key a b ≡ true → a ≡ b
 one_key a b h =
     let parts = and_parts (tree_of (table_at a) == tree_of (table_at b)) _ h in
     let table = same_table (table_at a) (table_at b) (eqb-true _ _ parts.0) in
@@ -65,21 +65,21 @@ columns_themselves (v ∷ []) h = and_from _ _ (cell_itself v h) refl
 columns_themselves (v ∷ u ∷ []) h = let cells = and_parts (is_cell v) (is_cell u) h in and_from _ _ (cell_itself v cells.0) (and_from _ _ (cell_itself u cells.1) refl)
 columns_themselves _ h = absurd (true≢false (sym h))
 
-pub key_itself : (key : RowKey) → same_key key key ≡ true
+pub key_itself : (key : RowKey) → same_row_key key key ≡ true
 key_itself key = and_from _ _ (eq-eqb (tree_of (table_at key)) _ refl) (columns_themselves (key_columns key) (key_is key).0)
 
 -- ---- what is held after rows are put
 
 abbrev pub is_put : List StoredRow → RowKey → Bool
-is_put rows key = list_any (λ row. same_key key (key_of row)) rows
+is_put rows key = list_any (λ row. same_row_key key (row_key_of row)) rows
 
 -- Suppose other contents have each of the rows that are put, and are the same where no row is put. Then they are the contents with these rows put.
-pub settled : (old new : Contents) (rows : List StoredRow) → AllByRecursion (λ row. new (key_of row) ≡ Some row) rows → ((key : RowKey) → is_put rows key ≡ false → old key ≡ new key)
-    → (key : RowKey) → with_rows old rows key ≡ new key
+pub settled : (old new : Contents) (rows : List StoredRow) → AllByRecursion (λ row. new (row_key_of row) ≡ Some row) rows → ((key : RowKey) → is_put rows key ≡ false → old key ≡ new key)
+    → (key : RowKey) → with_stored_rows old rows key ≡ new key
 settled old new [] each others key = others key refl
 settled old new (row ∷ rows) each others key =
-    settled (with_row old row) new rows each.1 (λ k none. step k none (same_key k (key_of row)) refl) key
+    settled (with_row old row) new rows each.1 (λ k none. step k none (same_row_key k (row_key_of row)) refl) key
   where
-    step : (k : RowKey) → is_put rows k ≡ false → (b : Bool) → same_key k (key_of row) ≡ b → with_row old row k ≡ new k
-    step k none true here = rw here (sym (ap new (one_key k (key_of row) here) ∙ each.0))
+    step : (k : RowKey) → is_put rows k ≡ false → (b : Bool) → same_row_key k (row_key_of row) ≡ b → with_row old row k ≡ new k
+    step k none true here = rw here (sym (ap new (one_key k (row_key_of row) here) ∙ each.0))
     step k none false here = rw here (others k (or_from _ _ here none))

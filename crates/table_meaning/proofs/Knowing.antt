@@ -30,7 +30,7 @@ use Rattle.sqlite_typed.proofs.TestLemmas.{at_ints, last_term}
 use Rattle.sqlite.specs.Effect.{Database, IsDatabase}
 use Rattle.table_meaning.specs.declared.tables.TableName.{TableName}
 use Rattle.table_meaning.specs.Layouts.{Key, numbered, by_first, layout_of, places_by, key_width}
-use Rattle.table_meaning.specs.Schema.{in_row, uniques_with, schema_at, table_by, place_of}
+use Rattle.table_meaning.specs.Schema.{in_row, uniques_with, schema_at, table_by, table_place}
 use Rattle.table_meaning.specs.Rows.{tree_of}
 use Rattle.table_meaning.specs.Holding.{AreApart}
 use Rattle.table_meaning.specs.Schemas.{IsSchema, has_table, AreKnownAt}
@@ -97,7 +97,7 @@ known_at_from n is db schema sound rising = record {
     unique : (t : TableName) → has_table n t ≡ true → (ps : List ℕ) (row : Row) → slice_get (table_by t).uniques 0 ≡ Some ps → Has (db.trees (tree_of t)) row
         → clashes plain ps (db.trees (tree_of t)) row ≡ false
     unique t stands ps row first has =
-        let listed : Has db.schema.tables (table_by t) = subst (λ s. Has s.tables (table_by t)) (sym schema) (has_got (schema_at n).tables (place_of t) (table_by t) (listed_at n is t stands)) in
+        let listed : Has db.schema.tables (table_by t) = subst (λ s. Has s.tables (table_by t)) (sym schema) (has_got (schema_at n).tables (table_place t) (table_by t) (listed_at n is t stands)) in
         subst (λ order. clashes order ps (db.trees (tree_of t)) row ≡ false) (orders_are (table_by t).uniques) (keys_are_unique db.schema db.trees (table_by t) 0 ps row sound listed first has)
 
 -- ---- a store keeps the numbers of each table's rows rising

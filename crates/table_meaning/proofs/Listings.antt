@@ -33,7 +33,7 @@ use Rattle.table_meaning.specs.Layouts.{numbered}
 use Rattle.table_meaning.specs.Schema.{stored_schema}
 use Rattle.table_meaning.specs.Rows.{tree_of, shown, rows_in, whole, columns_of, RowKey, table_at, key_columns, has_key}
 use Rattle.table_meaning.specs.Holding.{AreKnown, Contents, Hold}
-use Rattle.table_meaning.specs.Listings.{is_numbered, rows_where, standing, listing_query, is_first, credits_text, is_of_user, credit_in}
+use Rattle.table_meaning.specs.Listings.{is_numbered, rows_where, existing_rows, listing_query, is_first, credits_text, is_of_user, credit_in}
 use Rattle.table_meaning.proofs.Columns.{key_by}
 use Rattle.table_meaning.proofs.EachRow.{number_in, key_from, key_of_table}
 use Rattle.table_meaning.proofs.Enumerated.{is_at, shown_at, found_at, there, back}
@@ -127,11 +127,11 @@ module _ (t : TableName) (key : ℕ → RowKey) (by : IsByNumber t key) (db : Da
       above n le = grind (arith, ints)
 
   -- All of them are the rows at the keys 1, 2, .. in turn.
-  pub all_listed : rows_in db.trees t ≡ map columns_of (standing contents key 1 count)
+  pub all_listed : rows_in db.trees t ≡ map columns_of (existing_rows contents key 1 count)
   all_listed = ap (map (shown t)) in_turn ∙ shown_at db contents holds t key by.at numbers
 
   -- Those with a number above 0 that pass a test are the rows at these keys that pass.
-  pub listed : (test : Row → Bool) → rows_where db.trees t test ≡ filter test (map columns_of (standing contents key 1 count))
+  pub listed : (test : Row → Bool) → rows_where db.trees t test ≡ filter test (map columns_of (existing_rows contents key 1 count))
   listed test =
       ap (map (shown t)) (filter-passed (λ r. test (shown t r)) is_numbered rows ∙ ap (filter (λ r. test (shown t r))) (filter_all is_numbered rows each_numbered))
       ∙ sym (filter-map test (shown t) rows) ∙ ap (filter test) all_listed

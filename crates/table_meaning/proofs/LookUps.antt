@@ -14,7 +14,7 @@ use Rattle.table_meaning.specs.declared.tables.TableName.{TableName}
 use Rattle.table_meaning.specs.declared.rows.StoredRow.{StoredRow}
 use Rattle.table_meaning.specs.Schema.{newest, schema_at, stored_schema}
 use Rattle.table_meaning.specs.Schemas.{has_tree, has_table, HoldAt}
-use Rattle.table_meaning.specs.Rows.{tree_of, key_places, shown, table_of, columns_of, RowKey, table_at, key_columns, key_of, slots_of, has_key, same_key, look_up}
+use Rattle.table_meaning.specs.Rows.{tree_of, key_places, shown, table_of, columns_of, RowKey, table_at, key_columns, row_key_of, slots_of, has_key, same_row_key, look_up}
 use Rattle.table_meaning.specs.Steps.{AreNew}
 use Rattle.table_meaning.specs.Holding.{AreApart, AreKnown, Contents, HaveKeys, Hold, with_row}
 use Rattle.table_meaning.proofs.PutRows.{agree_from, find_puts, puts_shaped, puts_apart, puts_from}
@@ -68,31 +68,31 @@ module _ (n : ℕ) (row : StoredRow) (old new : Trees) (ran : PutsColumns n (tab
     | inl same ↦
         let is = same_table name t same in
         subst (λ m. HaveKeys m (new (tree_of m))) (sym is) (λ x there. elim (puts_from (key_places t) _ _ raw ran.2 x there) [
-          | inl here ↦ (key_of row, refl, ap (has_key (key_of row)) here ∙ has_own_key row raw (shows ran.0 ran.1))
+          | inl here ↦ (row_key_of row, refl, ap (has_key (row_key_of row)) here ∙ has_own_key row raw (shows ran.0 ran.1))
           | inr before ↦ subst (λ m. HaveKeys m (old (tree_of m))) is was x before
         ])
     | inr other ↦ subst (HaveKeys name) (sym (others (tree_of name) has other)) was
   ]
 
-  put_looks : (key : RowKey) → has_table n (table_at key) ≡ true → look_up new key ≡ cond (same_key key (key_of row)) (Some (columns_of row)) (look_up old key)
+  put_looks : (key : RowKey) → has_table n (table_at key) ≡ true → look_up new key ≡ cond (same_row_key key (row_key_of row)) (Some (columns_of row)) (look_up old key)
   put_looks key has = elim (cases_Bool (tree_of (table_at key) == tree_of t)) [
     | inl same ↦ rw same (subst (λ m. look m (slots_of key) (key_columns key) new
-        ≡ cond (agree plain (slots_of (key_of row)) (key_columns (key_of row)) (slots_of key) (key_columns key)) (Some (columns_of row)) (look m (slots_of key) (key_columns key) old))
+        ≡ cond (agree plain (slots_of (row_key_of row)) (key_columns (row_key_of row)) (slots_of key) (key_columns key)) (Some (columns_of row)) (look m (slots_of key) (key_columns key) old))
         (sym (same_table (table_at key) t (eqb-true _ _ same))) (here (slots_of key) (key_columns key)))
     | inr other ↦ rw other (ap (λ rows. option_map (shown (table_at key)) (find (has_key key) rows)) (others (tree_of (table_at key)) has (λ same. both_ways _ other (eq-eqb _ _ same))))
   ]
     where
-      here : (slots : List ℕ) (key : Row) → look t slots key new ≡ cond (agree plain (slots_of (key_of row)) (key_columns (key_of row)) slots key) (Some (columns_of row)) (look t slots key old)
+      here : (slots : List ℕ) (key : Row) → look t slots key new ≡ cond (agree plain (slots_of (row_key_of row)) (key_columns (row_key_of row)) slots key) (Some (columns_of row)) (look t slots key old)
       here slots key =
           ap (option_map (shown t)) (find_puts (key_places t) _ _ raw ran.2 slots key) ∙ turn (agree plain (key_places t) raw slots key)
-          ∙ ap (λ b. cond b (Some (columns_of row)) (look t slots key old)) (agree_from plain (key_places t) (slots_of (key_of row)) slots raw (key_columns (key_of row)) key (row_key_shown row raw (shows ran.0 ran.1)))
+          ∙ ap (λ b. cond b (Some (columns_of row)) (look t slots key old)) (agree_from plain (key_places t) (slots_of (row_key_of row)) slots raw (key_columns (row_key_of row)) key (row_key_shown row raw (shows ran.0 ran.1)))
         where
           turn : (b : Bool) → option_map (shown t) (cond b (Some raw) (find (λ r. agree plain (key_places t) r slots key) (old (tree_of t)))) ≡ cond b (Some (columns_of row)) (look t slots key old)
           turn true = ap Some (shows ran.0 ran.1)
           turn false = refl
 
   put_rows : (key : RowKey) (contents : Contents) → has_table n (table_at key) ≡ true → look_up old key ≡ option_map columns_of (contents key) → look_up new key ≡ option_map columns_of (with_row contents row key)
-  put_rows key contents has was = put_looks key has ∙ ap (λ o. cond (same_key key (key_of row)) (Some (columns_of row)) o) was ∙ turn (same_key key (key_of row)) (contents key)
+  put_rows key contents has was = put_looks key has ∙ ap (λ o. cond (same_row_key key (row_key_of row)) (Some (columns_of row)) o) was ∙ turn (same_row_key key (row_key_of row)) (contents key)
     where
       turn : (b : Bool) (o : Option StoredRow) → cond b (Some (columns_of row)) (option_map columns_of o) ≡ option_map columns_of (cond b (Some row) o)
       turn true o = refl

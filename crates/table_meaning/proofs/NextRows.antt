@@ -20,7 +20,7 @@ use Rattle.sqlite.specs.State.{State, Shown}
 use Rattle.sqlite.specs.Listing.{understood}
 use Rattle.sqlite.proofs.Callers.{IsPlain, reads_as}
 use Rattle.table_meaning.specs.declared.tables.Fill.{Fill}
-use Rattle.table_meaning.specs.Layouts.{Layout, places_in}
+use Rattle.table_meaning.specs.Layouts.{Layout, column_places}
 use Rattle.table_meaning.specs.Schema.{schema_at}
 use Rattle.table_meaning.specs.Rows.{whole}
 use Rattle.table_meaning.specs.Fills.{source_of, schema_with, next_text, numbered_row, IsNextRow}
@@ -84,7 +84,7 @@ module _ (l : Layout) (trees : Trees) (shaped : IsShaped TableTree (trees l.tree
 module _ (l : Layout) (trees : Trees) (shaped : IsShaped TableTree (trees l.tree)) (from : ℕ) where
   none_at : (host : ℕ) → from ≤ host → ((y : Numbered) → find (λ x. int_le (pos from) x.0) (in_turn l trees shaped) ≡ Some y → pos host <ℤ y.0) → numbered_row l trees host ≡ None
   none_at host le before =
-      ap (option_map (λ row. map (column row) (places_in l))) (found_at l trees shaped host ∙ ap (option_map as_row) (none_before (in_turn l trees shaped) (keyed l trees shaped) from host le before))
+      ap (option_map (λ row. map (column row) (column_places l))) (found_at l trees shaped host ∙ ap (option_map as_row) (none_before (in_turn l trees shaped) (keyed l trees shaped) from host le before))
 
   next_found : (first : Option Numbered) (next : Option ℕ) → find (λ (x : Numbered). int_le (pos from) x.0) (in_turn l trees shaped) ≡ first → option_map whole next ≡ option_map (λ (x : Numbered). Int x.0) first
       → IsNextRow l trees from next

@@ -27,7 +27,7 @@ use Rattle.table_meaning.specs.declared.tables.TableName.TheVariants.{Instance}
 use Rattle.table_meaning.specs.declared.rows.StoredRow.{StoredRow}
 use Rattle.table_meaning.specs.Rows.{shown, whole, columns_of, RowKey, instance_key, table_at, key_columns, has_key}
 use Rattle.table_meaning.specs.Holding.{Contents, Hold}
-use Rattle.table_meaning.specs.Places.{instance_at, place_row, IsBefore, AreAllPlaces, shows_passing, places_where, compares}
+use Rattle.table_meaning.specs.Places.{instance_row_at, place_row, IsBefore, AreAllPlaces, shows_passing, places_with_row, compares}
 use Rattle.table_meaning.proofs.EachRow.{typed, number_in, key_of_table}
 use Rattle.table_meaning.proofs.Enumerated.{IsAt, is_at, is_found, shown_at, found_at, same_rows}
 use Rattle.table_meaning.proofs.PlacesLists.{filter-passed, ascending-filter_map, filter-filter_map, shown_for_each}
@@ -128,10 +128,10 @@ module _ (db : Database) (contents : Contents) (holds : Hold db contents) (place
         itself r = rw (tied_itself value_cmp_total (column r 1), tied_itself value_cmp_total (column r 2)) refl
 
     abbrev pub passes_at : Place → Bool
-    passes_at p = shows_passing test (instance_at contents p)
+    passes_at p = shows_passing test (instance_row_at contents p)
 
     -- Their places are those that have an instance whose columns pass the test.
-    pub standing_places : map (λ r. column r 1 ∷ column r 2 ∷ []) standing ≡ map place_row (places_where contents test places)
+    pub standing_places : map (λ r. column r 1 ∷ column r 2 ∷ []) standing ≡ map place_row (places_with_row contents test places)
     standing_places =
         ap (map (λ (r : Row). column r 1 ∷ column r 2 ∷ [])) (filter-filter_map found passes passes_at same_test places) ∙ shown_for_each found (λ r. column r 1 ∷ column r 2 ∷ []) place_row passes_at each places
       where
@@ -139,9 +139,9 @@ module _ (db : Database) (contents : Contents) (holds : Hold db contents) (place
         same_test p r is = let it = at p r is in ap test it.shows ∙ sym (ap (shows_passing test) it.stands)
 
         each : (p : Place) → passes_at p ≡ true → (r : Row) × (found p ≡ Some r) × (column r 1 ∷ column r 2 ∷ [] ≡ place_row p)
-        each p passing = turn (instance_at contents p) refl
+        each p passing = turn (instance_row_at contents p) refl
           where
-            turn : (o : Option StoredRow) → instance_at contents p ≡ o → (r : Row) × (found p ≡ Some r) × (column r 1 ∷ column r 2 ∷ [] ≡ place_row p)
+            turn : (o : Option StoredRow) → instance_row_at contents p ≡ o → (r : Row) × (found p ≡ Some r) × (column r 1 ∷ column r 2 ∷ [] ≡ place_row p)
             turn None none = absurd (true≢false (sym passing ∙ ap (shows_passing test) none))
             turn (Some row) some =
                 let r = is_found db contents holds Instance key (λ q. refl) p row some in
@@ -150,7 +150,7 @@ module _ (db : Database) (contents : Contents) (holds : Hold db contents) (place
 
     -- If a test of places agrees with the test of rows, the rows are the instances at the places that pass it.
     pub standing_shown : (chosen : Place → Bool) → ((p : Place) (r : Row) → column r 1 ≡ whole p.unit → passes r ≡ chosen p)
-        → map (shown Instance) standing ≡ map columns_of (filter_map (instance_at contents) (filter chosen places))
+        → map (shown Instance) standing ≡ map columns_of (filter_map (instance_row_at contents) (filter chosen places))
     standing_shown chosen same =
         ap (map (shown Instance)) (filter-filter_map found passes chosen (λ p r is. same p r (placed p r is).0) places)
         ∙ shown_at db contents holds Instance key (λ p. refl) (filter chosen places)

@@ -8,7 +8,7 @@ use Rattle.sqlite_value.specs.Order.{Row}
 use Rattle.sqlite_keyed.proofs.ListLemmas.{ascending_weaker, ascending-filter}
 use Rattle.sqlite_keyed.proofs.SortLemmas.{sorted_unique}
 use Rattle.table_meaning.specs.Holding.{Contents}
-use Rattle.table_meaning.specs.Places.{instance_at, IsBefore, AreAllPlaces, shows_passing, places_where}
+use Rattle.table_meaning.specs.Places.{instance_row_at, IsBefore, AreAllPlaces, shows_passing, places_with_row}
 
 -- by the workunit, and then by the number
 abbrev pub place_order : Place → Place → Ordering
@@ -24,8 +24,8 @@ before_is_less a b (inr same) =
     let less : nat_cmp a.number b.number ≡ Less = grind arith in
     rw (here, less) refl
 
-pub sorted_places : (contents : Contents) (places : List Place) → AreAllPlaces contents places → (test : Row → Bool) (ps : List Place) → IsPermutation (places_where contents test places) ps → IsSorted place_order ps
-    → ps ≡ places_where contents test places
+pub sorted_places : (contents : Contents) (places : List Place) → AreAllPlaces contents places → (test : Row → Bool) (ps : List Place) → IsPermutation (places_with_row contents test places) ps → IsSorted place_order ps
+    → ps ≡ places_with_row contents test places
 sorted_places contents places are test ps same sorted =
-    sorted_unique place_order total (places_where contents test places) ps
-    (ascending-filter (λ a b. place_order a b ≡ Less) (λ p. shows_passing test (instance_at contents p)) places (ascending_weaker IsBefore (λ a b. place_order a b ≡ Less) before_is_less places are.rise)) same sorted
+    sorted_unique place_order total (places_with_row contents test places) ps
+    (ascending-filter (λ a b. place_order a b ≡ Less) (λ p. shows_passing test (instance_row_at contents p)) places (ascending_weaker IsBefore (λ a b. place_order a b ≡ Less) before_is_less places are.rise)) same sorted

@@ -26,7 +26,7 @@ use Rattle.table_meaning.specs.Rows.{shown, whole}
 use Rattle.table_meaning.specs.Formats.{columns_in}
 use Rattle.table_meaning.specs.Holding.{Contents, Hold}
 use Rattle.table_meaning.specs.Kept.{number_of}
-use Rattle.table_meaning.specs.Places.{place_row, AreAllPlaces, places_where, compares, is_of_host, is_running, is_held_by, waits_from, is_sent_between, is_due, by_place, newest_first, held_text, owned_text, queued_text, sent_text, due_text, running_terms, held_terms, owned_terms, queued_terms, sent_terms, due_terms, instance_query}
+use Rattle.table_meaning.specs.Places.{place_row, AreAllPlaces, places_with_row, compares, is_of_host, is_running, is_row_held_by, waits_from, is_sent_between, is_due, by_place, newest_first, held_text, owned_text, queued_text, sent_text, due_text, running_terms, held_terms, owned_terms, queued_terms, sent_terms, due_terms, instance_query}
 use Rattle.table_meaning.proofs.PlacesFound.{standing, standing_places}
 use Rattle.table_meaning.proofs.PlacesListed.{limited-map, picked, listed_somehow, listed_most, listed_in_order}
 use Rattle.table_meaning.proofs.PlacesTexts.{all, place_columns, held_is_listed, owned_is_listed, queued_is_listed, sent_is_listed, due_is_listed, place_names, ListsInstances}
@@ -75,7 +75,7 @@ module _ (old new : State) (contents : Contents) (held : Hold old.now contents) 
   module _ (text : List ℕ) (params : Row) (terms : List Term) (order : List (Term × Key)) (limit : Term) (means : ListsInstances terms place_columns order limit place_names text) (test : Row → Bool)
       (tests : (r : Row) → list_all (holds (params ∷ r ∷ [])) terms ≡ test (shown Instance r)) (rows : List Row) (h : Shown text params old new rows) (ps : List Place) (read : ArePlaces ps rows) where
     abbrev passing : List Place
-    passing = places_where contents test places
+    passing = places_with_row contents test places
 
     abbrev shown_places : List Row
     shown_places = picked old.now contents held places are terms params test tests []
@@ -110,25 +110,25 @@ module _ (old new : State) (contents : Contents) (held : Hold old.now contents) 
     at_most most is few = somehow (listed_most old.now contents held places are terms params test tests [] order limit rows answer most is (subst (λ n. n ≤ most) (sym as_many) few))
 
   pub held_shown : (host most : ℕ) (rows : List Row) → Shown held_text (whole host ∷ whole most ∷ []) old new rows → (ps : List Place) → ArePlaces ps rows
-      → length (places_where contents (is_held_by host) places) ≤ most → IsPermutation (places_where contents (is_held_by host) places) ps
+      → length (places_with_row contents (is_row_held_by host) places) ≤ most → IsPermutation (places_with_row contents (is_row_held_by host) places) ps
   held_shown host most rows h ps read few =
       let params = whole host ∷ whole most ∷ [] in
-      at_most held_text params held_terms newest_first (col 0 1) held_is_listed (is_held_by host) (λ r. then_term refl (then_term refl (running params r))) rows h ps read most refl few
+      at_most held_text params held_terms newest_first (col 0 1) held_is_listed (is_row_held_by host) (λ r. then_term refl (then_term refl (running params r))) rows h ps read most refl few
 
-  pub owned_shown : (host : ℕ) (rows : List Row) → Shown owned_text (whole host ∷ []) old new rows → (ps : List Place) → ArePlaces ps rows → ps ≡ places_where contents (is_of_host host) places
+  pub owned_shown : (host : ℕ) (rows : List Row) → Shown owned_text (whole host ∷ []) old new rows → (ps : List Place) → ArePlaces ps rows → ps ≡ places_with_row contents (is_of_host host) places
   owned_shown host rows h ps read = in_order owned_text (whole host ∷ []) owned_terms by_place all owned_is_listed (is_of_host host) (λ r. last_term refl) rows h ps read refl
 
   pub queued_shown : (from : Place) (most : ℕ) (rows : List Row) → Shown queued_text (whole from.unit ∷ whole from.number ∷ whole most ∷ []) old new rows → (ps : List Place) → ArePlaces ps rows
-      → ps ≡ take most (places_where contents (waits_from from) places)
+      → ps ≡ take most (places_with_row contents (waits_from from) places)
   queued_shown from most rows h ps read =
       in_order queued_text (whole from.unit ∷ whole from.number ∷ whole most ∷ []) queued_terms by_place (col 0 2) queued_is_listed (waits_from from) (queued from most) rows h ps read refl
 
   pub sent_shown : (host : ℕ) (from until : ℤ) (rows : List Row) → Shown sent_text (whole host ∷ Int from ∷ Int until ∷ []) old new rows → (ps : List Place) → ArePlaces ps rows
-      → length ps ≡ length (places_where contents (is_sent_between host from until) places)
+      → length ps ≡ length (places_with_row contents (is_sent_between host from until) places)
   sent_shown host from until rows h ps read =
       length_permutation _ _ (in_any_order sent_text (whole host ∷ Int from ∷ Int until ∷ []) sent_terms ((col 1 4, ascending Binary) ∷ []) all sent_is_listed (is_sent_between host from until)
       (sent host from until) rows h ps read refl)
 
-  pub due_shown : (from until : ℤ) (rows : List Row) → Shown due_text (Int from ∷ Int until ∷ []) old new rows → (ps : List Place) → ArePlaces ps rows → IsPermutation (places_where contents (is_due from until) places) ps
+  pub due_shown : (from until : ℤ) (rows : List Row) → Shown due_text (Int from ∷ Int until ∷ []) old new rows → (ps : List Place) → ArePlaces ps rows → IsPermutation (places_with_row contents (is_due from until) places) ps
   due_shown from until rows h ps read =
       in_any_order due_text (Int from ∷ Int until ∷ []) due_terms ((col 1 5, ascending Binary) ∷ []) all due_is_listed (is_due from until) (due from until) rows h ps read refl

@@ -29,7 +29,7 @@ use Rattle.sqlite.specs.State.{State, Executes}
 use Rattle.sqlite.specs.Listing.{understood}
 use Rattle.sqlite.proofs.Callers.{IsPlain, command_of}
 use Rattle.table_meaning.specs.declared.tables.TableName.{TableName}
-use Rattle.table_meaning.specs.Schema.{schema_at, table_by, place_of}
+use Rattle.table_meaning.specs.Schema.{schema_at, table_by, table_place}
 use Rattle.table_meaning.specs.Texts.{put_text}
 use Rattle.table_meaning.specs.Rows.{tree_of, key_places, shown}
 use Rattle.table_meaning.specs.Holding.{AreApart}
@@ -50,9 +50,9 @@ module _ (t : TableName) (c : Row) where
 
 -- What is computed with the text that puts a row at the schema of a number.
 pub record PutsAt (n : ℕ) (t : TableName) : Type 0 where
-  pub is : command_of (understood (schema_at n) (put_text t)) ≡ put_command (place_of t) (put_terms (key_by t) (count_of t)) (count_of t + 1) (update_at (key_places t) (tree_of t) (count_of t) (set_terms (key_by t) (count_of t)))
+  pub is : command_of (understood (schema_at n) (put_text t)) ≡ put_command (table_place t) (put_terms (key_by t) (count_of t)) (count_of t + 1) (update_at (key_places t) (tree_of t) (count_of t) (set_terms (key_by t) (count_of t)))
   pub plain_text : IsPlain (understood (schema_at n) (put_text t))
-  pub listed : slice_get (schema_at n).tables (place_of t) ≡ Some (table_by t)
+  pub listed : slice_get (schema_at n).tables (table_place t) ≡ Some (table_by t)
   pub meets : (c : Row) (id : ℤ) (x : Row) → conflicts (Some (key_places t)) (schema_at n).indexes (table_by t) (Int id ∷ columns_after_number (key_by t) (written_out t c)) x
       ≡ agree plain (key_places t) x (key_places t) (Int id ∷ columns_after_number (key_by t) (written_out t c))
 
@@ -138,6 +138,6 @@ module _ (n : ℕ) (stands : IsSchema n) (t : TableName) (c : Row) (f : Facts n 
   pub puts : (count : ℕ) → Executes (put_text t) c old new (Ok count) → (new.now.schema ≡ schema_at n) × IsDatabase new.now × PutsColumns n t c db new.now.trees
   puts count h =
       let first = f.begins rows in
-      let ran = settles (schema_at n) (no_acts n) (put_text t) c old new schema (place_of t) (table_by t) (put_terms (key_by t) (count_of t)) (count_of t + 1) (key_places t) (count_of t) columns f.at.is f.at.plain_text f.at.listed refl
+      let ran = settles (schema_at n) (no_acts n) (put_text t) c old new schema (table_place t) (table_by t) (put_terms (key_by t) (count_of t)) (count_of t + 1) (key_places t) (count_of t) columns f.at.is f.at.plain_text f.at.listed refl
       (source_by (key_by t) c) f.values count h in
       (ran.0, ran.1, ends new.now.trees first.0 first.1 (subst (λ m. Settles (schema_at n) db (table_by t) (key_places t) c clause m new.now.trees) first.2 ran.2))

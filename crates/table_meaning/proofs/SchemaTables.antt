@@ -10,11 +10,11 @@ use Rattle.sqlite.specs.Effect.{Database, IsDatabase}
 use Rattle.table_meaning.specs.declared.tables.TableName.{TableName}
 use Rattle.table_meaning.specs.declared.tables.TableName.TheVariants.{Setting}
 use Rattle.table_meaning.specs.Layouts.{Layout}
-use Rattle.table_meaning.specs.Schema.{newest, layouts_at, sql_table, schema_at, table_by, place_of}
+use Rattle.table_meaning.specs.Schema.{newest, layouts_at, sql_table, schema_at, table_by, table_place}
 use Rattle.table_meaning.specs.Rows.{tree_of, key_places, shown, columns_of, RowKey, table_at, has_key}
 use Rattle.table_meaning.specs.Holding.{AreApart, AreKnown, Contents, HaveKeys, Hold}
 use Rattle.table_meaning.specs.Schemas.{IsSchema, has_tree, has_table, AreKnownAt, HoldAt, only_at}
-use Rattle.table_meaning.specs.Making.{IsLeft, rows_at}
+use Rattle.table_meaning.specs.Making.{AreStillToMake, rows_at}
 use Rattle.table_meaning.proofs.ByComputing.{computed}
 use Rattle.table_meaning.proofs.EachSchema.{of_schema}
 
@@ -58,7 +58,7 @@ found_in_front p (x ∷ xs) ys any = go (p x) refl (found_in_front p xs ys)
         rw next (later (sym (ap (λ b. b || list_any p xs) other) ∙ any))
 
 -- the tables of a schema have their places among those of the newest
-pub listed_at : (n : ℕ) → IsSchema n → (t : TableName) → has_table n t ≡ true → slice_get (schema_at n).tables (place_of t) ≡ Some (table_by t)
+pub listed_at : (n : ℕ) → IsSchema n → (t : TableName) → has_table n t ≡ true → slice_get (schema_at n).tables (table_place t) ≡ Some (table_by t)
 listed_at n is t has =
     let p = λ (l : Layout). l.tree == tree_of t in
     let front = (of_schema n is).front in
@@ -96,7 +96,7 @@ known_newest db known = record {
 
 -- ---- a schema made from tables of another
 
-module _ (n m : ℕ) (old new : Database) (left : IsLeft (schema_at m) (rows_at n old.trees) [] new) where
+module _ (n m : ℕ) (old new : Database) (left : AreStillToMake (schema_at m) (rows_at n old.trees) [] new) where
   rows_are : (tree : ℕ) → has_tree m tree ≡ true → new.trees tree ≡ cond (has_tree n tree) (old.trees tree) []
   rows_are = at_tree m (λ tree. new.trees tree ≡ rows_at n old.trees tree) (subst (λ s. AllByRecursion (λ t. new.trees t.tree ≡ rows_at n old.trees t.tree) s.tables) left.whole left.same)
 

@@ -39,7 +39,7 @@ use Rattle.sqlite.specs.State.{State, mode_of, Executes}
 use Rattle.sqlite.specs.Listing.{understood}
 use Rattle.sqlite.proofs.Callers.{IsPlain, command_of, statement_of, runs_as, one_step, one_permutation}
 use Rattle.table_meaning.specs.declared.tables.TableName.{TableName}
-use Rattle.table_meaning.specs.Layouts.{Column, Layout, places_in}
+use Rattle.table_meaning.specs.Layouts.{Column, Layout, column_places}
 use Rattle.table_meaning.specs.Schema.{reference_at, sql_table, layouts_at, schema_at}
 use Rattle.table_meaning.specs.Upserts.{change_query, update_query, update_at, put_command}
 use Rattle.table_meaning.proofs.PlacesLists.{kept_for_each}
@@ -76,7 +76,7 @@ module _ (stored : Schema) (tree : ℕ) (olds news : List Row) where
 
   none_of_tables : (ls : List Layout) → flat_map (λ child. filter_map (work_for stored Enforced 0 tree olds news child) child.references) (map sql_table ls) ≡ []
   none_of_tables [] = refl
-  none_of_tables (l ∷ ls) = ap₂ (λ xs ys. xs ++ ys) (none_act (sql_table l) (zip (places_in l) l.columns)) (none_of_tables ls)
+  none_of_tables (l ∷ ls) = ap₂ (λ xs ys. xs ++ ys) (none_act (sql_table l) (zip (column_places l) l.columns)) (none_of_tables ls)
 
 pub no_acts : (n : ℕ) → HasNoActs (schema_at n)
 no_acts n tree olds news = none_of_tables (schema_at n) tree olds news (layouts_at n)

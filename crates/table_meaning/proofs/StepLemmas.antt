@@ -25,11 +25,11 @@ use Rattle.sqlite.proofs.Callers.{IsPlain, runs_as, survives_begin}
 use Rattle.sqlite.proofs.StateLemmas.{survives_then}
 use Rattle.table_meaning.specs.declared.tables.TableName.TheVariants.{Instance}
 use Rattle.table_meaning.specs.declared.rows.StoredRow.{StoredRow}
-use Rattle.table_meaning.specs.Schema.{newest, stored_schema, table_by, place_of}
+use Rattle.table_meaning.specs.Schema.{newest, stored_schema, table_by, table_place}
 use Rattle.table_meaning.specs.Texts.{Made, made_table, made_index, definitions, definition_texts, put_text, update_first}
-use Rattle.table_meaning.specs.Making.{with_made, MakeInTurn, AreFree, IsLeft, no_rows}
+use Rattle.table_meaning.specs.Making.{with_made, MakeInTurn, AreFree, AreStillToMake, no_rows}
 use Rattle.table_meaning.specs.Rows.{table_of, columns_of}
-use Rattle.table_meaning.specs.Holding.{Contents, Hold, with_row, with_rows}
+use Rattle.table_meaning.specs.Holding.{Contents, Hold, with_row, with_stored_rows}
 use Rattle.table_meaning.specs.Reads.{Reads}
 use Rattle.table_meaning.specs.Steps.{Moves, AreNew}
 use Rattle.table_meaning.proofs.EachTable.{of_each}
@@ -43,13 +43,13 @@ use Rattle.table_meaning.proofs.Updating.{updated}
 
 -- ---- rows put
 
-rows_and_one : (contents : Contents) (rows : List StoredRow) (row : StoredRow) → with_rows contents (rows ++ row ∷ []) ≡ with_row (with_rows contents rows) row
+rows_and_one : (contents : Contents) (rows : List StoredRow) (row : StoredRow) → with_stored_rows contents (rows ++ row ∷ []) ≡ with_row (with_stored_rows contents rows) row
 rows_and_one contents [] row = refl
 rows_and_one contents (r ∷ rows) row = rows_and_one (with_row contents r) rows row
 
 pub moved_more : (a b c : State) (rows : List StoredRow) (row : StoredRow) → Moves a b rows → Moves b c (row ∷ []) → Moves a c (rows ++ row ∷ [])
 moved_more a b c rows row first one =
-    record { inside = one.inside; puts = λ contents holds. subst (Hold c.now) (sym (rows_and_one contents rows row)) (one.puts (with_rows contents rows) (first.puts contents holds)) }
+    record { inside = one.inside; puts = λ contents holds. subst (Hold c.now) (sym (rows_and_one contents rows row)) (one.puts (with_stored_rows contents rows) (first.puts contents holds)) }
 
 pub row_moved : (row : StoredRow) (old new : State) (count : ℕ) → ExecutesInside 0 (put_text (table_of row)) (columns_of row) old new (Ok count) → Moves old new (row ∷ [])
 row_moved row old new count h = record {
@@ -73,8 +73,8 @@ row_updated row text is old new count h = record {
       let ran = updated t c f (changes_row t tried.0) (written_whole t c (typed row)) old new holds.known.schema (holds.known.ordered t) (holds.known.apart t) count
       (subst (λ sql. Executes sql c old new (Ok count)) tried.1 h.0) in
       elim ran.2 [
-        | inl none ↦ subst (λ n. Hold new.now (with_rows contents (if nat_lt 0 n then row ∷ [] else []))) (sym none.0) (hold_left old.now new.now ran.0 ran.1 none.1 contents holds)
-        | inr some ↦ subst (λ b. Hold new.now (with_rows contents (if b then row ∷ [] else []))) (sym (lt-ltb 0 count some.0)) (hold_put row old.now new.now ran.0 ran.1 some.1 contents holds)
+        | inl none ↦ subst (λ n. Hold new.now (with_stored_rows contents (if nat_lt 0 n then row ∷ [] else []))) (sym none.0) (hold_left old.now new.now ran.0 ran.1 none.1 contents holds)
+        | inr some ↦ subst (λ b. Hold new.now (with_stored_rows contents (if b then row ∷ [] else []))) (sym (lt-ltb 0 count some.0)) (hold_put row old.now new.now ran.0 ran.1 some.1 contents holds)
       ];
 }
 
@@ -197,8 +197,8 @@ next_made (d ∷ all) (suc count) (suc at) within below = next_made all count at
 
 -- the new tables, with their rows after the step
 module _ (wanted : Schema) (rows : Trees) where
-  left_with : (old new : Database) (text : List ℕ) (made : Made) (more : List (List ℕ × Made)) → IsLeft wanted rows ((text, made) ∷ more) old → new.schema ≡ with_made old.schema made
-      → AllByRecursion (λ t. new.trees t.tree ≡ rows t.tree) (with_made old.schema made).tables → IsLeft wanted rows more new
+  left_with : (old new : Database) (text : List ℕ) (made : Made) (more : List (List ℕ × Made)) → AreStillToMake wanted rows ((text, made) ∷ more) old → new.schema ≡ with_made old.schema made
+      → AllByRecursion (λ t. new.trees t.tree ≡ rows t.tree) (with_made old.schema made).tables → AreStillToMake wanted rows more new
   left_with old new text made more left schema same = record {
     makes = subst (λ s. MakeInTurn s more) (sym schema) left.makes.3;
     whole = subst (λ s. fold (λ s' d. with_made s' d.1) s more ≡ wanted) (sym schema) left.whole;
@@ -206,24 +206,24 @@ module _ (wanted : Schema) (rows : Trees) where
     same = subst (λ s. AllByRecursion (λ t. new.trees t.tree ≡ rows t.tree) s.tables) (sym schema) same;
   }
 
-  table_more : (text : List ℕ) (table : Table) (more : List (List ℕ × Made)) (old after new : Database) → IsLeft wanted rows ((text, made_table table) ∷ more) old
-      → CreatesTable old.schema text old.trees after.schema after.trees → MakesSequence after (Ok new) → IsLeft wanted rows more new
+  table_more : (text : List ℕ) (table : Table) (more : List (List ℕ × Made)) (old after new : Database) → AreStillToMake wanted rows ((text, made_table table) ∷ more) old
+      → CreatesTable old.schema text old.trees after.schema after.trees → MakesSequence after (Ok new) → AreStillToMake wanted rows more new
   table_more text table more old after new left it counts =
       let table_is = same_value (sym it.defined ∙ left.makes.0.1) in
       let schema : after.schema ≡ created old.schema table = it.is ∙ ap (created old.schema) table_is in
       let plain : lacks_sequence after.schema ≡ false = ap lacks_sequence schema ∙ left.makes.0.2 in
       let now : new ≡ after = same_value (rw plain at counts) in
       let same = all-append (λ t. after.trees t.tree ≡ rows t.tree) old.schema.tables _ (still_same rows old.schema.tables old.trees after.trees left.same it.others) (it.empty ∙ sym left.free.0, tt) in
-      subst (IsLeft wanted rows more) (sym now) (left_with old after text (made_table table) more left schema same)
+      subst (AreStillToMake wanted rows more) (sym now) (left_with old after text (made_table table) more left schema same)
 
-  index_more : (text : List ℕ) (index : Index) (more : List (List ℕ × Made)) (old new : Database) → IsLeft wanted rows ((text, made_index index) ∷ more) old
-      → CreatesIndex old.schema (table_by Instance) text old.trees new.schema new.trees → IsLeft wanted rows more new
+  index_more : (text : List ℕ) (index : Index) (more : List (List ℕ × Made)) (old new : Database) → AreStillToMake wanted rows ((text, made_index index) ∷ more) old
+      → CreatesIndex old.schema (table_by Instance) text old.trees new.schema new.trees → AreStillToMake wanted rows more new
   index_more text index more old new left it =
       let index_is = same_value (sym it.defined ∙ left.makes.0.2) in
       left_with old new text (made_index index) more left (it.is ∙ ap (indexed old.schema (table_by Instance)) index_is) (still_same rows old.schema.tables old.trees new.trees left.same it.rows)
 
-  made_more : (text : List ℕ) (made : Made) (more : List (List ℕ × Made)) (old new : State) (count : ℕ) → IsLeft wanted rows ((text, made) ∷ more) old.now → Executes text [] old new (Ok count)
-      → IsLeft wanted rows more new.now × IsDatabase new.now
+  made_more : (text : List ℕ) (made : Made) (more : List (List ℕ × Made)) (old new : State) (count : ℕ) → AreStillToMake wanted rows ((text, made) ∷ more) old.now → Executes text [] old new (Ok count)
+      → AreStillToMake wanted rows more new.now × IsDatabase new.now
   made_more text (made_table table) more old new count left h =
       let w = subst (λ t. Writes old new None CreateTable t [] count) left.makes.1 (runs_as text [] old new old.now.schema refl CreateTable left.makes.0.0 left.makes.2 count h) in
       let all = went w.changed in
@@ -231,27 +231,27 @@ module _ (wanted : Schema) (rows : Trees) where
       let now : new.now ≡ all.0 = ap (λ (p : Tally × Database). p.1) (same_value all.2) in
       (table_more text table more old.now first.0 new.now left first.1 (subst (λ d. MakesSequence first.0 (Ok d)) (sym now) first.2), w.sound)
   made_more text (made_index index) more old new count left h =
-      let w = subst (λ t. Writes old new None (CreateIndex (place_of Instance)) t [] count) left.makes.1 (runs_as text [] old new old.now.schema refl (CreateIndex (place_of Instance)) left.makes.0.0 left.makes.2 count h) in
+      let w = subst (λ t. Writes old new None (CreateIndex (table_place Instance)) t [] count) left.makes.1 (runs_as text [] old new old.now.schema refl (CreateIndex (table_place Instance)) left.makes.0.0 left.makes.2 count h) in
       let all = went (subst (λ o. AtPlace (λ table. Defines (mode_of old) (MakesIndex text old.now table)) o (Ok (w.tally, new.now))) left.makes.0.1 w.changed) in
       let now : new.now ≡ all.0 = ap (λ (p : Tally × Database). p.1) (same_value all.2) in
       (index_more text index more old.now new.now left (subst (λ d. CreatesIndex old.now.schema (table_by Instance) text old.now.trees d.schema d.trees) (sym now) all.1), w.sound)
 
   -- one text more: the definition at a place, which is the next one
   pub defined_more : (count at : ℕ) (text : List ℕ) (old new : State) (changed : ℕ) → at < length definitions → at < count → text ≡ slice_index_or definition_texts at []
-      → IsLeft wanted rows (drop at (take count definitions)) old.now → ExecutesInside 0 text [] old new (Ok changed) → IsTrue new.in_transaction × IsLeft wanted rows (drop (at + 1) (take count definitions)) new.now × IsDatabase new.now
+      → AreStillToMake wanted rows (drop at (take count definitions)) old.now → ExecutesInside 0 text [] old new (Ok changed) → IsTrue new.in_transaction × AreStillToMake wanted rows (drop (at + 1) (take count definitions)) new.now × IsDatabase new.now
   defined_more count at text old new changed within below is left h =
       let next = next_made definitions count at within below in
       let one : suc at ≡ at + 1 = omega arith in
-      let here : IsLeft wanted rows ((text, next.0) ∷ drop (suc at) (take count definitions)) old.now =
-      subst (λ t. IsLeft wanted rows ((t, next.0) ∷ drop (suc at) (take count definitions)) old.now) (sym is) (subst (λ ds. IsLeft wanted rows ds old.now) next.1 left) in
+      let here : AreStillToMake wanted rows ((text, next.0) ∷ drop (suc at) (take count definitions)) old.now =
+      subst (λ t. AreStillToMake wanted rows ((t, next.0) ∷ drop (suc at) (take count definitions)) old.now) (sym is) (subst (λ ds. AreStillToMake wanted rows ds old.now) next.1 left) in
       let more = made_more text next.0 (drop (suc at) (take count definitions)) old new changed here h.0 in
-      (h.1.mode, subst (λ n. IsLeft wanted rows (drop n (take count definitions)) new.now) one more.0, more.1)
+      (h.1.mode, subst (λ n. AreStillToMake wanted rows (drop n (take count definitions)) new.now) one more.0, more.1)
 
   -- none is left after the last
-  pub all_defined : (count at : ℕ) (db : Database) → count ≤ at → IsLeft wanted rows (drop at (take count definitions)) db → IsLeft wanted rows [] db
-  all_defined count at db past = subst (λ ds. IsLeft wanted rows ds db) (drop_all at (take count definitions) (omega (arith, past, length-take count definitions)))
+  pub all_defined : (count at : ℕ) (db : Database) → count ≤ at → AreStillToMake wanted rows (drop at (take count definitions)) db → AreStillToMake wanted rows [] db
+  all_defined count at db past = subst (λ ds. AreStillToMake wanted rows ds db) (drop_all at (take count definitions) (omega (arith, past, length-take count definitions)))
 
-pub all_made : (db : Database) → IsLeft stored_schema no_rows [] db → IsDatabase db → AreNew db
+pub all_made : (db : Database) → AreStillToMake stored_schema no_rows [] db → IsDatabase db → AreNew db
 all_made db left sound =
     let empty = subst (λ s. AllByRecursion (λ t. db.trees t.tree ≡ []) s.tables) left.whole left.same in
     record { schema = left.whole; sound = sound; empty = of_each (λ t. db.trees t.tree ≡ []) empty }

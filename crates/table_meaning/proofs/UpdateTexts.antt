@@ -10,7 +10,7 @@ use Rattle.sqlite.proofs.Callers.{IsPlain, command_of}
 use Rattle.table_meaning.specs.declared.tables.TableName.{TableName}
 use Rattle.table_meaning.specs.declared.tables.TableName.TheVariants.{Unit, Host, Instance}
 use Rattle.table_meaning.specs.Layouts.{layout_of, of_key}
-use Rattle.table_meaning.specs.Schema.{stored_schema, place_of}
+use Rattle.table_meaning.specs.Schema.{stored_schema, table_place}
 use Rattle.table_meaning.specs.Texts.{update_text, mostly_exist, update_first}
 use Rattle.table_meaning.specs.Rows.{tree_of, key_places}
 use Rattle.table_meaning.specs.Upserts.{keyed_query, update_command}
@@ -18,7 +18,7 @@ use Rattle.table_meaning.proofs.Columns.{key_by, count_of, written_out, columns_
 
 pub record ChangesRow (t : TableName) : Type 0 where
   -- what the text means
-  pub is : command_of (understood stored_schema (update_text t)) ≡ update_command (place_of t) (keyed_query (tree_of t) (key_places t) (given_terms (key_by t) (count_of t)))
+  pub is : command_of (understood stored_schema (update_text t)) ≡ update_command (table_place t) (keyed_query (tree_of t) (key_places t) (given_terms (key_by t) (count_of t)))
   pub plain_text : IsPlain (understood stored_schema (update_text t))
   -- what happens to the columns, and which of them are the key
   pub columns_are : (c r : Row) → eval_all (given_terms (key_by t) (count_of t)) (written_out t c ∷ r ∷ []) ≡ columns_after_number (key_by t) (written_out t c)

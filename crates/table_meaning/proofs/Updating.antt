@@ -31,7 +31,7 @@ use Rattle.sqlite.specs.State.{State, mode_of, Executes}
 use Rattle.sqlite.specs.Listing.{understood}
 use Rattle.sqlite.proofs.Callers.{IsPlain, command_of, statement_of, runs_as}
 use Rattle.table_meaning.specs.declared.tables.TableName.{TableName}
-use Rattle.table_meaning.specs.Schema.{newest, stored_schema, table_by, place_of}
+use Rattle.table_meaning.specs.Schema.{newest, stored_schema, table_by, table_place}
 use Rattle.table_meaning.specs.Texts.{update_text}
 use Rattle.table_meaning.specs.Rows.{tree_of, key_places}
 use Rattle.table_meaning.specs.ByKey.{key_tests}
@@ -133,7 +133,7 @@ module _ (t : TableName) (c : Row) (f : Facts newest t c) (it : ChangesRow t) (w
 
   pub updated : (count : ℕ) → Executes (update_text t) c old new (Ok count) → (new.now.schema ≡ stored_schema) × IsDatabase new.now × Updated t c db new.now.trees count
   updated count h =
-      let ran = updates stored_schema (no_acts newest) (update_text t) c old new schema (place_of t) (table_by t) (keyed_query (tree_of t) places columns) it.is it.plain_text f.at.listed count h in (
+      let ran = updates stored_schema (no_acts newest) (update_text t) c old new schema (table_place t) (table_by t) (keyed_query (tree_of t) places columns) it.is it.plain_text f.at.listed count h in (
         ran.0,
         ran.1,
         elim (found passes rows) [

@@ -18,7 +18,7 @@ use Rattle.sqlite.specs.Effect.{Database}
 use Rattle.sqlite.specs.State.{State}
 use Rattle.table_meaning.specs.declared.rows.StoredRow.TheVariants as stored
 use Rattle.table_meaning.specs.Schema.{newest}
-use Rattle.table_meaning.specs.Rows.{columns_of, RowKey, setting_key, kept_key, class_key, mark_key, table_at, same_key}
+use Rattle.table_meaning.specs.Rows.{columns_of, RowKey, setting_key, kept_key, class_key, mark_key, table_at, same_row_key}
 use Rattle.table_meaning.specs.Schemas.{IsSchema, IsEarlier, has_table}
 use Rattle.table_meaning.specs.Holding.{Contents, Hold, with_row}
 use Rattle.table_meaning.specs.Worlds.{BatchText, SlotCalls, version_row, unit_row, call_row, class_row, mark_row, is_marked, contents_of, HoldWorld}
@@ -42,9 +42,9 @@ module _ (w : World) (calls : SlotCalls) (batches : Batches) where
   at n = with_row (contents_of w calls batches) (schema_row_of n)
 
   -- the setting is that of the next schema, and each other is as it was
-  setting_same : (n : ℕ) (name : List ℕ) → cond (same_key (setting_key name) (setting_key (codes "schema"))) (Some (schema_row_of (n + 1))) (at n (setting_key name)) ≡ at (n + 1) (setting_key name)
+  setting_same : (n : ℕ) (name : List ℕ) → cond (same_row_key (setting_key name) (setting_key (codes "schema"))) (Some (schema_row_of (n + 1))) (at n (setting_key name)) ≡ at (n + 1) (setting_key name)
   setting_same n name =
-      elim (same_key (setting_key name) (setting_key (codes "schema"))) as (λ is. cond is (Some (schema_row_of (n + 1))) (cond is (Some (schema_row_of n)) (contents_of w calls batches (setting_key name)))
+      elim (same_row_key (setting_key name) (setting_key (codes "schema"))) as (λ is. cond is (Some (schema_row_of (n + 1))) (cond is (Some (schema_row_of n)) (contents_of w calls batches (setting_key name)))
       ≡ cond is (Some (schema_row_of (n + 1))) (contents_of w calls batches (setting_key name))) [ true ↦ refl | false ↦ refl ]
 
   -- to the second schema, if only the first slots are used
@@ -107,9 +107,9 @@ goes_world n (suc k) is within old new goes w calls batches fits holds =
 
 -- tables of the newest schema hold a world as they are
 newest_world : (db : Database) (w : World) (calls : SlotCalls) (batches : Batches) → HoldWorldAt newest db w calls batches → HoldWorld db w calls batches
-newest_world db w calls batches holds = hold_same db _ _ (λ key. said key (same_key key (setting_key (codes "schema"))) refl) (hold_newest db _ holds.held)
+newest_world db w calls batches holds = hold_same db _ _ (λ key. said key (same_row_key key (setting_key (codes "schema"))) refl) (hold_newest db _ holds.held)
   where
-    said : (key : RowKey) (is : Bool) → same_key key (setting_key (codes "schema")) ≡ is → cond is (Some (schema_row_of newest)) (contents_of w calls batches key) ≡ contents_of w calls batches key
+    said : (key : RowKey) (is : Bool) → same_row_key key (setting_key (codes "schema")) ≡ is → cond is (Some (schema_row_of newest)) (contents_of w calls batches key) ≡ contents_of w calls batches key
     said key true is = sym (ap (contents_of w calls batches) (one_key key (setting_key (codes "schema")) is))
     said key false other = refl
 

@@ -12,13 +12,13 @@ use Rattle.sqlite.specs.Effect.{Database, IsDatabase}
 use Rattle.sqlite.specs.State.{State, ExecutesInside}
 use Rattle.table_meaning.specs.declared.tables.Fill.{Fill}
 use Rattle.table_meaning.specs.declared.tables.TableName.TheVariants as table
-use Rattle.table_meaning.specs.Layouts.{Layout, former_kept, places_in}
+use Rattle.table_meaning.specs.Layouts.{Layout, former_kept, column_places}
 use Rattle.table_meaning.specs.Schema.{newest, schema_at}
 use Rattle.table_meaning.specs.Texts.{put_text}
 use Rattle.table_meaning.specs.Rows.{tree_of, whole, columns_of, RowKey, table_at}
 use Rattle.table_meaning.specs.Holding.{Contents}
 use Rattle.table_meaning.specs.Schemas.{IsSchema, IsEarlier, has_tree, only_at, HoldAt}
-use Rattle.table_meaning.specs.Making.{IsLeft, rows_at}
+use Rattle.table_meaning.specs.Making.{AreStillToMake, rows_at}
 use Rattle.table_meaning.specs.Fills.{fills_of, source_of, target_of, schema_with, filled_row, filled_from, numbered_row, Keeps, with_filled, FillsEach, HostCalls, KeepCalls, brought, with_inserted}
 use Rattle.table_meaning.specs.Upgrades.{schema_row_of, PutsSchema, MakesNext, Goes, Upgrades}
 use Rattle.table_meaning.proofs.EachSchema.{LeadsTo, AreDistinct, taken_from, HaveNumbers, of_schema, of_step, of_fill, are_fit, is_brought}
@@ -44,10 +44,10 @@ schema_put n is old new count h contents holds =
 -- ---- rows of the tables that a fill reads
 
 -- the row of a number begins with that number
-number_first : (l : Layout) (trees : Trees) → IsShaped TableTree (trees l.tree) → (n : ℕ) (c : Row) → numbered_row l trees n ≡ Some c → (r : Row) × (map (column r) (places_in l) ≡ c) × (rowid r ≡ whole n)
+number_first : (l : Layout) (trees : Trees) → IsShaped TableTree (trees l.tree) → (n : ℕ) (c : Row) → numbered_row l trees n ≡ Some c → (r : Row) × (map (column r) (column_places l) ≡ c) × (rowid r ≡ whole n)
 number_first l trees shaped n c is = elim (found (is_of n) (trees l.tree)) [
-  | inl none ↦ absurd (none-some _ (sym (ap (option_map (λ row. map (column row) (places_in l))) none.0) ∙ is))
-  | inr one ↦ (one.0, same_Some _ _ (sym (ap (option_map (λ row. map (column row) (places_in l))) one.1) ∙ is), number_is (trees l.tree) shaped n one.0 one.2 one.3)
+  | inl none ↦ absurd (none-some _ (sym (ap (option_map (λ row. map (column row) (column_places l))) none.0) ∙ is))
+  | inr one ↦ (one.0, same_Some _ _ (sym (ap (option_map (λ row. map (column row) (column_places l))) one.1) ∙ is), number_is (trees l.tree) shaped n one.0 one.2 one.3)
 ]
 
 -- ---- what a fill inserts
@@ -116,7 +116,7 @@ new_are_empty n contents [] lead = tt
 new_are_empty n contents (f ∷ more) lead =
     (λ key at. ap (λ b. cond b (contents key) None) (ap (has_tree n) (eqb-true _ _ at) ∙ lead.0.1), new_are_empty n contents more lead.1)
 
-pub next_made : (n : ℕ) → IsEarlier n → (old made filled new : Database) → (old.schema ≡ schema_at n → IsLeft (schema_at (n + 1)) (rows_at n old.trees) [] made × (IsDatabase old → IsDatabase made))
+pub next_made : (n : ℕ) → IsEarlier n → (old made filled new : Database) → (old.schema ≡ schema_at n → AreStillToMake (schema_at (n + 1)) (rows_at n old.trees) [] made × (IsDatabase old → IsDatabase made))
     → FillsEach (fills_of n) made filled → PutsSchema (n + 1) filled new → MakesNext n old new
 next_made n earlier old made filled new makes fills put contents calls holds =
     let left = makes holds.held.known.schema in
@@ -126,12 +126,12 @@ next_made n earlier old made filled new makes fills put contents calls holds =
   where
     kept : n ≡ 1 → KeepCalls made.trees calls
     kept one =
-        let left = subst (λ m. IsLeft (schema_at (m + 1)) (rows_at m old.trees) [] made) one (makes holds.held.known.schema).0 in
+        let left = subst (λ m. AreStillToMake (schema_at (m + 1)) (rows_at m old.trees) [] made) one (makes holds.held.known.schema).0 in
         let same : made.trees former_kept.tree ≡ old.trees former_kept.tree = stays_made 1 2 old made left former_kept.tree refl refl in
         let was = holds.kept one in
         record {
           ordered = subst (IsShaped TableTree) (sym same) was.ordered;
-          kept = λ host. ap (λ all. option_map (λ row. map (column row) (places_in former_kept)) (find (is_of host) all)) same ∙ was.kept host;
+          kept = λ host. ap (λ all. option_map (λ row. map (column row) (column_places former_kept)) (find (is_of host) all)) same ∙ was.kept host;
         }
 
 -- ---- several steps

@@ -16,7 +16,7 @@ use Rattle.table_meaning.specs.declared.tables.TableName.{TableName}
 use Rattle.table_meaning.specs.declared.tables.TableName.TheVariants as table
 use Rattle.table_meaning.specs.declared.rows.StoredRow.{StoredRow}
 use Rattle.table_meaning.specs.declared.rows.StoredRow.TheVariants.{Version, Kept, VersionClass, UnitMark}
-use Rattle.table_meaning.specs.Layouts.{Layout, layout_of, former_kept, places_in}
+use Rattle.table_meaning.specs.Layouts.{Layout, layout_of, former_kept, column_places}
 use Rattle.table_meaning.specs.Rows.{whole, tree_of, columns_of, RowKey, version_key, unit_key, kept_key, class_key, mark_key, table_at}
 use Rattle.table_meaning.specs.Kept.{number_of}
 use Rattle.table_meaning.specs.Holding.{Contents}
@@ -96,7 +96,7 @@ NumberedRows = ℕ → Option Row
 
 -- the columns of the row of a number, in a table whose rows are identified by number
 abbrev pub numbered_row : Layout → Trees → NumberedRows
-numbered_row l trees n = option_map (λ row. map (column row) (places_in l)) (find (λ row. agree plain (0 ∷ []) row (0 ∷ []) (whole n ∷ [])) (trees l.tree))
+numbered_row l trees n = option_map (λ row. map (column row) (column_places l)) (find (λ row. agree plain (0 ∷ []) row (0 ∷ []) (whole n ∷ [])) (trees l.tree))
 
 -- The table has exactly these rows.
 pub record Keeps (l : Layout) (trees : Trees) (rows : NumberedRows) : Type 0 where

@@ -10,7 +10,7 @@ use Rattle.sqlite.specs.Effect.{Database, IsDatabase}
 use Rattle.table_meaning.specs.declared.tables.TableName.{TableName}
 use Rattle.table_meaning.specs.declared.rows.StoredRow.{StoredRow}
 use Rattle.table_meaning.specs.Schema.{stored_schema}
-use Rattle.table_meaning.specs.Rows.{tree_of, key_places, columns_of, RowKey, table_at, key_of, has_key, same_key, look_up}
+use Rattle.table_meaning.specs.Rows.{tree_of, key_places, columns_of, RowKey, table_at, row_key_of, has_key, same_row_key, look_up}
 
 -- no two different rows agree at these places
 abbrev pub AreApart : List ℕ → List Row → Type 0
@@ -39,7 +39,7 @@ pub record Hold (db : Database) (contents : Contents) : Type 0 where
 
 -- the contents with one row put at its key, and with several put in turn
 abbrev pub with_row : Contents → StoredRow → Contents
-with_row contents row key = if same_key key (key_of row) then Some row else contents key
+with_row contents row key = if same_row_key key (row_key_of row) then Some row else contents key
 
-abbrev pub with_rows : Contents → List StoredRow → Contents
-with_rows = fold with_row
+abbrev pub with_stored_rows : Contents → List StoredRow → Contents
+with_stored_rows = fold with_row

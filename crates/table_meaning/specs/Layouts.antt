@@ -200,8 +200,8 @@ abbrev pub places_by : Key → ℕ → List ℕ
 places_by numbered count = 0 ∷ drop 1 (range_with_len 1 count)
 places_by (by_first n) count = range_with_len 1 count
 
-abbrev pub places_in : Layout → List ℕ
-places_in l = places_by l.key (length l.columns)
+abbrev pub column_places : Layout → List ℕ
+column_places l = places_by l.key (length l.columns)
 
 -- how many columns the key has
 abbrev pub key_width : Key → ℕ

@@ -27,8 +27,8 @@ abbrev pub rows_where : Trees → TableName → (Row → Bool) → List Row
 rows_where trees t test = map (shown t) (filter (λ row. is_numbered row && test (shown t row)) (trees (tree_of t)))
 
 -- the rows that exist at the keys of `count` numbers, from one number on
-abbrev pub standing : Contents → (ℕ → RowKey) → ℕ → ℕ → List StoredRow
-standing contents key from count = filter_map (λ n. contents (key n)) (range_with_len from count)
+abbrev pub existing_rows : Contents → (ℕ → RowKey) → ℕ → ℕ → List StoredRow
+existing_rows contents key from count = filter_map (λ n. contents (key n)) (range_with_len from count)
 
 -- the rows of a tree with a number above 0 that pass the terms; shown at these places, in the order of their numbers
 abbrev pub listing_query : ℕ → List Term → List ℕ → Query

@@ -12,7 +12,7 @@ use Rattle.sqlite.specs.Given.{IsPlain}
 use Rattle.sqlite.specs.Listing.{understood}
 use Rattle.sqlite.proofs.Callers.{command_of, statement_of}
 use Rattle.table_meaning.specs.declared.tables.TableName.TheVariants.{Instance}
-use Rattle.table_meaning.specs.Schema.{table_by, place_of}
+use Rattle.table_meaning.specs.Schema.{table_by, table_place}
 use Rattle.table_meaning.specs.Texts.{Made, made_table, made_index}
 use Rattle.table_meaning.specs.Schemas.{has_tree}
 
@@ -25,7 +25,7 @@ abbrev pub Makes : Schema → List ℕ → Made → Type 0
 Makes schema text (made_table table) =
     (command_of (understood schema text) ≡ CreateTable) × (table_defined_by text ≡ Ok (record table { tree = 0 })) × (lacks_sequence (created schema table) ≡ false)
 Makes schema text (made_index index) =
-    (command_of (understood schema text) ≡ CreateIndex (place_of Instance)) × (slice_get schema.tables (place_of Instance) ≡ Some (table_by Instance))
+    (command_of (understood schema text) ≡ CreateIndex (table_place Instance)) × (slice_get schema.tables (table_place Instance) ≡ Some (table_by Instance))
     × (index_defined_by (table_by Instance) text ≡ Ok (record index { tree = 0 }))
 
 -- each in turn, at the schema made by those before it
@@ -40,7 +40,7 @@ AreFree rows schema [] = ⊤
 AreFree rows schema (d ∷ more) = (rows (next_tree schema) ≡ []) × AreFree rows (with_made schema d.1) more
 
 -- The definitions that are left make the wanted schema. The tables so far have these rows, and those still to be made have none.
-pub record IsLeft (wanted : Schema) (rows : Trees) (left : List (List ℕ × Made)) (db : Database) : Type 0 where
+pub record AreStillToMake (wanted : Schema) (rows : Trees) (left : List (List ℕ × Made)) (db : Database) : Type 0 where
   pub makes : MakeInTurn db.schema left
   pub whole : fold (λ schema d. with_made schema d.1) db.schema left ≡ wanted
   pub free : AreFree rows db.schema left

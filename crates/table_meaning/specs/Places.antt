@@ -29,8 +29,8 @@ use Rattle.table_meaning.specs.Holding.{Contents}
 -- ---- places
 
 -- the instance at a place
-abbrev pub instance_at : Contents → Place → Option StoredRow
-instance_at contents place = contents (instance_key place.unit place.number)
+abbrev pub instance_row_at : Contents → Place → Option StoredRow
+instance_row_at contents place = contents (instance_key place.unit place.number)
 
 -- the columns of a place
 abbrev pub place_row : Place → Row
@@ -44,7 +44,7 @@ IsBefore a b = (a.unit < b.unit) ⊎ ((a.unit ≡ b.unit) × (a.number < b.numbe
 pub record AreAllPlaces (contents : Contents) (places : List Place) : Type 0 where
   pub rise : IsAscending IsBefore places
   pub from_one : AllByRecursion (λ place. 1 ≤ place.unit) places
-  pub all : (place : Place) (row : StoredRow) → instance_at contents place ≡ Some row → Has places place
+  pub all : (place : Place) (row : StoredRow) → instance_row_at contents place ≡ Some row → Has places place
 
 -- the row exists, and its columns pass the test
 abbrev pub shows_passing : (Row → Bool) → Option StoredRow → Bool
@@ -52,12 +52,12 @@ shows_passing test None = false
 shows_passing test (Some row) = test (columns_of row)
 
 -- the places that have an instance whose columns pass the test
-abbrev pub places_where : Contents → (Row → Bool) → List Place → List Place
-places_where contents test = filter (λ place. shows_passing test (instance_at contents place))
+abbrev pub places_with_row : Contents → (Row → Bool) → List Place → List Place
+places_with_row contents test = filter (λ place. shows_passing test (instance_row_at contents place))
 
 -- the instances of one workunit, by number
 abbrev pub instances_within : Contents → ℕ → List Place → List StoredRow
-instances_within contents unit places = filter_map (instance_at contents) (filter (λ place. place.unit == unit) places)
+instances_within contents unit places = filter_map (instance_row_at contents) (filter (λ place. place.unit == unit) places)
 
 -- These are the places that a text shows in a transaction: the first two columns of each row.
 abbrev pub ShowsPlaces : {S : Type 0} → Ghosts S → Held S → List ℕ → Row → List Place → Type 0
@@ -78,8 +78,8 @@ abbrev pub is_running : Row → Bool
 is_running row = compares Eq (column row 5) (whole 0) && is_null (column row 6)
 
 -- this host holds it, and the moment of sending is not before 1970
-abbrev pub is_held_by : ℕ → Row → Bool
-is_held_by host row = is_of_host host row && (compares Ge (column row 3) (whole 0) && is_running row)
+abbrev pub is_row_held_by : ℕ → Row → Bool
+is_row_held_by host row = is_of_host host row && (compares Ge (column row 3) (whole 0) && is_running row)
 
 -- its place is this one or a later one
 abbrev pub is_not_before : Place → Row → Bool

@@ -14,7 +14,7 @@ use Rattle.table_meaning.specs.declared.rows.SettingValue.{SettingValue}
 use Rattle.table_meaning.specs.declared.rows.SettingValue.TheVariants.{Number, Word}
 use Rattle.table_meaning.specs.declared.rows.StoredRow.{StoredRow}
 use Rattle.table_meaning.specs.declared.rows.StoredRow.TheVariants.{Setting, Account, App, Version, Unit, Host, Instance, Kept, Batch, VersionClass, UnitMark}
-use Rattle.table_meaning.specs.Layouts.{layout_of, places_in, of_key}
+use Rattle.table_meaning.specs.Layouts.{layout_of, column_places, of_key}
 
 -- the tree of a table's rows
 abbrev pub tree_of : TableName → ℕ
@@ -22,7 +22,7 @@ tree_of t = (layout_of t).tree
 
 -- The places of the columns in a row of the tree. Place 0 is the row's number, which is the first column of most tables.
 abbrev pub places_of : TableName → List ℕ
-places_of t = places_in (layout_of t)
+places_of t = column_places (layout_of t)
 
 -- the places of the key's columns
 abbrev pub key_places : TableName → List ℕ
@@ -130,21 +130,21 @@ key_columns (batch_key kind name) = Text kind ∷ Text name ∷ []
 key_columns (class_key id) = whole id ∷ []
 key_columns (mark_key id) = whole id ∷ []
 
-abbrev pub key_of : StoredRow → RowKey
-key_of (Setting s) = setting_key s.name
-key_of (Account a) = account_key a.id
-key_of (App a) = app_key a.id
-key_of (Version v) = version_key v.id
-key_of (Unit u) = unit_key u.id
-key_of (Host h) = host_key h.id
-key_of (Instance i) = instance_key i.unit_id i.num
-key_of (Kept k) = kept_key k.host_id k.slot
-key_of (Batch b) = batch_key b.kind b.name
-key_of (VersionClass c) = class_key c.version_id
-key_of (UnitMark m) = mark_key m.unit_id
+abbrev pub row_key_of : StoredRow → RowKey
+row_key_of (Setting s) = setting_key s.name
+row_key_of (Account a) = account_key a.id
+row_key_of (App a) = app_key a.id
+row_key_of (Version v) = version_key v.id
+row_key_of (Unit u) = unit_key u.id
+row_key_of (Host h) = host_key h.id
+row_key_of (Instance i) = instance_key i.unit_id i.num
+row_key_of (Kept k) = kept_key k.host_id k.slot
+row_key_of (Batch b) = batch_key b.kind b.name
+row_key_of (VersionClass c) = class_key c.version_id
+row_key_of (UnitMark m) = mark_key m.unit_id
 
 abbrev pub table_of : StoredRow → TableName
-table_of row = table_at (key_of row)
+table_of row = table_at (row_key_of row)
 
 abbrev pub slots_of : RowKey → List ℕ
 slots_of key = range_with_len 0 (length (key_columns key))
@@ -154,8 +154,8 @@ abbrev pub has_key : RowKey → Row → Bool
 has_key key row = agree plain (key_places (table_at key)) row (slots_of key) (key_columns key)
 
 -- Two keys are the same if they are of one table and SQL finds their columns equal.
-abbrev pub same_key : RowKey → RowKey → Bool
-same_key a b = (tree_of (table_at a) == tree_of (table_at b)) && agree plain (slots_of b) (key_columns b) (slots_of a) (key_columns a)
+abbrev pub same_row_key : RowKey → RowKey → Bool
+same_row_key a b = (tree_of (table_at a) == tree_of (table_at b)) && agree plain (slots_of b) (key_columns b) (slots_of a) (key_columns a)
 
 -- the columns of the row at a key, if it exists
 abbrev pub look_up : Trees → RowKey → Option Row

@@ -16,7 +16,7 @@ use Rattle.sqlite_catalog.specs.Change.{automatics}
 use Rattle.table_meaning.specs.declared.tables.TableName.{TableName}
 use Rattle.table_meaning.specs.declared.tables.TableName.TheVariants.{Instance}
 use Rattle.table_meaning.specs.Kinds.{Kind, number, integer, words, flag, octets, optional, either}
-use Rattle.table_meaning.specs.Layouts.{Column, Key, numbered, by_first, Layout, layout_of, places_in, of_key}
+use Rattle.table_meaning.specs.Layouts.{Column, Key, numbered, by_first, Layout, layout_of, column_places, of_key}
 pub use Rattle.table_meaning.specs.Layouts.{Indexing, Part, a_table, a_former, an_index, parts, parts_at, newest}
 
 -- ---- a table
@@ -53,7 +53,7 @@ reference_at place parent = record { columns = place ∷ []; parent = (layout_of
 
 -- places among the columns, as places in a row of the tree
 abbrev pub in_row : Layout → List ℕ → List ℕ
-in_row l = map (slice_index (places_in l))
+in_row l = map (slice_index (column_places l))
 
 -- the lists of columns that identify a row; if the key is not the number of the row, it comes first
 abbrev pub uniques_with : Key → List ℕ → List (List ℕ) → List (List ℕ)
@@ -62,7 +62,7 @@ uniques_with (by_first n) key others = key ∷ others
 
 abbrev pub sql_table : Layout → Table
 sql_table l =
-    let key = of_key l (places_in l) in
+    let key = of_key l (column_places l) in
     let uniques = uniques_with l.key key (map (in_row l) l.uniques) in
     record {
       name = l.name;
@@ -73,7 +73,7 @@ sql_table l =
       uniques = uniques;
       orders = map (λ _. plain) uniques;
       checks = [];
-      references = filter_map (λ p. option_map (reference_at p.0) p.1.parent) (zip (places_in l) l.columns);
+      references = filter_map (λ p. option_map (reference_at p.0) p.1.parent) (zip (column_places l) l.columns);
       computed = [];
       stamps = record { places = []; terms = []; formats = [] };
       is_counted = false;
@@ -126,5 +126,5 @@ abbrev pub no_schema : Schema
 no_schema = record { tables = []; indexes = []; views = [] }
 
 -- the place of a table among those of the newest schema
-abbrev pub place_of : TableName → ℕ
-place_of t = position_or_len (λ l. l.tree == (layout_of t).tree) (layouts_at newest)
+abbrev pub table_place : TableName → ℕ
+table_place t = position_or_len (λ l. l.tree == (layout_of t).tree) (layouts_at newest)

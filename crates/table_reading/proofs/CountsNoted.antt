@@ -13,7 +13,7 @@ use Rattle.table_meaning.specs.declared.rows.StoredUnitMark.{StoredUnitMark}
 use Rattle.table_meaning.specs.declared.rows.StoredRow.{StoredRow}
 use Rattle.table_meaning.specs.declared.rows.StoredRow.TheVariants as stored
 use Rattle.table_meaning.specs.declared.tables.TableName.TheVariants as name
-use Rattle.table_meaning.specs.Rows.{RowKey, table_of, key_of, unit_key, mark_key}
+use Rattle.table_meaning.specs.Rows.{RowKey, table_of, row_key_of, unit_key, mark_key}
 use Rattle.table_worlds.proofs.ColumnsBack.{is_unit_row, is_mark_row, is_instance_row}
 use Rattle.table_reading.specs.Counting.{is_numbered, next_number, counted, noted}
 use Rattle.table_reading.specs.declared.counts.UnitCounts.{UnitCounts}
@@ -188,7 +188,7 @@ zero_more (x ∷ xs) (suc j) is = zero_more xs j is
 
 -- the rows have the keys of the numbers after `before`, in turn
 abbrev pub AreInTurn : (ℕ → RowKey) → ℕ → List StoredRow → Type 0
-AreInTurn key before rows = (i : ℕ) (r : StoredRow) → slice_get rows i ≡ Some r → key_of r ≡ key (i + before + 1)
+AreInTurn key before rows = (i : ℕ) (r : StoredRow) → slice_get rows i ≡ Some r → row_key_of r ≡ key (i + before + 1)
 
 -- more workunits are counted, with no instance yet
 pub units_counted : (rows : List StoredRow) (c : UnitCounts) → AreUnits rows → length (fold noted c rows).counts ≡ length c.counts + length rows
@@ -224,10 +224,10 @@ units_told (r ∷ rows) c typed turn =
     (parts.0, λ i s is. at i s is u.0 u.1 ((Decides-eqb u.0.id (length c.counts + 1)).0 parts.1) one later.1)
   where
     at : (i : ℕ) (s : StoredRow) → slice_get (r ∷ rows) i ≡ Some s → (u : StoredUnit) → r ≡ stored.Unit u → u.id ≡ length c.counts + 1 → length (noted c r).counts ≡ length c.counts + 1
-        → AreInTurn unit_key (length (noted c r).counts) rows → key_of s ≡ unit_key (i + length c.counts + 1)
+        → AreInTurn unit_key (length (noted c r).counts) rows → row_key_of s ≡ unit_key (i + length c.counts + 1)
     at zero s is u unit id one rest =
         let same : r ≡ s = some_same is in
-        ap key_of (sym same ∙ unit) ∙ ap unit_key (let number : u.id ≡ 0 + length c.counts + 1 = omega (arith, id) in number)
+        ap row_key_of (sym same ∙ unit) ∙ ap unit_key (let number : u.id ≡ 0 + length c.counts + 1 = omega (arith, id) in number)
       where
         some_same : Some r ≡ Some s → r ≡ s
         some_same e = cc
@@ -237,7 +237,7 @@ pub units_turned : (rows : List StoredRow) (c : UnitCounts) → AreUnits rows �
 units_turned [] c typed turn are = turn
 units_turned (r ∷ rows) c typed turn are =
     let u = is_unit_row r typed.0 in
-    let key : unit_key u.0.id ≡ unit_key (0 + length c.counts + 1) = sym (ap key_of u.1) ∙ are 0 r refl in
+    let key : unit_key u.0.id ≡ unit_key (0 + length c.counts + 1) = sym (ap row_key_of u.1) ∙ are 0 r refl in
     let id : u.0.id ≡ length c.counts + 1 = same_number u.0.id (0 + length c.counts + 1) key ∙ (let one : 0 + length c.counts + 1 ≡ length c.counts + 1 = omega arith in one) in
     let one : length (noted c r).counts ≡ length c.counts + 1 = ap (λ s. length (noted c s).counts) u.1 ∙ length_push c.counts 0 in
     units_turned rows (noted c r) typed.1
@@ -274,9 +274,9 @@ marks_told (r ∷ rows) c typed turn =
     (parts.0, (λ i s is. at i s is m.0 m.1 id one later.1), omega (arith, one, last))
   where
     at : (i : ℕ) (s : StoredRow) → slice_get (r ∷ rows) i ≡ Some s → (m : StoredUnitMark) → r ≡ stored.UnitMark m → m.unit_id ≡ c.last_mark + 1
-        → (noted c r).last_mark ≡ c.last_mark + 1 → AreInTurn mark_key (noted c r).last_mark rows → key_of s ≡ mark_key (i + c.last_mark + 1)
+        → (noted c r).last_mark ≡ c.last_mark + 1 → AreInTurn mark_key (noted c r).last_mark rows → row_key_of s ≡ mark_key (i + c.last_mark + 1)
     at zero s is m mark id one rest =
-        ap key_of (sym (some_same is) ∙ mark) ∙ ap mark_key (let number : m.unit_id ≡ 0 + c.last_mark + 1 = omega (arith, id) in number)
+        ap row_key_of (sym (some_same is) ∙ mark) ∙ ap mark_key (let number : m.unit_id ≡ 0 + c.last_mark + 1 = omega (arith, id) in number)
       where
         some_same : Some r ≡ Some s → r ≡ s
         some_same e = cc
@@ -288,7 +288,7 @@ pub marks_turned : (rows : List StoredRow) (c : UnitCounts) → AreMarks rows �
 marks_turned [] c typed turn are = (turn, omega arith)
 marks_turned (r ∷ rows) c typed turn are =
     let m = is_mark_row r typed.0 in
-    let key : mark_key m.0.unit_id ≡ mark_key (0 + c.last_mark + 1) = sym (ap key_of m.1) ∙ are 0 r refl in
+    let key : mark_key m.0.unit_id ≡ mark_key (0 + c.last_mark + 1) = sym (ap row_key_of m.1) ∙ are 0 r refl in
     let id : m.0.unit_id ≡ c.last_mark + 1 = same_number m.0.unit_id (0 + c.last_mark + 1) key ∙ (let one : 0 + c.last_mark + 1 ≡ c.last_mark + 1 = omega arith in one) in
     let one : (noted c r).last_mark ≡ c.last_mark + 1 = ap (λ s. (noted c s).last_mark) m.1 ∙ id in
     let later = marks_turned rows (noted c r) typed.1

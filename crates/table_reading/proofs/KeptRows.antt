@@ -11,7 +11,7 @@ use Rattle.table_meaning.specs.declared.rows.StoredRow.TheVariants as stored
 use Rattle.table_meaning.specs.declared.tables.TableName.TheVariants as name
 use Rattle.table_meaning.specs.Holding.{AreKnown}
 use Rattle.table_meaning.specs.Kept.{call_of, batch_of, calls_in, batches_in}
-use Rattle.table_meaning.specs.Rows.{kept_key, batch_key, table_at, columns_of, key_of, rows_in, look_up}
+use Rattle.table_meaning.specs.Rows.{kept_key, batch_key, table_at, columns_of, row_key_of, rows_in, look_up}
 use Rattle.table_meaning.specs.Worlds.{call_row, contents_of, HoldWorld}
 use Rattle.table_meaning.proofs.RowsHeld.{held_row, keyed_by}
 use Rattle.table_worlds.proofs.RowsHold.{world_held, world_keyed}
@@ -19,11 +19,11 @@ use Rattle.table_reading.specs.Reading.{AllRows, AreAllRead, Represent, is_call_
 
 -- ---- a row that passes is of its table
 
-pub call_table : (w : World) (r : StoredRow) → is_call_of w r ≡ true → table_at (key_of r) ≡ name.Kept
+pub call_table : (w : World) (r : StoredRow) → is_call_of w r ≡ true → table_at (row_key_of r) ≡ name.Kept
 call_table w (stored.Kept k) is = refl
 call_table w _ is = absurd (true≢false (sym is))
 
-pub import_table : (r : StoredRow) → is_import r ≡ true → table_at (key_of r) ≡ name.Batch
+pub import_table : (r : StoredRow) → is_import r ≡ true → table_at (row_key_of r) ≡ name.Batch
 import_table (stored.Batch b) is = refl
 import_table _ is = absurd (true≢false (sym is))
 
@@ -36,14 +36,14 @@ shown_call host slot row = stored.Kept (call_row host slot (call_of row))
 abbrev pub import_row : List ℕ → List ℕ → Row → StoredRow
 import_row kind text row = stored.Batch (record { kind = kind; name = text; text = (batch_of row).0; answer = (batch_of row).1 })
 
-pub call_shown : (w : World) (host slot : ℕ) (s : StoredRow) → is_call_of w s ≡ true → key_of s ≡ kept_key host slot → columns_of s ≡ columns_of (shown_call host slot (columns_of s))
+pub call_shown : (w : World) (host slot : ℕ) (s : StoredRow) → is_call_of w s ≡ true → row_key_of s ≡ kept_key host slot → columns_of s ≡ columns_of (shown_call host slot (columns_of s))
 call_shown w host slot (stored.Kept k) is key =
     let of_host : k.host_id ≡ host = cc in
     let in_slot : k.slot ≡ slot = cc in
     λ i. columns_of (stored.Kept (record k { host_id = of_host i; slot = in_slot i }))
 call_shown w host slot _ is key = absurd (true≢false (sym is))
 
-pub import_shown : (kind text : List ℕ) (s : StoredRow) → is_import s ≡ true → key_of s ≡ batch_key kind text → columns_of s ≡ columns_of (import_row kind text (columns_of s))
+pub import_shown : (kind text : List ℕ) (s : StoredRow) → is_import s ≡ true → row_key_of s ≡ batch_key kind text → columns_of s ≡ columns_of (import_row kind text (columns_of s))
 import_shown kind text (stored.Batch b) is key =
     let of_kind : b.kind ≡ kind = cc in
     let of_name : b.name ≡ text = cc in

@@ -23,7 +23,7 @@ use Rattle.table_meaning.specs.declared.rows.StoredRow.TheVariants as stored
 use Rattle.table_meaning.specs.declared.tables.TableName.TheVariants as name
 use Rattle.table_meaning.specs.Holding.{AreKnown}
 use Rattle.table_meaning.specs.Kept.{calls_in, batches_in}
-use Rattle.table_meaning.specs.Rows.{RowKey, unit_key, mark_key, instance_key, columns_of, table_of, table_at, key_of, look_up}
+use Rattle.table_meaning.specs.Rows.{RowKey, unit_key, mark_key, instance_key, columns_of, table_of, table_at, row_key_of, look_up}
 use Rattle.table_meaning.specs.Worlds.{HoldWorld, unit_row, mark_row, instance_row}
 use Rattle.table_meaning.proofs.EachRow.{columns_told}
 use Rattle.table_meaning.proofs.RowsHeld.{held_row}
@@ -94,14 +94,14 @@ module _ (db : Database) (known : AreKnown db) (all : AllRows) (read : AreAllRea
   last_mark : after.last_mark ≡ before.last_mark
   last_mark = same_mark all.world.instances before typed.instances
 
-  instances_of_table : (r : StoredRow) → Has all.world.instances r → table_at (key_of r) ≡ name.Instance
-  instances_of_table r has = let x = is_instance_row r (all_has (λ s. table_of s ≡ name.Instance) all.world.instances r typed.instances has) in ap (λ s. table_at (key_of s)) x.1
+  instances_of_table : (r : StoredRow) → Has all.world.instances r → table_at (row_key_of r) ≡ name.Instance
+  instances_of_table r has = let x = is_instance_row r (all_has (λ s. table_of s ≡ name.Instance) all.world.instances r typed.instances has) in ap (λ s. table_at (row_key_of s)) x.1
 
   -- a row that was read is at its key
-  found_at : (r : StoredRow) {q : StoredRow} → r ≡ q → (key : RowKey) → key_of r ≡ key → look_up db.trees (key_of q) ≡ Some (columns_of q)
+  found_at : (r : StoredRow) {q : StoredRow} → r ≡ q → (key : RowKey) → row_key_of r ≡ key → look_up db.trees (row_key_of q) ≡ Some (columns_of q)
       → look_up db.trees key ≡ Some (columns_of r)
   found_at r same key at found =
-      subst (λ k. look_up db.trees k ≡ Some (columns_of r)) at (subst (λ s. look_up db.trees (key_of s) ≡ Some (columns_of s)) (sym same) found)
+      subst (λ k. look_up db.trees k ≡ Some (columns_of r)) at (subst (λ s. look_up db.trees (row_key_of s) ≡ Some (columns_of s)) (sym same) found)
 
   -- ---- if everything was tested
 
@@ -277,13 +277,13 @@ module _ (db : Database) (known : AreKnown db) (all : AllRows) (read : AreAllRea
     count_books = count_units ∙ ap length units_are ∙ length-map_from (of_unit w) 1 books
 
     rows_turn : (f : ℕ → UnitBook → StoredRow) (key : ℕ → RowKey) (rows : List StoredRow) → rows ≡ map_from 1 f books
-        → ((n : ℕ) (b : UnitBook) → key_of (f n b) ≡ key n) → AreInTurn key 0 rows
+        → ((n : ℕ) (b : UnitBook) → row_key_of (f n b) ≡ key n) → AreInTurn key 0 rows
     rows_turn f key rows are of_key i r is =
         let few : length rows ≡ length books = ap length are ∙ length-map_from f 1 books in
         let within = slice_get_within rows i r is in
         let b = stands_within books i (omega (arith, within, few)) in
         let row : Some r ≡ Some (f (i + 1) b.0) = sym is ∙ written_at f rows books i are ∙ ap (option_map (f (i + 1))) b.1 in
-        ap (λ o. key_of (unwrap_or o r)) row ∙ of_key (i + 1) b.0 ∙ ap key (let same : i + 1 ≡ i + 0 + 1 = omega arith in same)
+        ap (λ o. row_key_of (unwrap_or o r)) row ∙ of_key (i + 1) b.0 ∙ ap key (let same : i + 1 ≡ i + 0 + 1 = omega arith in same)
 
     marks_turn : (before.are_in_turn ≡ true) × (before.last_mark ≡ of_all_units.last_mark + length all.world.marks)
     marks_turn =

@@ -8,7 +8,7 @@ use Rattle.sqlite_catalog.proofs.ReadLemmas.{lists_once}
 use Rattle.sqlite_schema.specs.declared.schema.Schema.{Schema}
 use Rattle.sqlite.specs.Effect.{Database, IsDatabase}
 use Rattle.sqlite.specs.Held.{Held}
-use Rattle.table_rows.specs.declared.opening.Refused.TheVariants.{NotTables}
+use Rattle.table_rows.specs.declared.opening.OpenRefusal.TheVariants.{NotTables}
 use Rattle.table_rows.specs.Refusing.{given_back}
 
 database : Schema → Trees → Database

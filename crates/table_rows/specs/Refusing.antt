@@ -6,26 +6,26 @@ use Rattle.sqlite.specs.State.{State}
 use Rattle.sched_book.specs.declared.cause.Cause.{Cause}
 use Rattle.table_rows.specs.declared.opening.OpenFault.{OpenFault}
 use Rattle.table_rows.specs.declared.opening.OpenFault.TheVariants as fault
-use Rattle.table_rows.specs.declared.opening.Refused.{Refused}
-use Rattle.table_rows.specs.declared.opening.Refused.TheVariants.{NotTables, OldSchema, BadRow, Unavailable}
+use Rattle.table_rows.specs.declared.opening.OpenRefusal.{OpenRefusal}
+use Rattle.table_rows.specs.declared.opening.OpenRefusal.TheVariants.{NotTables, OldSchema, BadRow, Unavailable}
 
 -- ---- refusals
 
-abbrev pub fault_of : {S : Type 0} → Refused S → OpenFault
+abbrev pub fault_of : {S : Type 0} → OpenRefusal S → OpenFault
 fault_of (NotTables conn) = fault.NotTables
 fault_of (OldSchema schema conn) = fault.OldSchema schema
 fault_of (BadRow conn) = fault.BadRow
 fault_of (Unavailable cause) = fault.Unavailable cause
 
 -- the refusal of a connection for a fault
-abbrev pub refusal_for : {S : Type 0} → OpenFault → Held S → Refused S
+abbrev pub refusal_for : {S : Type 0} → OpenFault → Held S → OpenRefusal S
 refusal_for fault.NotTables conn = NotTables conn
 refusal_for (fault.OldSchema schema) conn = OldSchema schema conn
 refusal_for fault.BadRow conn = BadRow conn
 refusal_for (fault.Unavailable cause) conn = Unavailable cause
 
 -- the connection that a refusal gives back
-abbrev pub given_back : {S : Type 0} → Refused S → Option (Held S)
+abbrev pub given_back : {S : Type 0} → OpenRefusal S → Option (Held S)
 given_back (NotTables conn) = Some conn
 given_back (OldSchema schema conn) = Some conn
 given_back (BadRow conn) = Some conn

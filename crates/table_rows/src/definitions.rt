@@ -8,7 +8,7 @@ ghost use Rattle.sqlite.specs.Effect.{IsDatabase};
 ghost use Rattle.sqlite.specs.State.{HasCleanDisk, IsLive, KeepsCommit, Survives};
 ghost use Rattle.table_meaning.specs.Schema.{no_schema, parts_at, newest, schema_at};
 ghost use Rattle.table_meaning.specs.Schemas.{definitions_between};
-ghost use Rattle.table_meaning.specs.Making.{IsLeft};
+ghost use Rattle.table_meaning.specs.Making.{AreStillToMake};
 ghost use Rattle.table_meaning.specs.Steps.{HoldJust};
 ghost use Rattle.table_rows.specs.Utf8.{HaveUtf8};
 
@@ -42,8 +42,8 @@ pub fn define<S: Alter>(tx: &mut Transaction<'_, S>, from: u32, to: u32) -> Resu
     ensures survives { Survives (state S.Store tx.old.conn.now) (state S.Store tx.new.conn.now) (λ _. ⊥) }
     ensures kept { HasCleanDisk (state S.Store tx.new.conn.now) → KeepsCommit (state S.Store tx.old.conn.now) (state S.Store tx.new.conn.now) }
     ensures made { HasCleanDisk (state S.Store tx.new.conn.now) → IsTrue (state S.Store tx.old.conn.now).in_transaction
-        → (wanted : Schema) (rows : Trees) → IsLeft wanted rows (definitions_between from to) (state S.Store tx.old.conn.now).now
-        → OnOk result (IsLeft wanted rows [] (state S.Store tx.new.conn.now).now × (IsDatabase (state S.Store tx.old.conn.now).now → IsDatabase (state S.Store tx.new.conn.now).now)) }
+        → (wanted : Schema) (rows : Trees) → AreStillToMake wanted rows (definitions_between from to) (state S.Store tx.old.conn.now).now
+        → OnOk result (AreStillToMake wanted rows [] (state S.Store tx.new.conn.now).now × (IsDatabase (state S.Store tx.old.conn.now).now → IsDatabase (state S.Store tx.new.conn.now).now)) }
     ensures inside { HasCleanDisk (state S.Store tx.new.conn.now) → IsTrue (state S.Store tx.old.conn.now).in_transaction → OnOk result (IsTrue (state S.Store tx.new.conn.now).in_transaction) }
     ensures ran { HasCleanDisk (state S.Store tx.new.conn.now) → length (parts_at from) < length (parts_at to)
         → OnOk result (IsTrue (state S.Store tx.old.conn.now).is_open × IsTrue (state S.Store tx.new.conn.now).in_transaction) }

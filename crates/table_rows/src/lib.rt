@@ -26,7 +26,7 @@ pub use keyed::{
 };
 pub use listing::{credits_of_user, hosts_of_user, version_numbers};
 pub use names::{CountedTable, account_with, host_known, last_number, unit_named, version_known};
-pub use opening::{OpenFault, Refused, cause_of, known};
+pub use opening::{OpenFault, OpenRefusal, cause_of, known};
 pub use places::{instances_in, places_due, places_held, places_owned, queued_from, sent_between};
 pub use put::put_rows;
 pub use sched_book::{Cause, Invariant};

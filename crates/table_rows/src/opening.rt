@@ -10,7 +10,7 @@ ghost use Rattle.table_meaning.specs.Schema.{stored_schema};
 ghost use Rattle.table_meaning.specs.Schemas.{IsEarlier, AreKnownAt, AreEarlier};
 ghost use Rattle.table_meaning.specs.Holding.{AreKnown};
 ghost use Rattle.table_rows.specs.Refusing.{given_back, refusal_for, HasNoTransaction};
-ghost use Rattle.table_rows.specs.declared.opening.Refused.TheVariants as refused;
+ghost use Rattle.table_rows.specs.declared.opening.OpenRefusal.TheVariants as refused;
 
 use crate::connection::test_open;
 use crate::schemas::{says_schema, schema_number};
@@ -124,7 +124,7 @@ impl From<OpenFault> for Unavailable {
 
 /// Why a connection is refused.
 #[derive(Drop)]
-pub enum Refused<S: Alter> {
+pub enum OpenRefusal<S: Alter> {
     /// Its tables are not bsched's. The connection was opened anew.
     NotTables(Connection<S>),
     /// Its tables are those of an older schema with this number. The connection was opened anew.
@@ -135,32 +135,32 @@ pub enum Refused<S: Alter> {
     Unavailable(Cause),
 }
 
-impl<S: Alter + Drop> Refused<S> {
+impl<S: Alter + Drop> OpenRefusal<S> {
     /// The refusal of this connection for this fault. If memory or the disk failed, the connection is dropped.
-    pub fn of(fault: OpenFault, conn: Connection<S>) -> Refused<S>
+    pub fn of(fault: OpenFault, conn: Connection<S>) -> OpenRefusal<S>
         ensures { result ≡ refusal_for fault conn }
     {
         match fault {
-            OpenFault::NotTables => Refused::NotTables(conn),
-            OpenFault::OldSchema(schema) => Refused::OldSchema(schema, conn),
-            OpenFault::BadRow => Refused::BadRow(conn),
-            OpenFault::Unavailable(cause) => Refused::Unavailable(cause),
+            OpenFault::NotTables => OpenRefusal::NotTables(conn),
+            OpenFault::OldSchema(schema) => OpenRefusal::OldSchema(schema, conn),
+            OpenFault::BadRow => OpenRefusal::BadRow(conn),
+            OpenFault::Unavailable(cause) => OpenRefusal::Unavailable(cause),
         }
     }
 }
 
-impl<S: Alter + Drop> From<Refused<S>> for OpenFault {
+impl<S: Alter + Drop> From<OpenRefusal<S>> for OpenFault {
     ghost use Rattle.std.specs.Prelude.{◌≡◌};
     ghost use Rattle.table_rows.specs.Refusing.{fault_of};
 
     ghost from_gives = { λ refused e. e ≡ fault_of refused };
 
-    fn from(refused: Refused<S>) -> OpenFault {
+    fn from(refused: OpenRefusal<S>) -> OpenFault {
         match refused {
-            Refused::NotTables(_) => OpenFault::NotTables,
-            Refused::OldSchema(schema, _) => OpenFault::OldSchema(schema),
-            Refused::BadRow(_) => OpenFault::BadRow,
-            Refused::Unavailable(cause) => OpenFault::Unavailable(cause),
+            OpenRefusal::NotTables(_) => OpenFault::NotTables,
+            OpenRefusal::OldSchema(schema, _) => OpenFault::OldSchema(schema),
+            OpenRefusal::BadRow(_) => OpenFault::BadRow,
+            OpenRefusal::Unavailable(cause) => OpenFault::Unavailable(cause),
         }
     }
 }
@@ -187,7 +187,7 @@ fn reopened<S: Alter + Drop>(alloc: Global, conn: Connection<S>) -> Option<Conne
 
 /// Why a connection with the tables of an earlier schema is refused: the row `schema` has that schema's number, or it
 /// does not.
-fn refusal<S: Alter + Drop>(conn: Connection<S>, schema: u32) -> Refused<S>
+fn refusal<S: Alter + Drop>(conn: Connection<S>, schema: u32) -> OpenRefusal<S>
     requires { IsEarlier schema }
     ensures old { (n : ℕ) (c : Held S) → result ≡ refused.OldSchema n c → HasCleanDisk (state S.Store c)
         → HasCleanDisk (state S.Store conn) × (AreKnownAt schema (state S.Store conn).now → (n ≡ schema) × AreEarlier n (state S.Store conn).now) }
@@ -198,15 +198,15 @@ fn refusal<S: Alter + Drop>(conn: Connection<S>, schema: u32) -> Refused<S>
     let mut conn = conn;
     let is_said = match says_schema(&mut conn, schema) {
         Ok(is_said) => is_said,
-        Err(error) => return Refused::Unavailable(cause_of(error)),
+        Err(error) => return OpenRefusal::Unavailable(cause_of(error)),
     };
     if let Err(error) = test_open(&mut conn) {
-        return Refused::Unavailable(cause_of(error));
+        return OpenRefusal::Unavailable(cause_of(error));
     }
     if is_said {
-        Refused::OldSchema(schema, conn)
+        OpenRefusal::OldSchema(schema, conn)
     } else {
-        Refused::NotTables(conn)
+        OpenRefusal::NotTables(conn)
     }
 }
 
@@ -216,7 +216,7 @@ fn refusal<S: Alter + Drop>(conn: Connection<S>, schema: u32) -> Refused<S>
 pub fn known<S: Alter + Drop>(
     alloc: Global,
     conn: Connection<S>,
-) -> Result<Connection<S>, Refused<S>>
+) -> Result<Connection<S>, OpenRefusal<S>>
     ensures known { IfOk result (λ c. HasCleanDisk (state S.Store c) → AreKnown (state S.Store c).now) }
     ensures opens { IfOk result (λ c. HasCleanDisk (state S.Store c) → Opens (state S.Store c)) }
     ensures same { IfOk result (λ c. HasCleanDisk (state S.Store c) → (state S.Store c).now ≡ (state S.Store conn).committed) }
@@ -228,14 +228,14 @@ pub fn known<S: Alter + Drop>(
     ensures back { IfErr result (λ e. IfSome (given_back e) (λ c. HasCleanDisk (state S.Store c) → HasNoTransaction (state S.Store conn).committed (state S.Store c))) }
 {
     let Some(conn) = reopened(alloc, conn) else {
-        return Err(Refused::Unavailable(Cause::Storage(StorageFault::CannotOpen)));
+        return Err(OpenRefusal::Unavailable(Cause::Storage(StorageFault::CannotOpen)));
     };
     let found = match schema_number(alloc, &conn) {
         Ok(found) => found,
-        Err(fault) => return Err(Refused::Unavailable(fault.cause())),
+        Err(fault) => return Err(OpenRefusal::Unavailable(fault.cause())),
     };
     let Some(schema) = found else {
-        return Err(Refused::NotTables(conn));
+        return Err(OpenRefusal::NotTables(conn));
     };
     if schema < NEWEST_SCHEMA {
         return Err(refusal(conn, schema));

@@ -10,7 +10,7 @@ ghost use Rattle.sqlite_value.specs.Order.{Row as SqlRow};
 ghost use Rattle.sqlite_value.specs.Value.{owned};
 ghost use Rattle.sqlite_value.specs.declared.value.Value.TheVariants.{Int as SqlInt};
 ghost use Rattle.table_meaning.specs.declared.rows.StoredRow.TheVariants as stored;
-ghost use Rattle.table_meaning.specs.Places.{place_row, AreAllPlaces, ShowsPlaces, places_where, instances_within, is_of_host, is_held_by, page_size, waits_from, is_sent_between, is_due};
+ghost use Rattle.table_meaning.specs.Places.{place_row, AreAllPlaces, ShowsPlaces, places_with_row, instances_within, is_of_host, is_row_held_by, page_size, waits_from, is_sent_between, is_due};
 ghost use Rattle.table_meaning.specs.Rows.{columns_of};
 ghost use Rattle.table_meaning.specs.Formats.{columns_in};
 ghost use Rattle.table_meaning.specs.Reads.{Reads};
@@ -73,8 +73,8 @@ fn places_shown<S: Alter>(
 
 /// Sorts places by the workunit and then by the number. They are the places that pass some test, in any order.
 fn in_order(places: Listed<Place>) -> Listed<Place>
-    ensures { (contents : Contents) (all : List BookPlace) (test : SqlRow → Bool) → AreAllPlaces contents all → IsPermutation (places_where contents test all) places
-        → result ≡ places_where contents test all }
+    ensures { (contents : Contents) (all : List BookPlace) (test : SqlRow → Bool) → AreAllPlaces contents all → IsPermutation (places_with_row contents test all) places
+        → result ≡ places_with_row contents test all }
 {
     let mut places = places.into_vec();
     places.sort_unstable_by_key(|place| (place.unit, place.number));
@@ -130,7 +130,7 @@ pub fn places_held<S: Alter>(
 ) -> Result<Listed<Place>, OpenFault>
     ensures reads { Reads (state S.Store conn.old) (state S.Store conn.new) }
     ensures held { HasCleanDisk (state S.Store conn.new) → (contents : Contents) (places : List BookPlace) → Hold (state S.Store conn.old).now contents → AreAllPlaces contents places
-        → length (places_where contents (is_held_by host) places) ≤ most → IfOk result (λ held. held ≡ places_where contents (is_held_by host) places) }
+        → length (places_with_row contents (is_row_held_by host) places) ≤ most → IfOk result (λ held. held ≡ places_with_row contents (is_row_held_by host) places) }
 {
     let held = places_shown(
         alloc,
@@ -149,7 +149,7 @@ pub fn places_owned<S: Alter>(
 ) -> Result<Listed<Place>, OpenFault>
     ensures reads { Reads (state S.Store conn.old) (state S.Store conn.new) }
     ensures owned { HasCleanDisk (state S.Store conn.new) → (contents : Contents) (places : List BookPlace) → Hold (state S.Store conn.old).now contents → AreAllPlaces contents places
-        → IfOk result (λ owned. owned ≡ places_where contents (is_of_host host) places) }
+        → IfOk result (λ owned. owned ≡ places_with_row contents (is_of_host host) places) }
 {
     places_shown(
         alloc,
@@ -169,7 +169,7 @@ pub fn queued_from<S: Alter>(
 ) -> Result<Listed<Place>, OpenFault>
     ensures reads { Reads (state S.Store conn.old) (state S.Store conn.new) }
     ensures queued { HasCleanDisk (state S.Store conn.new) → (contents : Contents) (places : List BookPlace) → Hold (state S.Store conn.old).now contents → AreAllPlaces contents places
-        → IfOk result (λ queued. queued ≡ take (page_size page) (places_where contents (waits_from from) places)) }
+        → IfOk result (λ queued. queued ≡ take (page_size page) (places_with_row contents (waits_from from) places)) }
 {
     places_shown(
         alloc,
@@ -190,7 +190,7 @@ pub fn sent_between<S: Alter>(
 ) -> Result<u32, OpenFault>
     ensures reads { Reads (state S.Store conn.old) (state S.Store conn.new) }
     ensures sent { HasCleanDisk (state S.Store conn.new) → (contents : Contents) (places : List BookPlace) → Hold (state S.Store conn.old).now contents → AreAllPlaces contents places
-        → IfOk result (λ count. count ≡ length (places_where contents (is_sent_between host from until) places)) }
+        → IfOk result (λ count. count ≡ length (places_with_row contents (is_sent_between host from until) places)) }
 {
     let sent = places_shown(
         alloc,
@@ -214,7 +214,7 @@ pub fn places_due<S: Alter>(
 ) -> Result<Listed<Place>, OpenFault>
     ensures reads { Reads (state S.Store conn.old) (state S.Store conn.new) }
     ensures due { HasCleanDisk (state S.Store conn.new) → (contents : Contents) (places : List BookPlace) → Hold (state S.Store conn.old).now contents → AreAllPlaces contents places
-        → IfOk result (λ due. due ≡ places_where contents (is_due from until) places) }
+        → IfOk result (λ due. due ≡ places_with_row contents (is_due from until) places) }
 {
     let due = places_shown(
         alloc,

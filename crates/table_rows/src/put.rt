@@ -4,7 +4,7 @@ ghost use Rattle.std.specs.Prelude.{◌≡◌, ◌≢◌, false, [], ◌∷◌, 
 ghost use Rattle.sqlite.specs.Held.{state};
 ghost use Rattle.sqlite.specs.State.{HasCleanDisk, KeepsCommit, Survives};
 ghost use Rattle.sqlite_value.specs.Value.{owned};
-ghost use Rattle.table_meaning.specs.Rows.{table_at, columns_of, key_of};
+ghost use Rattle.table_meaning.specs.Rows.{table_at, columns_of, row_key_of};
 ghost use Rattle.table_meaning.specs.Steps.{PutsRows, Moves};
 ghost use Rattle.table_rows.specs.Utf8.{HasUtf8, HaveUtf8};
 

@@ -3,7 +3,7 @@
 
 ghost use Rattle.std.specs.Prelude.{◌≡◌, ◌≤◌, [], length, option_map, slice_index_or};
 ghost use Rattle.table_meaning.specs.Schema.{parts_at, newest};
-ghost use Rattle.table_meaning.specs.Rows.{table_at, key_of};
+ghost use Rattle.table_meaning.specs.Rows.{table_at, row_key_of};
 ghost use Rattle.table_meaning.specs.Texts.{definition_texts, read_text as sql_read, put_text as sql_put, update_first};
 ghost use Rattle.table_meaning.specs.Fills.{next_text as sql_next, fill_text as sql_fill, fills_of as sql_fills};
 
@@ -88,7 +88,7 @@ pub const PUT_SETTING: &str =
 
 /// The statement that puts the row.
 pub(crate) fn put_text(row: &StoredRow) -> &'static str
-    ensures { result.now ≡ sql_put (table_at (key_of row.now)) }
+    ensures { result.now ≡ sql_put (table_at (row_key_of row.now)) }
 {
     match row {
         StoredRow::Setting(_) => PUT_SETTING,
@@ -118,7 +118,7 @@ pub(crate) fn put_text(row: &StoredRow) -> &'static str
 /// The statement that updates the row at its key. Only the tables whose rows mostly exist before they are put have one.
 /// For them it costs less than the statement that puts the row.
 pub(crate) fn update_text(row: &StoredRow) -> Option<&'static str>
-    ensures { option_map (λ text. text.now) result ≡ update_first (table_at (key_of row.now)) }
+    ensures { option_map (λ text. text.now) result ≡ update_first (table_at (row_key_of row.now)) }
 {
     match row {
         StoredRow::Unit(_) => Some(

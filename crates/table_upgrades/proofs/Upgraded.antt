@@ -9,7 +9,7 @@ use Rattle.table_meaning.specs.Reads.{Reads}
 use Rattle.table_meaning.specs.Upgrades.{MakesNext, Goes, IsLeftFrom, IsLeftBehind, StopsBetween}
 use Rattle.table_meaning.proofs.StepLemmas.{survives_itself}
 use Rattle.table_meaning.proofs.Listings.{here_or_later}
-use Rattle.table_upgrades.specs.Frames.{IsCommitted, OutsideTransaction}
+use Rattle.table_upgrades.specs.Frames.{IsAllCommitted, OutsideTransaction}
 
 -- ---- one step
 
@@ -31,7 +31,7 @@ pub record HasTakenSteps (n next : ℕ) (old now : State) : Type 0 where
   pub outside : OutsideTransaction old now
   pub goes : HasCleanDisk now → Goes n (next - n) old.now now.now
   pub first : next ≡ n → HasCleanDisk now → now.committed ≡ old.committed
-  pub later : n < next → HasCleanDisk now → IsCommitted now
+  pub later : n < next → HasCleanDisk now → IsAllCommitted now
 
 pub gone_nowhere : (n : ℕ) → IsEarlier n → (old : State) → HasTakenSteps n n old old
 gone_nowhere n earlier old = record {
@@ -56,7 +56,7 @@ module _ (n next : ℕ) (old mid new : State) (gone : HasTakenSteps n next old m
       let early : HasCleanDisk mid = omega (arith, step.clean) in
       (gone.outside.was_open early it.0, it.1, (next - n, omega (arith, gone.from, less), one_more early it.1 it.2), it.3)) gone.survives step
 
-  pub gone_further : OutsideTransaction mid new → (HasCleanDisk new → MakesNext next mid.now new.committed) → (HasCleanDisk new → IsCommitted new) → HasTakenSteps n (next + 1) old new
+  pub gone_further : OutsideTransaction mid new → (HasCleanDisk new → MakesNext next mid.now new.committed) → (HasCleanDisk new → IsAllCommitted new) → HasTakenSteps n (next + 1) old new
   gone_further outside makes committed = record {
     from = omega (arith, gone.from);
     within = omega (arith, less);
@@ -89,7 +89,7 @@ module _ (n next : ℕ) (old mid new : State) (gone : HasTakenSteps n next old m
       early = omega (arith, step.clean)
 
 -- the last step was made
-pub gone_all : (n next : ℕ) → IsEarlier n → (old now : State) → HasTakenSteps n next old now → newest ≤ next → HasCleanDisk now → Goes n (newest - n) old.now now.committed × IsCommitted now
+pub gone_all : (n next : ℕ) → IsEarlier n → (old now : State) → HasTakenSteps n next old now → newest ≤ next → HasCleanDisk now → Goes n (newest - n) old.now now.committed × IsAllCommitted now
 gone_all n next earlier old now gone past clean =
     let last : next ≡ newest = omega (arith, past, gone.within) in
     let committed = gone.later (omega (arith, past, earlier.1)) clean in

@@ -21,6 +21,6 @@ pub record OutsideTransaction (old new : State) : Type 0 where
   pub idle : old.in_transaction ≡ false → new.in_transaction ≡ false
 
 -- The connection is open, and all that it shows is committed.
-pub record IsCommitted (new : State) : Type 0 where
+pub record IsAllCommitted (new : State) : Type 0 where
   pub is_open : IsTrue new.is_open
   pub rest : new.now ≡ new.committed

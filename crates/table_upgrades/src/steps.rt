@@ -8,7 +8,7 @@ ghost use Rattle.table_meaning.specs.Schemas.{IsSchema, IsEarlier, AreKnownAt, A
 ghost use Rattle.table_meaning.specs.Rows.{whole as sql_whole};
 ghost use Rattle.table_meaning.specs.Upgrades.{PutsSchema, MakesNext, Goes, IsLeftFrom, StopsBetween, Upgrades, IsLeftBehind, StaysOrUpgrades};
 ghost use Rattle.table_rows.specs.Refusing.{SparesSchema};
-ghost use Rattle.table_upgrades.specs.Frames.{IsCommitted, OutsideTransaction, StaysWithin, WithinTransaction};
+ghost use Rattle.table_upgrades.specs.Frames.{IsAllCommitted, OutsideTransaction, StaysWithin, WithinTransaction};
 
 use crate::fills::fill_tables;
 use sqlite::types::ValueRef;
@@ -65,7 +65,7 @@ fn upgrade_step<S: Alter>(
 ) -> Result<(), OpenFault>
     requires { IsEarlier schema }
     ensures outside { OutsideTransaction (state S.Store conn.old) (state S.Store conn.new) }
-    ensures committed { HasCleanDisk (state S.Store conn.new) → OnOk result (IsCommitted (state S.Store conn.new)) }
+    ensures committed { HasCleanDisk (state S.Store conn.new) → OnOk result (IsAllCommitted (state S.Store conn.new)) }
     ensures makes { HasCleanDisk (state S.Store conn.new) → OnOk result (MakesNext schema (state S.Store conn.old).now (state S.Store conn.new).committed) }
     ensures neither { HasCleanDisk (state S.Store conn.new) → IsTrue (state S.Store conn.new).is_open
         → OnErr result (((state S.Store conn.new).now ≡ (state S.Store conn.old).now) × ((state S.Store conn.new).committed ≡ (state S.Store conn.old).committed)) }
@@ -89,7 +89,7 @@ fn upgrade_from<S: Alter>(
 ) -> Result<(), OpenFault>
     requires { IsEarlier schema }
     ensures outside { OutsideTransaction (state S.Store conn.old) (state S.Store conn.new) }
-    ensures committed { HasCleanDisk (state S.Store conn.new) → OnOk result (IsCommitted (state S.Store conn.new)) }
+    ensures committed { HasCleanDisk (state S.Store conn.new) → OnOk result (IsAllCommitted (state S.Store conn.new)) }
     ensures goes { HasCleanDisk (state S.Store conn.new) → OnOk result (Goes schema (newest - schema) (state S.Store conn.old).now (state S.Store conn.new).committed) }
     ensures neither { HasCleanDisk (state S.Store conn.new) → IsTrue (state S.Store conn.new).is_open → OnErr result (StopsBetween schema (state S.Store conn.old) (state S.Store conn.new)) }
     ensures crash { Survives (state S.Store conn.old) (state S.Store conn.new)
@@ -109,7 +109,7 @@ fn upgrade_from<S: Alter>(
 /// leave before, or whole tables of a later schema.
 pub fn upgrade<S: Alter>(alloc: Global, conn: &mut Connection<S>) -> Result<u32, OpenFault>
     ensures outside { OutsideTransaction (state S.Store conn.old) (state S.Store conn.new) }
-    ensures committed { HasCleanDisk (state S.Store conn.new) → OnOk result (IsCommitted (state S.Store conn.new)) }
+    ensures committed { HasCleanDisk (state S.Store conn.new) → OnOk result (IsAllCommitted (state S.Store conn.new)) }
     ensures number { IfOk result (λ n. n ≡ newest) }
     ensures of_schema { OnOk result ((n : ℕ) × IsSchema n × ((state S.Store conn.old).now.schema ≡ schema_at n)) }
     ensures upgrades { HasCleanDisk (state S.Store conn.new) → OnOk result (Upgrades (state S.Store conn.old).now (state S.Store conn.new).committed) }

@@ -14,7 +14,7 @@ use Rattle.sched_book.specs.declared.world.World.{World}
 use Rattle.sched_book.proofs.PlacesOf.{nth-suc}
 use Rattle.table_meaning.specs.declared.rows.StoredRow.{StoredRow}
 use Rattle.table_meaning.specs.declared.rows.StoredRow.TheVariants as stored
-use Rattle.table_meaning.specs.Rows.{RowKey, key_of}
+use Rattle.table_meaning.specs.Rows.{RowKey, row_key_of}
 use Rattle.table_meaning.specs.Worlds.{instance_row}
 use Rattle.table_meaning.proofs.Listings.{in_range}
 use Rattle.table_worlds.specs.declared.keys.NumberedTable.{NumberedTable}
@@ -86,15 +86,15 @@ instance_listed w (suc i) number = elim (among 1 i number w.units) [
 
 -- ---- the row at a key has that key
 
-of_row : {X : Type 0} (f : X → StoredRow) (key : RowKey) → ((x : X) → key_of (f x) ≡ key) → (o : Option X) (r : StoredRow) → option_map f o ≡ Some r → key_of r ≡ key
+of_row : {X : Type 0} (f : X → StoredRow) (key : RowKey) → ((x : X) → row_key_of (f x) ≡ key) → (o : Option X) (r : StoredRow) → option_map f o ≡ Some r → row_key_of r ≡ key
 of_row f key has None r is = absurd (none-some r is)
-of_row f key has (Some x) r is = ap (λ o. key_of (unwrap_or o (f x))) (sym is) ∙ has x
+of_row f key has (Some x) r is = ap (λ o. row_key_of (unwrap_or o (f x))) (sym is) ∙ has x
 
-pub row_has_key : (w : World) (key : WorldKey) (r : StoredRow) → row_in w key ≡ Some r → key_of r ≡ row_key key
+pub row_has_key : (w : World) (key : WorldKey) (r : StoredRow) → row_in w key ≡ Some r → row_key_of r ≡ row_key key
 row_has_key w (Instance p) r is = of_unit (unit_at w p.unit) is
   where
     of_unit : (o : Option UnitBook) → option_and_then (λ (b : UnitBook). option_map (λ (x : Job). stored.Instance (instance_row w b p.unit p.number x)) (slice_get b.instances p.number)) o ≡ Some r
-        → key_of r ≡ row_key (Instance p)
+        → row_key_of r ≡ row_key (Instance p)
     of_unit None none = absurd (none-some r none)
     of_unit (Some b) found = of_row _ _ (λ x. refl) (slice_get b.instances p.number) r found
 row_has_key w _ r is = of_row _ _ (λ x. refl) _ r is

@@ -8,8 +8,8 @@ use Rattle.sched_book.specs.Step.{empty_world}
 use Rattle.sched_book.specs.declared.settings.Settings.{Settings}
 use Rattle.sched_book.proofs.PlacesOf.{nth-suc}
 use Rattle.table_meaning.specs.declared.rows.StoredRow.TheVariants as stored
-use Rattle.table_meaning.specs.Rows.{RowKey, setting_key, account_key, app_key, version_key, class_key, unit_key, mark_key, host_key, instance_key, kept_key, batch_key, key_of, same_key}
-use Rattle.table_meaning.specs.Holding.{Contents, with_rows}
+use Rattle.table_meaning.specs.Rows.{RowKey, setting_key, account_key, app_key, version_key, class_key, unit_key, mark_key, host_key, instance_key, kept_key, batch_key, row_key_of, same_row_key}
+use Rattle.table_meaning.specs.Holding.{Contents, with_stored_rows}
 use Rattle.table_meaning.specs.Worlds.{setting_in, contents_of}
 use Rattle.table_meaning.proofs.Keys.{is_put, settled, key_itself}
 use Rattle.table_worlds.specs.RowsOf.{setting_rows}
@@ -23,15 +23,15 @@ module _ (s : Settings) where
   abbrev empty : Contents
   empty = contents_of (empty_world s) (λ _ _. None) (λ _ _. None)
 
-  pub each_stands : AllByRecursion (λ r. empty (key_of r) ≡ Some r) (setting_rows s)
+  pub each_stands : AllByRecursion (λ r. empty (row_key_of r) ≡ Some r) (setting_rows s)
   each_stands = (refl, (refl, (refl, (refl, (refl, (refl, (refl, (refl, tt))))))))
 
   -- a name that is none of these
-  other_name : (name other : List ℕ) → same_key (setting_key name) (setting_key other) ≡ false → bytes_eq name other ≡ false
+  other_name : (name other : List ℕ) → same_row_key (setting_key name) (setting_key other) ≡ false → bytes_eq name other ≡ false
   other_name name other apart = cases (bytes_eq name other) refl
     where
       cases : (b : Bool) → bytes_eq name other ≡ b → b ≡ false
-      cases true same = absurd (true≢false (sym (ap (λ n. same_key (setting_key n) (setting_key other)) ((bytes_eq-Decides name other).0 same) ∙ key_itself (setting_key other)) ∙ apart))
+      cases true same = absurd (true≢false (sym (ap (λ n. same_row_key (setting_key n) (setting_key other)) ((bytes_eq-Decides name other).0 same) ∙ key_itself (setting_key other)) ∙ apart))
       cases false same = refl
 
   first : (a b : Bool) → (a || b) ≡ false → a ≡ false
@@ -74,5 +74,5 @@ module _ (s : Settings) where
   others_none (kept_key host slot) none = refl
   others_none (batch_key kind name) none = refl
 
-  pub new_world : (key : RowKey) → with_rows (λ k. None) (setting_rows s) key ≡ empty key
+  pub new_world : (key : RowKey) → with_stored_rows (λ k. None) (setting_rows s) key ≡ empty key
   new_world = settled (λ k. None) empty (setting_rows s) each_stands others_none

@@ -24,7 +24,7 @@ use Rattle.table_meaning.specs.Kept.{number_of}
 use Rattle.table_meaning.specs.Rows.{columns_of, whole}
 use Rattle.table_meaning.specs.Worlds.{is_marked, agreement_limit, account_row, app_row, version_row, class_row, unit_row, mark_row, host_row, instance_row}
 use Rattle.table_meaning.proofs.CodesBack.{lapse_back}
-use Rattle.table_worlds.specs.ReadBack.{number_in, account_in, agreement_in, app_in, version_in, rule_in, unit_in, host_in, owner_in, report_in, job_in}
+use Rattle.table_worlds.specs.ReadBack.{number_or_none, account_in, agreement_in, app_in, version_in, rule_in, unit_in, host_in, owner_in, report_in, job_in}
 use Rattle.table_worlds.proofs.AppsNamed.{name_back}
 use Rattle.table_worlds.proofs.JoinedWords.{split_joined}
 use Rattle.texts.specs.Words.{IsWord}
@@ -32,7 +32,7 @@ use Rattle.texts.specs.Words.{IsWord}
 -- ---- the values in columns
 
 -- a number or none is read back from its column
-number_back : (o : Option ℕ) → number_in (or_null whole o) ≡ o
+number_back : (o : Option ℕ) → number_or_none (or_null whole o) ≡ o
 number_back None = refl
 number_back (Some n) = refl
 
@@ -43,7 +43,7 @@ pub account_back : (id : ℕ) (a : Account) → account_in (columns_of (stored.A
 account_back id a = refl
 
 -- an agreement is read back from its limit
-agreement_back : (g : Agreement) → agreement_in (number_in (or_null whole (agreement_limit g))) ≡ g
+agreement_back : (g : Agreement) → agreement_in (number_or_none (or_null whole (agreement_limit g))) ≡ g
 agreement_back Exact = refl
 agreement_back (Within n) = refl
 
@@ -77,7 +77,7 @@ host_back held credit id h words = λ i. record h { platforms = split_joined h.p
 
 -- an owner or none is read back from its three columns
 owner_back : (o : Option Owner)
-    → owner_in (number_in (or_null whole (option_map (λ (o : Owner). o.host) o))) (number_of (or_null Int (option_map (λ (o : Owner). pos o.sent) o))) (number_of (or_null Int (option_map (λ (o : Owner). pos o.deadline) o))) ≡ o
+    → owner_in (number_or_none (or_null whole (option_map (λ (o : Owner). o.host) o))) (number_of (or_null Int (option_map (λ (o : Owner). pos o.sent) o))) (number_of (or_null Int (option_map (λ (o : Owner). pos o.deadline) o))) ≡ o
 owner_back None = refl
 owner_back (Some o) = refl
 
@@ -88,7 +88,7 @@ success_back false = refl
 
 -- a report or none is read back from its three columns
 report_back : (r : Option Outcome)
-    → report_in (number_in (or_null whole (option_map (λ (r : Outcome). if r.success then 1 else 3) r))) (bytes (or_null Text (option_map (λ (r : Outcome). r.output) r))) (number_in (or_null whole (option_and_then (λ (r : Outcome). r.place) r))) ≡ r
+    → report_in (number_or_none (or_null whole (option_map (λ (r : Outcome). if r.success then 1 else 3) r))) (bytes (or_null Text (option_map (λ (r : Outcome). r.output) r))) (number_or_none (or_null whole (option_and_then (λ (r : Outcome). r.place) r))) ≡ r
 report_back None = refl
 report_back (Some r) = λ i. Some (record { success = success_back r.success i; output = r.output; place = number_back r.place i })
 

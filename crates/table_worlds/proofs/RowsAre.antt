@@ -15,8 +15,8 @@ use Rattle.sched_book.proofs.PlacesOf.{nth-suc}
 use Rattle.table_meaning.specs.declared.rows.StoredRow.{StoredRow}
 use Rattle.table_meaning.specs.declared.tables.TableName.TheVariants as name
 use Rattle.table_meaning.specs.Holding.{Contents}
-use Rattle.table_meaning.specs.Listings.{standing}
-use Rattle.table_meaning.specs.Rows.{RowKey, rows_in, columns_of, table_at, key_columns, key_of}
+use Rattle.table_meaning.specs.Listings.{existing_rows}
+use Rattle.table_meaning.specs.Rows.{RowKey, rows_in, columns_of, table_at, key_columns, row_key_of}
 use Rattle.table_meaning.specs.Worlds.{BatchText, SlotCalls, contents_of, HoldWorld}
 use Rattle.table_meaning.proofs.EachRow.{number_in, key_of_table}
 use Rattle.table_meaning.proofs.Listings.{IsByNumber, all_listed, keyed_by_number}
@@ -82,7 +82,7 @@ module _ (db : Database) (w : World) (calls : SlotCalls) (batches : List ℕ →
   rows_are : (t : NumberedTable) (rows : List StoredRow) → map columns_of rows ≡ rows_in db.trees (table_name t) → rows ≡ filter_map (row_in w) (numbered t (count_of t))
   rows_are t rows read =
       let every = all_listed (table_name t) (key_at t) (by_number t) db contents holds (count_of t) (none_at_zero t) (none_past t) in
-      all_told rows (standing contents (key_at t) 1 (count_of t)) (read ∙ every)
+      all_told rows (existing_rows contents (key_at t) 1 (count_of t)) (read ∙ every)
       ∙ (λ i. filter_map (λ n. same_row t n i) (range_with_len 1 (count_of t))) ∙ sym (over_map (row_in w) (keyed t) (range_with_len 1 (count_of t)))
 
   -- ---- settings and instances
@@ -95,8 +95,8 @@ module _ (db : Database) (w : World) (calls : SlotCalls) (batches : List ℕ →
     λ r has. let stands = rows_stand db contents holds name.Setting rows read r has in setting_listed w.settings stands.0 r (sym (same_setting stands.0 stands.1) ∙ stands.2),
     λ r has.
         let at = table_of_setting w.settings r has in
-        all_are_read db contents holds name.Setting rows read (key_of r) at r
-        (same_setting (key_of r) at ∙ all_has (λ s. contents_of (empty_world w.settings) (λ _ _. None) (λ _ _. None) (key_of s) ≡ Some s) (setting_rows w.settings) r (each_stands w.settings) has),
+        all_are_read db contents holds name.Setting rows read (row_key_of r) at r
+        (same_setting (row_key_of r) at ∙ all_has (λ s. contents_of (empty_world w.settings) (λ _ _. None) (λ _ _. None) (row_key_of s) ≡ Some s) (setting_rows w.settings) r (each_stands w.settings) has),
   )
 
   instances_are : (rows : List StoredRow) → map columns_of rows ≡ rows_in db.trees name.Instance → HaveSame rows (filter_map (row_in w) (map Instance (places w)))

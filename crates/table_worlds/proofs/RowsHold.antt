@@ -19,7 +19,7 @@ use Rattle.table_meaning.specs.declared.rows.StoredRow.TheVariants as stored
 use Rattle.table_meaning.specs.declared.tables.TableName.{TableName}
 use Rattle.table_meaning.specs.declared.tables.TableName.TheVariants as name
 use Rattle.table_meaning.specs.Holding.{HaveKeys}
-use Rattle.table_meaning.specs.Rows.{RowKey, tree_of, setting_key, account_key, app_key, version_key, class_key, unit_key, mark_key, host_key, instance_key, kept_key, batch_key, table_at, key_of, columns_of, rows_in, look_up, same_key}
+use Rattle.table_meaning.specs.Rows.{RowKey, tree_of, setting_key, account_key, app_key, version_key, class_key, unit_key, mark_key, host_key, instance_key, kept_key, batch_key, table_at, row_key_of, columns_of, rows_in, look_up, same_row_key}
 use Rattle.table_meaning.specs.Worlds.{BatchText, SlotCalls, setting_in, contents_of}
 use Rattle.table_meaning.proofs.Keys.{is_put, one_key}
 use Rattle.table_meaning.proofs.RowsHeld.{held_at, keyed_by}
@@ -115,26 +115,26 @@ module _ (s : Settings) where
   pub setting_listed : (key : RowKey) (r : StoredRow) → empty key ≡ Some r → Has (setting_rows s) r
   setting_listed key r is = elim (cases_Bool (is_put (setting_rows s) key)) [
     | inl put ↦
-        let one = some_has (λ row. same_key key (key_of row)) (setting_rows s) put in
-        let same : key ≡ key_of one.0 = one_key key (key_of one.0) one.2 in
-        let stands : Some one.0 ≡ Some r = sym (ap empty same ∙ all_has (λ q. empty (key_of q) ≡ Some q) (setting_rows s) one.0 (each_stands s) one.1) ∙ is in
+        let one = some_has (λ row. same_row_key key (row_key_of row)) (setting_rows s) put in
+        let same : key ≡ row_key_of one.0 = one_key key (row_key_of one.0) one.2 in
+        let stands : Some one.0 ≡ Some r = sym (ap empty same ∙ all_has (λ q. empty (row_key_of q) ≡ Some q) (setting_rows s) one.0 (each_stands s) one.1) ∙ is in
         subst (Has (setting_rows s)) (ap (λ o. unwrap_or o r) stands) one.1
     | inr other ↦ absurd (none-some r (others_none s key other ∙ is))
   ]
 
-  pub table_of_setting : (r : StoredRow) → Has (setting_rows s) r → table_at (key_of r) ≡ name.Setting
-  table_of_setting r has = all_has (λ q. table_at (key_of q) ≡ name.Setting) (setting_rows s) r (refl, (refl, (refl, (refl, (refl, (refl, (refl, (refl, tt)))))))) has
+  pub table_of_setting : (r : StoredRow) → Has (setting_rows s) r → table_at (row_key_of r) ≡ name.Setting
+  table_of_setting r has = all_has (λ q. table_at (row_key_of q) ≡ name.Setting) (setting_rows s) r (refl, (refl, (refl, (refl, (refl, (refl, (refl, (refl, tt)))))))) has
 
   settings_at : (trees : Trees) (rows : List StoredRow) → map columns_of rows ≡ rows_in trees name.Setting → HaveSame rows (setting_rows s) → (text : List ℕ)
       → look_up trees (setting_key text) ≡ option_map columns_of (empty (setting_key text))
   settings_at trees rows read same text =
       held_at trees name.Setting rows read (λ r has. table_of_setting r (same.0 r has)) (setting_key text) refl (empty (setting_key text))
       (λ r is. (same.1 r (setting_listed (setting_key text) r is), of_setting (setting_in s text) r is))
-      (λ r has key. ap empty (sym key) ∙ all_has (λ q. empty (key_of q) ≡ Some q) (setting_rows s) r (each_stands s) (same.0 r has))
+      (λ r has key. ap empty (sym key) ∙ all_has (λ q. empty (row_key_of q) ≡ Some q) (setting_rows s) r (each_stands s) (same.0 r has))
     where
-      of_setting : (o : Option SettingValue) (r : StoredRow) → option_map (λ v. stored.Setting (record { name = text; value = v })) o ≡ Some r → key_of r ≡ setting_key text
+      of_setting : (o : Option SettingValue) (r : StoredRow) → option_map (λ v. stored.Setting (record { name = text; value = v })) o ≡ Some r → row_key_of r ≡ setting_key text
       of_setting None r is = absurd (none-some r is)
-      of_setting (Some v) r is = ap (λ o. key_of (unwrap_or o (stored.Setting (record { name = text; value = v })))) (sym is)
+      of_setting (Some v) r is = ap (λ o. row_key_of (unwrap_or o (stored.Setting (record { name = text; value = v })))) (sym is)
 
 -- ---- the whole world
 

@@ -10,8 +10,8 @@ use Rattle.sched_book.specs.declared.world.World.{World}
 use Rattle.sched_book.proofs.Fitting.{settings_stay_in}
 use Rattle.table_meaning.specs.declared.rows.StoredRow.{StoredRow}
 use Rattle.table_meaning.specs.declared.rows.StoredRow.TheVariants as stored
-use Rattle.table_meaning.specs.Rows.{RowKey, setting_key, account_key, app_key, version_key, class_key, unit_key, mark_key, host_key, instance_key, kept_key, batch_key, key_of}
-use Rattle.table_meaning.specs.Holding.{with_rows}
+use Rattle.table_meaning.specs.Rows.{RowKey, setting_key, account_key, app_key, version_key, class_key, unit_key, mark_key, host_key, instance_key, kept_key, batch_key, row_key_of}
+use Rattle.table_meaning.specs.Holding.{with_stored_rows}
 use Rattle.table_meaning.specs.Worlds.{setting_in, call_row, BatchText, SlotCalls, contents_of}
 use Rattle.table_meaning.proofs.Keys.{is_put, settled}
 use Rattle.table_worlds.specs.declared.keys.WorldKey.{WorldKey}
@@ -28,14 +28,14 @@ at_world_key w calls batches _ = refl
 
 module _ (w : World) (cs : Delta) (rows : List StoredRow) (changes : AreChanges w (applied w cs) rows)
     (calls calls' : SlotCalls) (batches batches' : List ℕ → List ℕ → Option BatchText) (more : List StoredRow)
-    (kept : AllByRecursion (λ r. contents_of (applied w cs) calls' batches' (key_of r) ≡ Some r) more)
+    (kept : AllByRecursion (λ r. contents_of (applied w cs) calls' batches' (row_key_of r) ≡ Some r) more)
     (other_calls : (host slot : ℕ) → is_put more (kept_key host slot) ≡ false → calls host slot ≡ calls' host slot)
     (other_batches : (kind name : List ℕ) → is_put more (batch_key kind name) ≡ false → batches kind name ≡ batches' kind name) where
   abbrev w' : World
   w' = applied w cs
 
   each_holds : (xs : List StoredRow) → AllByRecursion (λ r. (key : WorldKey) × (row_in w' key ≡ Some r)) xs
-      → AllByRecursion (λ r. contents_of w' calls' batches' (key_of r) ≡ Some r) (xs ++ more)
+      → AllByRecursion (λ r. contents_of w' calls' batches' (row_key_of r) ≡ Some r) (xs ++ more)
   each_holds [] all = kept
   each_holds (r ∷ xs) all = (
     ap (contents_of w' calls' batches') (row_has_key w' all.0.0 r all.0.1) ∙ at_world_key w' calls' batches' all.0.0 ∙ all.0.1,
@@ -64,5 +64,5 @@ module _ (w : World) (cs : Delta) (rows : List StoredRow) (changes : AreChanges 
   others_hold (kept_key host slot) none = ap (option_map (λ (k : Call). stored.Kept (call_row host slot k))) (other_calls host slot (not_put (kept_key host slot) none).1)
   others_hold (batch_key kind name) none = ap (option_map (λ (b : BatchText). stored.Batch (record { kind = kind; name = name; text = b.0; answer = b.1 }))) (other_batches kind name (not_put (batch_key kind name) none).1)
 
-  pub world_settled : (key : RowKey) → with_rows (contents_of w calls batches) (rows ++ more) key ≡ contents_of w' calls' batches' key
+  pub world_settled : (key : RowKey) → with_stored_rows (contents_of w calls batches) (rows ++ more) key ≡ contents_of w' calls' batches' key
   world_settled = settled (contents_of w calls batches) (contents_of w' calls' batches') (rows ++ more) (each_holds rows changes.each) others_hold

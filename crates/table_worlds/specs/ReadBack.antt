@@ -30,14 +30,14 @@ abbrev pub text_at : Row → ℕ → List ℕ
 text_at row at = bytes (column row at)
 
 -- a number or none
-abbrev pub number_in : Value → Option ℕ
-number_in (Int (pos n)) = Some n
-number_in other = None
+abbrev pub number_or_none : Value → Option ℕ
+number_or_none (Int (pos n)) = Some n
+number_or_none other = None
 
 -- a text or none
-abbrev pub text_in : Value → Option (List ℕ)
-text_in (Text t) = Some t
-text_in other = None
+abbrev pub text_or_none : Value → Option (List ℕ)
+text_or_none (Text t) = Some t
+text_or_none other = None
 
 -- ---- accounts and applications
 
@@ -52,7 +52,7 @@ agreement_in (Some n) = Within n
 
 -- the application of a row
 abbrev pub app_in : Row → App
-app_in row = record { name = text_at row 1; agreement = agreement_in (number_in (column row 2)) }
+app_in row = record { name = text_at row 1; agreement = agreement_in (number_or_none (column row 2)) }
 
 -- ---- versions and workunits, for these applications
 
@@ -71,7 +71,7 @@ rule_marked (Some class) = Only class
 
 -- the rule in a row of marks
 abbrev pub rule_in : Row → ClassRule
-rule_in mark = if number_at mark 1 == 0 then Any else rule_marked (text_in (column mark 2))
+rule_in mark = if number_at mark 1 == 0 then Any else rule_marked (text_or_none (column mark 2))
 
 -- the workunit of a row, with the rule of its mark
 abbrev pub unit_in : List App → Row → Row → Workunit
@@ -124,7 +124,7 @@ report_in (Some code) output place = Some (record { success = code == 1; output 
 -- the instance of a row
 abbrev pub job_in : Row → Job
 job_in row = record {
-  owner = owner_in (number_in (column row 2)) (number_at row 3) (number_at row 4);
+  owner = owner_in (number_or_none (column row 2)) (number_at row 3) (number_at row 4);
   lapse = lapse_in (number_at row 5);
-  report = report_in (number_in (column row 6)) (text_at row 7) (number_in (column row 8));
+  report = report_in (number_or_none (column row 6)) (text_at row 7) (number_or_none (column row 8));
 }

@@ -4,7 +4,7 @@ use texts::Text;
 
 /// What a statement says of an instance that a host was given.
 #[derive(Drop)]
-pub struct Line {
+pub struct StatementLine {
     /// The instance's name.
     pub result: Text,
     /// The name of its workunit's application.

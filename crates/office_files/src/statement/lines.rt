@@ -6,7 +6,7 @@ ghost use Rattle.sched_book.specs.Limits.{most_instances};
 ghost use Rattle.sched_book.specs.Trusted.{Trusted};
 ghost use Rattle.office_files.specs.Statements as spec;
 
-use super::line::Line;
+use super::line::StatementLine;
 use super::states;
 use sched_book::count::verdict;
 use sched_book::{Agreement, Desk, Instance, Place, Unavailable, Verdict, Workunit, instance_name};
@@ -20,10 +20,10 @@ fn line_by(
     unit: &Workunit,
     number: u32,
     instance: &Instance,
-) -> Result<Line, Memory>
+) -> Result<StatementLine, Memory>
     ensures { IfOk result (λ line. line ≡ spec.line_by verdict unit.now number instance.now) }
 {
-    Ok(Line {
+    Ok(StatementLine {
         result: instance_name(alloc, unit.name.as_str(), number)?,
         app: unit.app.clone()?,
         sent: states::sent(&instance.owner),
@@ -42,7 +42,7 @@ fn line_in(
     unit: &Workunit,
     instances: &[Instance],
     number: u32,
-) -> Result<Option<Line>, Memory>
+) -> Result<Option<StatementLine>, Memory>
     requires { length instances.now ≤ most_instances }
     ensures { IfOk result (λ line. line ≡ spec.line_in agreement unit.now instances.now number) }
 {
@@ -62,7 +62,7 @@ fn line_of<D: Desk>(
     agreement: Agreement,
     unit: &Workunit,
     place: Place,
-) -> Result<Option<Line>, Unavailable>
+) -> Result<Option<StatementLine>, Unavailable>
     ensures reads { D.reads desk.old desk.new }
     ensures answer { Trusted D.Units desk.old desk.new (
         IfOk result (λ line. line ≡ spec.line_in agreement unit.now (instances_at (D.world desk.old) place.unit) place.number)) }
@@ -72,7 +72,7 @@ fn line_of<D: Desk>(
 }
 
 /// The line of the instance at this place, if there is one.
-fn line_at<D: Desk>(alloc: Global, desk: &mut D, place: Place) -> Result<Option<Line>, Unavailable>
+fn line_at<D: Desk>(alloc: Global, desk: &mut D, place: Place) -> Result<Option<StatementLine>, Unavailable>
     ensures reads { D.reads desk.old desk.new }
     ensures answer { Trusted D.Units desk.old desk.new (
         IfOk result (λ line. line ≡ spec.line_at (D.world desk.old) place)) }
@@ -91,7 +91,7 @@ pub(super) fn lines_at<D: Desk>(
     alloc: Global,
     desk: &mut D,
     places: &[Place],
-) -> Result<Listed<Line>, Unavailable>
+) -> Result<Listed<StatementLine>, Unavailable>
     ensures reads { D.reads desk.old desk.new }
     ensures answer { Trusted D.Units desk.old desk.new (
         IfOk result (λ lines. lines ≡ spec.lines_at (D.world desk.old) places.now)) }

@@ -8,7 +8,7 @@ ghost use Rattle.office_files.specs.Rows.{HasWritten};
 ghost use Rattle.office_files.specs.Statements as spec;
 
 use super::civil::civil_text;
-use super::line::Line;
+use super::line::StatementLine;
 use csv::{Writer, WriterBuilder};
 use sched_book::{Cause, Invariant, Unavailable};
 use std::alloc::Global;
@@ -43,7 +43,7 @@ fn write_row<W: Write + Drop>(writer: &mut Writer<W>, fields: &[&[u8]]) -> Resul
 fn write_states<'a, W: Write + Drop>(
     alloc: Global,
     writer: &mut Writer<W>,
-    line: &'a Line,
+    line: &'a StatementLine,
     sent: &'a str,
     deadline: &'a str,
     credit: &'a str,
@@ -73,7 +73,7 @@ fn write_states<'a, W: Write + Drop>(
 fn write_line<W: Write + Drop>(
     alloc: Global,
     writer: &mut Writer<W>,
-    line: &Line,
+    line: &StatementLine,
 ) -> Result<(), Unavailable>
     ensures { (before : List ℕ) → HasWritten W.contents writer.old before
         → OnOk result (HasWritten W.contents writer.new (before ++ spec.line_text line.now)) }
@@ -95,7 +95,7 @@ fn write_line<W: Write + Drop>(
 fn write_lines<W: Write + Drop>(
     alloc: Global,
     writer: &mut Writer<W>,
-    lines: &[Line],
+    lines: &[StatementLine],
 ) -> Result<(), Unavailable>
     ensures { (before : List ℕ) → HasWritten W.contents writer.old before
         → OnOk result (HasWritten W.contents writer.new (before ++ flat_map spec.line_text lines.now)) }
@@ -151,7 +151,7 @@ fn write_total<W: Write + Drop>(
 }
 
 /// The millicredits of all lines together, or `None` if they are too many.
-fn total_credit(lines: &[Line]) -> Option<u64>
+fn total_credit(lines: &[StatementLine]) -> Option<u64>
     ensures { SomeIff result (spec.total_credit lines.now < 2 ^ 64) (spec.total_credit lines.now) }
 {
     let mut credit: u64 = 0;
@@ -168,7 +168,7 @@ fn total_credit(lines: &[Line]) -> Option<u64>
 fn write_statement<W: Write + Drop>(
     alloc: Global,
     writer: &mut Writer<W>,
-    lines: &[Line],
+    lines: &[StatementLine],
 ) -> Result<(), Unavailable>
     ensures { HasWritten W.contents writer.old []
         → OnOk result (HasWritten W.contents writer.new (spec.text_of_lines lines.now)) }
@@ -182,7 +182,7 @@ fn write_statement<W: Write + Drop>(
 }
 
 /// The text of a statement of these lines.
-pub(super) fn text_of_lines(alloc: Global, lines: &[Line]) -> Result<Text, Unavailable>
+pub(super) fn text_of_lines(alloc: Global, lines: &[StatementLine]) -> Result<Text, Unavailable>
     ensures { IfOk result (λ text. text ≡ spec.text_of_lines lines.now) }
 {
     let mut writer = WriterBuilder::new().from_writer(Vec::new(alloc));

@@ -1,4 +1,4 @@
--- A job given to a host, by the leaf of its workunit.
+-- A job given to a host, by the state of its workunit.
 use Rattle.std.proofs.Common.{◌≡◌, ℕ, ◌+◌, ◌≤◌, List, [], ◌∷◌, ◌++◌, Option, Some, None, sym, refl, ap, ◌∙◌, subst, arith}
 use Rattle.std.specs.Prelude.{IsTrue, is_some, option_map, option_and_then, unwrap_or, slice_get}
 use Rattle.std.proofs.lemmas.List.Sums.{fold-append}
@@ -13,8 +13,8 @@ use Rattle.sched_book.specs.declared.instance.Instance.{Instance}
 use Rattle.sched_book.specs.declared.instance.Place.{Place}
 use Rattle.sched_book.specs.declared.instance.UnitBook.{UnitBook}
 use Rattle.sched_book.specs.declared.world.World.{World}
-use Rattle.call_sheet.specs.Sheets.{IsReadAt, book_before, book_now}
-use Rattle.call_sheet.specs.Leaf.{Leaf}
+use Rattle.call_sheet.specs.WorkingSets.{IsReadAt, book_before, book_now}
+use Rattle.call_sheet.specs.UnitState.{UnitState}
 use Rattle.quorum_credit.specs.Limited.{IsLimited}
 use Rattle.quorum_credit.specs.Settling.{AreUnitsInLimits}
 use Rattle.quorum_credit.proofs.FitReports.{done_fits, fit_more}
@@ -31,7 +31,7 @@ module _ (entry present : World) (p : Place) (host now : ℕ) (y : Instance) whe
     given : with_owner (owner_for host now (delay_at present p)) x ≡ y
     short : AreUnitsInLimits entry → delay_at present p ≤ most_delay
 
-  standing : (o : Option Leaf) → IsReadAt entry present p.unit o → Some y ≡ given_on o p.number host now → Stands
+  standing : (o : Option UnitState) → IsReadAt entry present p.unit o → Some y ≡ given_on o p.number host now → Stands
   standing None read puts = absurd cc
   standing (Some k) read puts = at_number (slice_get k.present p.number) refl (sym puts)
     where
@@ -51,7 +51,7 @@ module _ (entry present : World) (p : Place) (host now : ℕ) (y : Instance) whe
       }
 
   -- it is given as a change of the world
-  pub given_is : (o : Option Leaf) → IsReadAt entry present p.unit o → Some y ≡ given_on o p.number host now
+  pub given_is : (o : Option UnitState) → IsReadAt entry present p.unit o → Some y ≡ given_on o p.number host now
       → edited_one present (edit.Instance p y) ≡ grant_one host now present p
   given_is o read puts =
       let at = standing o read puts in
@@ -77,7 +77,7 @@ module _ (entry present : World) (p : Place) (host now : ℕ) (y : Instance) whe
         },
       ))
 
-  pub given_fits : (o : Option Leaf) → IsReadAt entry present p.unit o → Some y ≡ given_on o p.number host now
+  pub given_fits : (o : Option UnitState) → IsReadAt entry present p.unit o → Some y ≡ given_on o p.number host now
       → (cs more : List Edit) → now ≤ last_moment → present ≡ edited entry cs → more ≡ cs ++ edit.Instance p y ∷ []
       → FitWithHost entry host cs → FitWithHost entry host more
   given_fits o read puts cs more soon here pushed before =

@@ -1,4 +1,4 @@
--- What a reply says of jobs, by the leaves of their workunits.
+-- What a reply says of jobs, by the states of their workunits.
 use Rattle.std.proofs.Common.{◌≡◌, ℕ, Bool, List, Option, Some, None, sym, refl, ap, ◌∙◌}
 use Rattle.std.specs.Prelude.{option_map, option_and_then}
 use Rattle.rpc_records.specs.declared.reply.Job.{Job}
@@ -13,8 +13,8 @@ use Rattle.sched_book.specs.declared.rows.HostRow.{HostRow}
 use Rattle.sched_book.specs.declared.rows.Version.{Version}
 use Rattle.sched_book.specs.declared.rows.Workunit.{Workunit}
 use Rattle.sched_book.specs.declared.world.World.{World}
-use Rattle.call_sheet.specs.Sheets.{IsLeafAt}
-use Rattle.call_sheet.specs.Leaf.{Leaf}
+use Rattle.call_sheet.specs.WorkingSets.{IsUnitStateAt}
+use Rattle.call_sheet.specs.UnitState.{UnitState}
 use Rattle.lost_jobs.proofs.Standing.{name_none, name_some}
 use Rattle.sched_machine.proofs.OptionParts.{mapped_by}
 
@@ -41,14 +41,14 @@ name_by w v p same = cases (workunit_at w p.unit) refl
 abbrev app_in : Option UnitBook → Option (List ℕ)
 app_in o = option_map (λ (b : UnitBook). b.unit.app) o
 
-app_before : (entry present : World) (unit : ℕ) (o : Option Leaf) → IsLeafAt entry present unit o → app_in (unit_at present unit) ≡ app_in (unit_at entry unit)
-app_before entry present unit None leaf = ap app_in leaf
-app_before entry present unit (Some k) leaf = ap app_in leaf.here ∙ sym (ap app_in leaf.before)
+app_before : (entry present : World) (unit : ℕ) (o : Option UnitState) → IsUnitStateAt entry present unit o → app_in (unit_at present unit) ≡ app_in (unit_at entry unit)
+app_before entry present unit None unit_state = ap app_in unit_state
+app_before entry present unit (Some k) unit_state = ap app_in unit_state.here ∙ sym (ap app_in unit_state.before)
 
 -- the version that the host runs, by the row of the workunit as it is now
-module _ (entry present : World) (h : HostRow) (unit : ℕ) (o : Option Leaf) (leaf : IsLeafAt entry present unit o) where
+module _ (entry present : World) (h : HostRow) (unit : ℕ) (o : Option UnitState) (unit_state : IsUnitStateAt entry present unit o) where
   pub version_none : workunit_at present unit ≡ None → None ≡ version_at_unit entry h unit
-  version_none none = cases (unit_at present unit) none (unit_at entry unit) (app_before entry present unit o leaf)
+  version_none none = cases (unit_at present unit) none (unit_at entry unit) (app_before entry present unit o unit_state)
     where
       cases : (q : Option UnitBook) → option_map (λ (b : UnitBook). b.unit) q ≡ None → (p : Option UnitBook) → app_in q ≡ app_in p
           → None ≡ option_and_then (λ (b : UnitBook). version_for entry h b.unit.app) p
@@ -57,7 +57,7 @@ module _ (entry present : World) (h : HostRow) (unit : ℕ) (o : Option Leaf) (l
       cases (Some b) is p same = absurd cc
 
   pub version_some : (u : Workunit) → workunit_at present unit ≡ Some u → version_for entry h u.app ≡ version_at_unit entry h unit
-  version_some u some = cases (unit_at present unit) some (unit_at entry unit) (app_before entry present unit o leaf)
+  version_some u some = cases (unit_at present unit) some (unit_at entry unit) (app_before entry present unit o unit_state)
     where
       cases : (q : Option UnitBook) → option_map (λ (b : UnitBook). b.unit) q ≡ Some u → (p : Option UnitBook) → app_in q ≡ app_in p
           → version_for entry h u.app ≡ option_and_then (λ (b : UnitBook). version_for entry h b.unit.app) p

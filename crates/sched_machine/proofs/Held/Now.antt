@@ -1,4 +1,4 @@
--- How many instances a host still holds, by the leaves of their workunits.
+-- How many instances a host still holds, by the states of their workunits.
 use Rattle.std.proofs.Common.{◌≡◌, ℕ, Bool, true, false, cond, List, [], ◌∷◌, Option, Some, None, length, refl, sym, ap, ◌∙◌}
 use Rattle.std.specs.Prelude.{filter, count_by, option_map, option_and_then, unwrap_or, slice_get}
 use Rattle.std.proofs.lemmas.List.Sums.{length-filter}
@@ -6,8 +6,8 @@ use Rattle.sched_book.specs.Places.{is_held_by, held_by}
 use Rattle.sched_book.specs.declared.instance.Place.{Place}
 use Rattle.sched_book.specs.declared.instance.UnitBook.{UnitBook}
 use Rattle.sched_book.specs.declared.world.World.{World}
-use Rattle.call_sheet.specs.Sheets.{IsLeafAt}
-use Rattle.call_sheet.specs.Leaf.{Leaf}
+use Rattle.call_sheet.specs.WorkingSets.{IsUnitStateAt}
+use Rattle.call_sheet.specs.UnitState.{UnitState}
 use Rattle.lost_jobs.specs.Holding.{HoldsNoMore}
 use Rattle.lost_jobs.proofs.Holding as holding
 use Rattle.sched_machine.specs.Asked.{holds, still_holds}
@@ -23,17 +23,17 @@ same_among t u g (p ∷ ps) agree = cases (g p) refl (same_among t u g ps agree)
     cases true is rest =
         ap (λ (b : Bool). cond b (p ∷ filter t (filter g ps)) (filter t (filter g ps))) (agree p is) ∙ ap (λ qs. cond (u p) (p ∷ qs) qs) rest
 
-module _ (entry present : World) (host : ℕ) (kept : ℕ → Option Leaf) (leaves : (unit : ℕ) → IsLeafAt entry present unit (kept unit)) where
+module _ (entry present : World) (host : ℕ) (kept : ℕ → Option UnitState) (unit_states : (unit : ℕ) → IsUnitStateAt entry present unit (kept unit)) where
   abbrev held_in : ℕ → Option UnitBook → Bool
   held_in number o = unwrap_or (option_and_then (λ (b : UnitBook). option_map (is_held_by host) (slice_get b.instances number)) o) false
 
-  -- the leaf says so of what the host held
+  -- the unit state says so of what the host held
   still_is : (p : Place) → holds entry host p ≡ true → still_holds (kept p.unit) host p.number ≡ holds present host p
-  still_is p held = cases (kept p.unit) (leaves p.unit)
+  still_is p held = cases (kept p.unit) (unit_states p.unit)
     where
-      cases : (o : Option Leaf) → IsLeafAt entry present p.unit o → still_holds o host p.number ≡ holds present host p
-      cases None leaf = sym (ap (held_in p.number) leaf ∙ held)
-      cases (Some k) leaf = sym (ap (held_in p.number) leaf.here)
+      cases : (o : Option UnitState) → IsUnitStateAt entry present p.unit o → still_holds o host p.number ≡ holds present host p
+      cases None unit_state = sym (ap (held_in p.number) unit_state ∙ held)
+      cases (Some k) unit_state = sym (ap (held_in p.number) unit_state.here)
 
   pub held_now_is : (held : List Place) → held ≡ held_by entry host → HoldsNoMore entry present host
       → count_by (λ (p : Place). still_holds (kept p.unit) host p.number) held ≡ length (held_by present host)

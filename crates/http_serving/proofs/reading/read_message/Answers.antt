@@ -1,6 +1,6 @@
 -- Turn by turn.
 use Rattle.std.proofs.Common.{◌++◌, length-append, inl, arith}
-use Rattle.http_serving.proofs.CallsInTurn.{Calls-none, Calls-more}
+use Rattle.http_serving.proofs.CallsInTurn.{StepsInTurn-none, StepsInTurn-more}
 use Rattle.http_serving.proofs.Comings.{Comes-none, Comes-more, Misses-now, Misses-less}
 use Rattle.http_serving.proofs.reading.read_message.Goals as goal
 
@@ -9,7 +9,7 @@ loop-init g c = record {
   came = rw c.new-bytes.ensures.items (Comes-none (g.H.Handler.wanting c.args.service.now) (g.R.Source.left c.args.reader.now));
   missed = rw c.deref.ensures.value at c.missing-missing.ensures.some;
   settled = rw c.deref.ensures.value at c.missing-missing.ensures.none;
-  called = Calls-none g.R.Source.steps c.args.reader.now;
+  called = StepsInTurn-none g.R.Source.steps c.args.reader.now;
 }
 
 pub still_missing-missing-requires : goal.still_missing-missing-requires
@@ -28,7 +28,7 @@ loop-preserved g c =
       came = rw says.2 (Comes-more wanting (left c.args.reader.now) (left c.loop.reader) (left c.read_turn.new.reader) c.loop.bytes.items says.0 c.loop.invariant.came says.1 wanted);
       missed = rw c.deref-in-Gave.ensures.value at c.still_missing-missing.ensures.some;
       settled = rw c.deref-in-Gave.ensures.value at c.still_missing-missing.ensures.none;
-      called = Calls-more g.R.Source.steps c.loop.counter c.args.reader.now c.loop.reader c.read_turn.new.reader c.loop.invariant.called c.read_turn.ensures.step;
+      called = StepsInTurn-more g.R.Source.steps c.loop.counter c.args.reader.now c.loop.reader c.read_turn.new.reader c.loop.invariant.called c.read_turn.ensures.step;
     }
 
 pub returns-then-missing-eq0-clause-ok : goal.returns-then-missing-eq0-clause-ok

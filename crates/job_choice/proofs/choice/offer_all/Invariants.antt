@@ -1,4 +1,4 @@
-use Rattle.job_choice.specs.Offered.{IsReady}
+use Rattle.job_choice.specs.Offered.{IsUpToDate}
 use Rattle.job_choice.proofs.Turns.{Resumes}
 use Rattle.job_choice.proofs.choice.offer_all.Given as goal
 
@@ -6,6 +6,6 @@ use Rattle.job_choice.proofs.choice.offer_all.Given as goal
 abbrev pub invariant-loop : goal.invariant-loop
 invariant-loop g l = record {
   reads : g.D.Units.reads l.initial.desk l.desk;
-  resumes : g.D.Units.honest l.desk → g.D.Units.well_kept l.fn.desk → IsReady (g.D.Units.world l.fn.desk) l.fn.choosing
+  resumes : g.D.Units.honest l.desk → g.D.Units.well_kept l.fn.desk → IsUpToDate (g.D.Units.world l.fn.desk) l.fn.choosing
       → Resumes (g.D.Units.world l.fn.desk) l.fn.choosing.host.now.account l.fn.choosing l.choosing l.from;
 }

@@ -16,7 +16,7 @@ returns-clause-put g c = λ honest kept.
     let honest_1 = g.met.S.Draft.works_honest _ _ c.put_all.ensures.works honest in
     let kept_1 = d.stays_kept _ _ so_far.reads honest_1 kept in
     let here = d.stays_same _ _ so_far.reads honest_1 kept in
-    let before = g.S.Units.world c.args.sheet.now in
+    let before = g.S.Units.world c.args.working_set.now in
     let fates = c.args.fates.now in
     let all =
     sym (append-nil c.loop-fate.more)

@@ -6,8 +6,8 @@ use Rattle.lost_jobs.proofs.changes.put_fates.Given as goal
 -- the changes so far, and those of the fates that are left
 abbrev pub invariant-loop-fate : goal.invariant-loop-fate
 invariant-loop-fate g l = record {
-  reads : g.S.Units.reads l.fn.sheet l.sheet;
-  told : g.S.Units.honest l.sheet → g.S.Units.well_kept l.fn.sheet
-      → l.more ++ filter_map (fate_change (g.S.Units.world l.fn.sheet)) (drop l.fate-index l.fates)
-      ≡ filter_map (fate_change (g.S.Units.world l.fn.sheet)) l.fates;
+  reads : g.S.Units.reads l.fn.working_set l.working_set;
+  told : g.S.Units.honest l.working_set → g.S.Units.well_kept l.fn.working_set
+      → l.more ++ filter_map (fate_change (g.S.Units.world l.fn.working_set)) (drop l.fate-index l.fates)
+      ≡ filter_map (fate_change (g.S.Units.world l.fn.working_set)) l.fates;
 }

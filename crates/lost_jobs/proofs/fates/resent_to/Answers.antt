@@ -3,8 +3,8 @@ use Rattle.std.specs.Bool.{then_some}
 use Rattle.sched_book.specs.Fits.{version_for, fits}
 use Rattle.sched_book.specs.Lost.{deadline_after}
 use Rattle.sched_book.specs.declared.rows.Version.{Version}
-use Rattle.lost_jobs.specs.Leaves.{open_job_on}
-use Rattle.lost_jobs.proofs.OnLeaves.{resent-is}
+use Rattle.lost_jobs.specs.UnitStates.{open_job_on}
+use Rattle.lost_jobs.proofs.OnUnitStates.{resent-is}
 use Rattle.lost_jobs.proofs.fates.resent_to.Goals as goal
 
 by_test : (b : Bool) (deadline : ℕ) → then_some b deadline ≡ cond b (Some deadline) None
@@ -25,10 +25,10 @@ returns-clause-answer g c = λ honest kept.
     let version =
     c.as_ref.ensures.value ∙ c.in_ok-version.ensures.answer honest kept_1
     ∙ ap₂ (λ w name. version_for w host name) same c.as_str.ensures in
-    let told = sym c.in-Some.is ∙ c.in_ok-job.ensures ∙ ap (λ o. open_job_on o c.args.place.number) c.leaf.ensures in
+    let told = sym c.in-Some.is ∙ c.in_ok-job.ensures ∙ ap (λ o. open_job_on o c.args.place.number) c.unit_state.ensures in
     c.then_some.ensures
     ∙ by_test c.fits.result c.deadline_after-deadline.result
     ∙ ap₂ (λ (b : Bool) (deadline : ℕ). cond b (Some deadline) None)
     (c.fits.ensures ∙ ap (λ (v : Option Version). fits host job.unit v) version)
     (c.deadline_after-deadline.ensures ∙ ap (λ seconds. deadline_after c.args.now seconds job.unit.delay_bound job.deadline) c.seconds_at-seconds.ensures)
-    ∙ resent-is (g.S.Draft.entry c.args.sheet.now) host c.args.now c.args.place (g.S.Units.world c.args.sheet.now) _ (Some job) read told
+    ∙ resent-is (g.S.Draft.entry c.args.working_set.now) host c.args.now c.args.place (g.S.Units.world c.args.working_set.now) _ (Some job) read told

@@ -15,5 +15,5 @@ returns-in-Some-clause-answer g c = λ honest kept.
     let found = sym (c.in_ok-app_by_name.ensures.answer honest_1 kept) ∙ c.in-Some.is in
     subst (λ v. IfOk c.version_for.result (λ version. version ≡ v))
     (ap (λ w. version_at w c.args.host.now c.in-Some.app.place) same
-    ∙ sym (version_some (g.S.Draft.entry c.args.sheet.now) c.args.host.now c.args.app.now c.in-Some.app found))
+    ∙ sym (version_some (g.S.Draft.entry c.args.working_set.now) c.args.host.now c.args.app.now c.in-Some.app found))
     (c.version_for.ensures.answer honest kept_1)

@@ -8,7 +8,7 @@ use Rattle.lost_jobs.proofs.missing.lost_on.Goals as goal
 
 pub returns-clause-answer : goal.returns-clause-answer
 returns-clause-answer g c = λ honest kept held no_more.
-    let here = g.S.Units.world c.args.sheet.now in
+    let here = g.S.Units.world c.args.working_set.now in
     let set = c.in_ok-listed-in-Some.listed in
     let names = c.as_slice.result.now in
     let missing = is_missing here c.args.host set in
@@ -18,6 +18,6 @@ returns-clause-answer g c = λ honest kept held no_more.
     ∙ ap (λ left. c.loop-place.missing ++ filter missing left) (sym (drop_all c.loop-place.place-index c.args.held.now c.loop-place-test.false))
     ∙ c.loop-place.invariant.told honest kept
     ∙ ap (filter missing) held
-    ∙ unlisted_is (g.S.Draft.entry c.args.sheet.now) here c.args.host set names c.in_ok-listed-in-Some.ensures no_more
+    ∙ unlisted_is (g.S.Draft.entry c.args.working_set.now) here c.args.host set names c.in_ok-listed-in-Some.ensures no_more
     ∙ sym (lost_is here true c.args.host (Some names) resends)
     ∙ ap (lost here c.args.host) (ap Some c.as_slice.ensures ∙ sym c.in-Some.is)

@@ -4,8 +4,8 @@ use Rattle.rpc_records.specs.declared.fault.Fault.TheVariants as fault
 use Rattle.stores.specs.Acting.{parts_of}
 use Rattle.stores.proofs.Results.{given, only}
 use Rattle.stores.proofs.ReadsAct.{acts_on, reads_act, said_on}
-use Rattle.pasts.specs.declared.answer.Answer.TheVariants.{Refusal}
-use Rattle.message_engine.specs.Calls.{IsNamed, IsCallServed, ServesCall}
+use Rattle.pasts.specs.declared.answer.AnswerContent.TheVariants.{Refusal}
+use Rattle.message_engine.specs.Calls.{IsNamedCaller, IsCallServed, ServesCall}
 use Rattle.message_engine.proofs.CallsServed.{account_serves, number_serves}
 use Rattle.message_engine.proofs.calls.call.Goals as goal
 
@@ -16,8 +16,8 @@ returns-in-Ok-clause-acts g c =
     acts_on (parts_of g.S.Units g.S.Store.holds g.S.Store.clean g.S.Store.lasting g.S.Store.may_leave g.S.Store.reopens) old c.caller_of.new.desk
     (g.met.S.Store.stays_clean _ _ reads) (g.met.S.Units.stays_honest _ _ reads) (g.met.S.Units.stays_kept _ _ reads)
     (λ lasting honest. g.met.S.Store.stays_open _ _ lasting reads honest) (g.met.S.Store.stays_held _ _ reads) (g.met.S.Store.stays_left _ _ reads) (g.met.S.Store.stays_reopened _ _ reads)
-    (is_ok c.call_admitted.result) (λ held h. IsNamed held.world c.in-Ok.caller c.args.request → IsCallServed c.args.request c.args.now held h) _ c.call_admitted.new.store
-    (λ honest kept h ahead. ahead (subst (λ w. IsNamed w c.in-Ok.caller c.args.request) (sym (g.met.S.Store.world_held old)) (c.in-Ok.ensures.caller honest kept)))
+    (is_ok c.call_admitted.result) (λ held h. IsNamedCaller held.world c.in-Ok.caller c.args.request → IsCallServed c.args.request c.args.now held h) _ c.call_admitted.new.store
+    (λ honest kept h ahead. ahead (subst (λ w. IsNamedCaller w c.in-Ok.caller c.args.request) (sym (g.met.S.Store.world_held old)) (c.in-Ok.ensures.caller honest kept)))
     c.call_admitted.ensures.acts
 
 pub returns-in-Ok-clause-exact : goal.returns-in-Ok-clause-exact
@@ -27,12 +27,12 @@ returns-in-Ok-clause-exact g c = λ honest kept.
     let new = c.call_admitted.new.store in
     let honest_1 = c.call_admitted.ensures.acts.acts.was_honest honest in
     let kept_1 = g.met.S.Units.stays_kept _ _ reads honest_1 kept in
-    given c.call_admitted.result (IsNamed (g.S.Store.holds old).world c.in-Ok.caller c.args.request) (λ a. ServesCall c.args.request c.args.now a (g.S.Store.holds old) (g.S.Store.holds new))
-    (subst (λ w. IsNamed w c.in-Ok.caller c.args.request) (sym (g.met.S.Store.world_held old)) (c.in-Ok.ensures.caller honest_1 kept))
+    given c.call_admitted.result (IsNamedCaller (g.S.Store.holds old).world c.in-Ok.caller c.args.request) (λ a. ServesCall c.args.request c.args.now a (g.S.Store.holds old) (g.S.Store.holds new))
+    (subst (λ w. IsNamedCaller w c.in-Ok.caller c.args.request) (sym (g.met.S.Store.world_held old)) (c.in-Ok.ensures.caller honest_1 kept))
     (said_on (parts_of g.S.Units g.S.Store.holds g.S.Store.clean g.S.Store.lasting g.S.Store.may_leave g.S.Store.reopens) old c.caller_of.new.desk
     (g.met.S.Store.stays_clean _ _ reads) (g.met.S.Units.stays_honest _ _ reads) (g.met.S.Units.stays_kept _ _ reads)
     (λ lasting honest. g.met.S.Store.stays_open _ _ lasting reads honest) (g.met.S.Store.stays_held _ _ reads) (g.met.S.Store.stays_left _ _ reads) (g.met.S.Store.stays_reopened _ _ reads)
-    (λ held. IfOk c.call_admitted.result (λ a. IsNamed held.world c.in-Ok.caller c.args.request → ServesCall c.args.request c.args.now a held (g.S.Store.holds new)))
+    (λ held. IfOk c.call_admitted.result (λ a. IsNamedCaller held.world c.in-Ok.caller c.args.request → ServesCall c.args.request c.args.now a held (g.S.Store.holds new)))
     honest_1 kept (c.call_admitted.ensures.exact honest kept_1))
 
 pub returns-in-Err-BadAccount-clause-acts : goal.returns-in-Err-BadAccount-clause-acts

@@ -3,7 +3,7 @@ use Rattle.std.specs.Prelude.{is_ok, IfOk}
 use Rattle.stores.specs.Acting.{parts_of}
 use Rattle.stores.proofs.Results.{given_more, only}
 use Rattle.stores.proofs.ReadsAct.{acts_on, reads_act, said_on}
-use Rattle.message_engine.specs.Calls.{IsNamed, IsCallServed, MayAct, ServesCall}
+use Rattle.message_engine.specs.Calls.{IsNamedCaller, IsCallServed, MayAct, ServesCall}
 use Rattle.message_engine.proofs.CallsServed.{again_serves, may_act}
 use Rattle.message_engine.proofs.calls.call_admitted.Goals as goal
 
@@ -26,7 +26,7 @@ returns-in-None-clause-exact g c = λ honest kept.
     let new = c.call_fresh.new.store in
     let honest_1 = c.call_fresh.ensures.acts.acts.was_honest honest in
     let kept_1 = g.met.S.Units.stays_kept _ _ reads honest_1 kept in
-    given_more c.call_fresh.result (MayAct (g.S.Store.holds old) c.args.caller.now c.args.request.now) (IsNamed (g.S.Store.holds old).world c.args.caller.now c.args.request.now)
+    given_more c.call_fresh.result (MayAct (g.S.Store.holds old) c.args.caller.now c.args.request.now) (IsNamedCaller (g.S.Store.holds old).world c.args.caller.now c.args.request.now)
     (λ a. ServesCall c.args.request.now c.args.now a (g.S.Store.holds old) (g.S.Store.holds new))
     (may_act (g.S.Store.holds old) c.args.caller.now c.args.request.now c.as_str.result.now c.in_ok-answer.field-0
     (c.as_str.ensures ∙ c.in_ok-text.ensures.text) c.in-None.is (c.in_ok-answer.ensures.told honest_1 kept))
@@ -49,7 +49,7 @@ returns-in-Some-clause-exact g c = λ honest kept.
     let reads = g.met.S.Units.reads_on _ _ _ c.told_kept.ensures.reads c.confirmed.ensures.reads in
     let old = c.args.store.now in
     let new = c.confirmed.new.store in
-    only c.confirmed.result c.in-Some.answer (λ a. IsNamed (g.S.Store.holds old).world c.args.caller.now c.args.request.now → ServesCall c.args.request.now c.args.now a (g.S.Store.holds old) (g.S.Store.holds new))
+    only c.confirmed.result c.in-Some.answer (λ a. IsNamedCaller (g.S.Store.holds old).world c.args.caller.now c.args.request.now → ServesCall c.args.request.now c.args.now a (g.S.Store.holds old) (g.S.Store.holds new))
     c.confirmed.ensures.answer
     (again_serves (g.S.Store.holds old) (g.S.Store.holds new) _ (g.met.S.Store.world_held old) (g.met.S.Store.stays_held _ _ reads honest kept) c.args.request.now c.args.now c.args.caller.now
     c.as_str.result.now c.in_ok-answer.field-0 c.in-Some.answer (c.as_str.ensures ∙ c.in_ok-text.ensures.text) c.in-Some.is

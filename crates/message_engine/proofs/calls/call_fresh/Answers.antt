@@ -5,7 +5,7 @@ use Rattle.stores.specs.Acting.{parts_of}
 use Rattle.stores.specs.Held.{IsCommitted, IsKeptSoundly, MayBeCommitted}
 use Rattle.stores.proofs.Results.{only}
 use Rattle.stores.proofs.ReadsAct.{acts_on, reads_act, said_on}
-use Rattle.pasts.specs.declared.answer.Answer.TheVariants.{Refusal}
+use Rattle.pasts.specs.declared.answer.AnswerContent.TheVariants.{Refusal}
 use Rattle.message_engine.specs.Calls.{MayAct, ServesCall, entry_of_call}
 use Rattle.message_engine.proofs.CallsServed.{kept_serves, kept_ahead, full_serves}
 use Rattle.message_engine.proofs.calls.call_fresh.Goals as goal

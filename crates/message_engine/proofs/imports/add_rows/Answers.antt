@@ -6,7 +6,7 @@ use Rattle.stores.specs.Kinds.{kind_name}
 use Rattle.stores.specs.declared.entry.Entry.{Entry}
 use Rattle.stores.proofs.ReadsAct.{whole_too}
 use Rattle.pasts.specs.Answers.{imported_text}
-use Rattle.pasts.specs.declared.answer.Answer.TheVariants as answers
+use Rattle.pasts.specs.declared.answer.AnswerContent.TheVariants as answers
 use Rattle.message_engine.specs.Imports.{entry_of_batch}
 use Rattle.message_engine.proofs.ImportsServed.{rows_done, rows_ahead}
 use Rattle.message_engine.proofs.imports.add_rows.Goals as goal

@@ -3,7 +3,7 @@ use Rattle.std.specs.Prelude.{is_ok, IfOk}
 use Rattle.sched_book.specs.Imports.{fault_of_rows, shelf_of}
 use Rattle.stores.specs.Acting.{parts_of}
 use Rattle.stores.proofs.ReadsAct.{acts_on, reads_act, said_on}
-use Rattle.pasts.specs.declared.answer.Answer.TheVariants.{Refusal}
+use Rattle.pasts.specs.declared.answer.AnswerContent.TheVariants.{Refusal}
 use Rattle.message_engine.specs.Imports.{import_of, ServesImport}
 use Rattle.message_engine.specs.Stores.{IsServed, ServesIn}
 use Rattle.stores.proofs.Results.{added, only}

@@ -11,7 +11,7 @@ returns-clause-grown g c = λ honest kept rising.
     let honest_1 = g.met.S.Draft.works_honest _ _ c.put_all.ensures.works honest in
     let kept_1 = u.stays_kept _ _ c.growth_in_turn.ensures.reads honest_1 kept in
     let here = u.stays_same _ _ c.growth_in_turn.ensures.reads honest_1 kept in
-    let before = g.S.Units.world c.args.sheet.now in
+    let before = g.S.Units.world c.args.working_set.now in
     c.in_ok-put_all.ensures.put honest kept_1
     ∙ ap₂ (λ (v : World) (cs : List Edit). edited v cs) here (c.as_slice.ensures ∙ c.in_ok-more.ensures.answer honest_1 kept)
     ∙ all_grown_among before c.args.touched.now rising

@@ -5,7 +5,7 @@ use Rattle.quorum_credit.proofs.growth.growth_in_turn.Given as goal
 -- the new instances so far, and those of the workunits that are left
 abbrev pub invariant-loop-unit : goal.invariant-loop-unit
 invariant-loop-unit g l = record {
-  reads : g.S.Units.reads l.fn.sheet l.sheet;
-  told : g.S.Units.honest l.sheet → g.S.Units.well_kept l.fn.sheet
-      → l.more ++ all_growth (g.S.Units.world l.fn.sheet) (drop l.unit-index l.touched) ≡ all_growth (g.S.Units.world l.fn.sheet) l.touched;
+  reads : g.S.Units.reads l.fn.working_set l.working_set;
+  told : g.S.Units.honest l.working_set → g.S.Units.well_kept l.fn.working_set
+      → l.more ++ all_growth (g.S.Units.world l.fn.working_set) (drop l.unit-index l.touched) ≡ all_growth (g.S.Units.world l.fn.working_set) l.touched;
 }

@@ -8,7 +8,7 @@ pub returns-clause-answer : goal.returns-clause-answer
 returns-clause-answer g c = λ honest kept.
     let scores = c.args.scores.now in
     let sums = c.as_slice.result.now in
-    let w = g.S.Units.world c.args.sheet.now in
+    let w = g.S.Units.world c.args.working_set.now in
     let limit = ap (λ s. s.daily_result_quota) (c.settings.ensures kept ∙ sym (ap (λ v. v.settings) (g.met.S.Draft.rest_stays _ kept))) in
     IfOk-weaker c.quotas_in_turn.result _ _
     (λ quotas is.

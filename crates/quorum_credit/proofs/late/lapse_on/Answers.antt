@@ -1,4 +1,4 @@
--- One more lapse: the sheet belongs to the same call as at the beginning.
+-- One more lapse: the working set belongs to the same call as at the beginning.
 use Rattle.std.proofs.Common.{◌+◌, drop, sym, ap, ◌∙◌, subst}
 use Rattle.std.specs.Prelude.{fold}
 use Rattle.std.proofs.lemmas.List.{at_drop_more}
@@ -15,7 +15,7 @@ loop-place-preserved g c =
     let places = c.args.places.now in
     let i = c.loop-place.place-index in
     let step = with_changed (with_lapse Late) in
-    let so_far = g.S.Units.world c.loop-place.sheet in
+    let so_far = g.S.Units.world c.loop-place.working_set in
     record {
       works = draft.works_on _ _ _ inv.works c.put_late.ensures.works;
       told = λ honest kept.
@@ -27,7 +27,7 @@ loop-place-preserved g c =
       fits = λ honest kept fit.
           let before = draft.works_honest _ _ c.put_late.ensures.works honest in
           let well = draft.works_kept _ _ inv.works before kept in
-          subst (λ w. FitWithin w (g.S.Draft.edits c.loop-place.sheet) → FitWithin w (g.S.Draft.edits c.put_late.new.sheet))
+          subst (λ w. FitWithin w (g.S.Draft.edits c.loop-place.working_set) → FitWithin w (g.S.Draft.edits c.put_late.new.working_set))
           (draft.works_entry _ _ inv.works before kept)
           (c.in_ok-put_late.ensures.fits honest well) (inv.fits before kept fit);
     }

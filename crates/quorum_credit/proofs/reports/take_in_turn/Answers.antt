@@ -1,4 +1,4 @@
--- One more report: the sheet belongs to the same call as at the beginning.
+-- One more report: the working set belongs to the same call as at the beginning.
 use Rattle.std.proofs.Common.{◌+◌, List, map, drop, sym, ap, ◌∙◌, subst, Bor}
 use Rattle.std.specs.Prelude.{fold}
 use Rattle.std.proofs.lemmas.List.{at_drop_more}
@@ -15,8 +15,8 @@ loop-report-preserved g c =
     let inv = c.loop-report.invariant in
     let reports = c.args.reports.now in
     let i = c.loop-report.report-index in
-    let step = record_one (g.S.Draft.entry c.args.sheet.now) c.args.host in
-    let so_far = g.S.Units.world c.loop-report.sheet in
+    let step = record_one (g.S.Draft.entry c.args.working_set.now) c.args.host in
+    let so_far = g.S.Units.world c.loop-report.working_set in
     record {
       works = draft.works_on _ _ _ inv.works c.take_report.ensures.works;
       told = λ honest kept.
@@ -34,6 +34,6 @@ loop-report-preserved g c =
           let well = draft.works_kept _ _ inv.works before kept in
           let entry = draft.works_entry _ _ inv.works before kept in
           let here : IsReport c.report-item.result.now = report_there reports i c.report-item.result _ c.report-item.is c.loop-report-test.true told in
-          subst (λ w. FitWithin w (g.S.Draft.edits c.loop-report.sheet) → FitWithin w (g.S.Draft.edits c.take_report.new.sheet)) entry
+          subst (λ w. FitWithin w (g.S.Draft.edits c.loop-report.working_set) → FitWithin w (g.S.Draft.edits c.take_report.new.working_set)) entry
           (c.in_ok-take_report.ensures.fits honest well here) (inv.fits before kept told fit);
     }

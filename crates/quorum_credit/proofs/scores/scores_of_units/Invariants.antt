@@ -5,8 +5,8 @@ use Rattle.quorum_credit.proofs.scores.scores_of_units.Given as goal
 -- the scores so far, and those of the workunits that are left
 abbrev pub invariant-loop-unit : goal.invariant-loop-unit
 invariant-loop-unit g l = record {
-  reads : g.S.Units.reads l.fn.sheet l.sheet;
-  told : g.S.Units.honest l.sheet → g.S.Units.well_kept l.fn.sheet
-      → l.scores ++ scores_of_units (g.S.Draft.entry l.fn.sheet) (g.S.Units.world l.fn.sheet) (drop l.unit-index l.units)
-      ≡ scores_of_units (g.S.Draft.entry l.fn.sheet) (g.S.Units.world l.fn.sheet) l.units;
+  reads : g.S.Units.reads l.fn.working_set l.working_set;
+  told : g.S.Units.honest l.working_set → g.S.Units.well_kept l.fn.working_set
+      → l.scores ++ scores_of_units (g.S.Draft.entry l.fn.working_set) (g.S.Units.world l.fn.working_set) (drop l.unit-index l.units)
+      ≡ scores_of_units (g.S.Draft.entry l.fn.working_set) (g.S.Units.world l.fn.working_set) l.units;
 }

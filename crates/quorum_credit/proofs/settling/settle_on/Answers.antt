@@ -10,9 +10,9 @@ use Rattle.quorum_credit.proofs.settling.settle_on.Given
 use Rattle.quorum_credit.proofs.settling.settle_on.Goals as goal
 
 -- what the steps say of the world that the call found, and of those in between
-steps : (g : Given.Over) (c : goal.After-drop-quotas-inside-2 g) → g.S.Units.honest c.put_all.new.sheet → g.S.Units.well_kept c.args.sheet.now
-    → AreSteps (g.S.Draft.entry c.args.sheet.now) (g.S.Units.world c.args.sheet.now) (g.S.Units.world c.grow_on.new.sheet) (g.S.Units.world c.put_all.new.sheet)
-    (g.S.Draft.edits c.args.sheet.now) (g.S.Draft.edits c.put_all.new.sheet) c.in_ok-quotas.quotas c.args.touched.now c.in_ok-scores.scores
+steps : (g : Given.Over) (c : goal.After-drop-quotas-inside-2 g) → g.S.Units.honest c.put_all.new.working_set → g.S.Units.well_kept c.args.working_set.now
+    → AreSteps (g.S.Draft.entry c.args.working_set.now) (g.S.Units.world c.args.working_set.now) (g.S.Units.world c.grow_on.new.working_set) (g.S.Units.world c.put_all.new.working_set)
+    (g.S.Draft.edits c.args.working_set.now) (g.S.Draft.edits c.put_all.new.working_set) c.in_ok-quotas.quotas c.args.touched.now c.in_ok-scores.scores
 steps g c honest kept =
     let u = g.met.S.Units in
     let draft = g.met.S.Draft in
@@ -26,12 +26,12 @@ steps g c honest kept =
     let same_3 = u.stays_same _ _ c.new_quotas.ensures.reads honest_3 kept_2 ∙ same_2 in
     let entry = draft.works_entry _ _ c.grow_on.ensures.works honest_1 kept in
     record {
-      here = draft.is_edited c.args.sheet.now;
+      here = draft.is_edited c.args.working_set.now;
       grew = c.in_ok-grow_on.ensures.grown honest_1 kept;
       scored = c.in_ok-scores.ensures.answer honest_2 kept_1
-          ∙ ap (λ e. scores_of_units e (g.S.Units.world c.grow_on.new.sheet) c.args.touched.now) entry;
+          ∙ ap (λ e. scores_of_units e (g.S.Units.world c.grow_on.new.working_set) c.args.touched.now) entry;
       quoted = subst (λ z. AreQuotasBy c.in_ok-scores.scores z c.in_ok-quotas.quotas) same_2
-          (subst (λ ms. AreQuotasBy ms (g.S.Units.world c.scores_of_units.new.sheet) c.in_ok-quotas.quotas) c.as_slice.ensures
+          (subst (λ ms. AreQuotasBy ms (g.S.Units.world c.scores_of_units.new.working_set) c.in_ok-quotas.quotas) c.as_slice.ensures
           (c.in_ok-quotas.ensures.answer honest_3 kept_2));
       put = c.in_ok-put_all.ensures.put honest kept_3
           ∙ ap₂ (λ (v : World) (cs : List Edit). edited v cs) same_3 c.as_slice-2.ensures;
@@ -53,5 +53,5 @@ returns-clause-scores g c = λ honest kept. scores_hold _ _ _ _ _ _ _ _ _ (steps
 
 pub returns-clause-edits : goal.returns-clause-edits
 returns-clause-edits g c = λ honest kept.
-    goes_on (g.S.Draft.edits c.args.sheet.now) (all_growth (g.S.Units.world c.args.sheet.now) c.args.touched.now) c.in_ok-quotas.quotas
-    (g.S.Draft.edits c.put_all.new.sheet) (steps g c honest kept).changes
+    goes_on (g.S.Draft.edits c.args.working_set.now) (all_growth (g.S.Units.world c.args.working_set.now) c.args.touched.now) c.in_ok-quotas.quotas
+    (g.S.Draft.edits c.put_all.new.working_set) (steps g c honest kept).changes

@@ -9,12 +9,12 @@ pub returns-clause-entered : goal.returns-clause-entered
 returns-clause-entered g c = λ honest kept none sound admitted known.
     let u = g.met.S.Units in
     let draft = g.met.S.Draft in
-    let sheet = c.args.sheet.now in
-    let w = g.S.Draft.entry sheet in
+    let working_set = c.args.working_set.now in
+    let w = g.S.Draft.entry working_set in
     let row = edit.Host c.args.number c.in_ok-host.host in
     let honest_1 = draft.works_honest _ _ c.put_host.ensures.works honest in
     let kept_1 = u.stays_kept _ _ c.host.ensures.reads honest_1 kept in
-    let here = draft.is_edited sheet ∙ ap (edited w) none in
+    let here = draft.is_edited working_set ∙ ap (edited w) none in
     let same = u.stays_same _ _ c.host.ensures.reads honest_1 kept ∙ here in
     enters w (g.S.Units.world c.put_host.new.self) c.args.request.now _ (g.S.Draft.edits c.put_host.new.self)
     (renews w c.args.caller.now c.args.request.now c.args.number c.in-Some.before c.in_ok-host.host sound admitted known

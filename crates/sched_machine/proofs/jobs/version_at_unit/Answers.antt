@@ -8,17 +8,17 @@ use Rattle.sched_machine.proofs.jobs.version_at_unit.Goals as goal
 -- the row of the workunit is as it was
 pub returns-in-None-clause-answer : goal.returns-in-None-clause-answer
 returns-in-None-clause-answer g c = λ honest kept.
-    let sheet = c.args.sheet.now in
-    version_none (g.S.Draft.entry sheet) (g.S.Units.world sheet) c.args.host.now c.args.unit (g.S.Draft.kept sheet c.args.unit)
-    (g.met.S.Draft.leaves_are sheet kept c.args.unit)
+    let working_set = c.args.working_set.now in
+    version_none (g.S.Draft.entry working_set) (g.S.Units.world working_set) c.args.host.now c.args.unit (g.S.Draft.kept working_set c.args.unit)
+    (g.met.S.Draft.unit_states_are working_set kept c.args.unit)
     (sym (c.in_ok-unit.ensures.answer honest kept) ∙ c.in-None.is)
 
 pub returns-in-Some-clause-answer : goal.returns-in-Some-clause-answer
 returns-in-Some-clause-answer g c = λ honest kept.
     let u = g.met.S.Units in
     let draft = g.met.S.Draft in
-    let sheet = c.args.sheet.now in
-    let w = g.S.Draft.entry sheet in
+    let working_set = c.args.working_set.now in
+    let w = g.S.Draft.entry working_set in
     let honest_1 = u.stays_honest _ _ c.version_on.ensures.reads honest in
     let kept_1 = u.stays_kept _ _ c.unit.ensures.reads honest_1 kept in
     let entry = draft.works_entry _ _ (draft.reads_works _ _ c.unit.ensures.reads) honest_1 kept in
@@ -28,6 +28,6 @@ returns-in-Some-clause-answer g c = λ honest kept.
     is
     ∙ ap (λ (e : World). version_for e c.args.host.now c.as_str.result.now) entry
     ∙ ap (version_for w c.args.host.now) c.as_str.ensures
-    ∙ version_some w (g.S.Units.world sheet) c.args.host.now c.args.unit (g.S.Draft.kept sheet c.args.unit) (draft.leaves_are sheet kept c.args.unit)
+    ∙ version_some w (g.S.Units.world working_set) c.args.host.now c.args.unit (g.S.Draft.kept working_set c.args.unit) (draft.unit_states_are working_set kept c.args.unit)
     c.in-Some.unit stands)
     (c.version_on.ensures.answer honest kept_1)

@@ -13,11 +13,11 @@ use Rattle.sched_machine.proofs.lost.lose.Given
 use Rattle.sched_machine.proofs.lost.lose.Goals as goal
 
 -- what the steps say of the world that the call found, and of those in between
-lost : (g : Given.Over) (c : goal.After-drop-lost-inside-2 g) → g.S.Units.honest c.put_fates.new.sheet → g.S.Units.well_kept c.args.sheet.now
-    → c.args.held.now ≡ held_by (g.S.Draft.entry c.args.sheet.now) c.args.call.now.number
-    → AreLost (g.S.Draft.entry c.args.sheet.now) (g.S.Units.world c.args.sheet.now) (g.S.Units.world c.put_fates.new.sheet)
+lost : (g : Given.Over) (c : goal.After-drop-lost-inside-2 g) → g.S.Units.honest c.put_fates.new.working_set → g.S.Units.well_kept c.args.working_set.now
+    → c.args.held.now ≡ held_by (g.S.Draft.entry c.args.working_set.now) c.args.call.now.number
+    → AreLost (g.S.Draft.entry c.args.working_set.now) (g.S.Units.world c.args.working_set.now) (g.S.Units.world c.put_fates.new.working_set)
     c.args.request.now c.args.call.now c.args.now c.in_ok-lost.lost c.in_ok-fates.fates
-    (g.S.Draft.edits c.args.sheet.now) (g.S.Draft.edits c.put_fates.new.sheet)
+    (g.S.Draft.edits c.args.working_set.now) (g.S.Draft.edits c.put_fates.new.working_set)
 lost g c honest kept held =
     let u = g.met.S.Units in
     let draft = g.met.S.Draft in
@@ -36,11 +36,11 @@ lost g c honest kept held =
       found = c.in_ok-lost.ensures.answer honest_1 kept held;
       told = c.in_ok-fates.ensures.answer honest_2 kept_1
           ∙ ap₂ (λ (e : World) ps. map (fate e c.args.call.now.host c.args.now) ps) entry_1 c.as_slice.ensures;
-      here = draft.is_edited c.args.sheet.now;
-      there = draft.is_edited c.put_fates.new.sheet ∙ ap (λ (e : World). edited e (g.S.Draft.edits c.put_fates.new.sheet)) entry;
+      here = draft.is_edited c.args.working_set.now;
+      there = draft.is_edited c.put_fates.new.working_set ∙ ap (λ (e : World). edited e (g.S.Draft.edits c.put_fates.new.working_set)) entry;
       put = c.in_ok-put_fates.ensures.edits honest kept_2
-          ∙ ap₂ (λ (ds : List Edit) (fs : List Fate). ds ++ filter_map (fate_change (world c.fates_on.new.sheet)) fs) edits c.as_slice-2.ensures
-          ∙ ap (λ (w : World). g.S.Draft.edits c.args.sheet.now ++ filter_map (fate_change w) c.in_ok-fates.fates) same;
+          ∙ ap₂ (λ (ds : List Edit) (fs : List Fate). ds ++ filter_map (fate_change (world c.fates_on.new.working_set)) fs) edits c.as_slice-2.ensures
+          ∙ ap (λ (w : World). g.S.Draft.edits c.args.working_set.now ++ filter_map (fate_change w) c.in_ok-fates.fates) same;
     }
 
 pub returns-clause-left : goal.returns-clause-left

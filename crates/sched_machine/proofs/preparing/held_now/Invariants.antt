@@ -7,5 +7,5 @@ use Rattle.sched_machine.proofs.preparing.held_now.Given as goal
 -- the count so far, and those among the places that are left
 abbrev pub invariant-loop-place : goal.invariant-loop-place
 invariant-loop-place g l =
-    l.count + count_by (λ (p : Place). still_holds (g.S.Draft.kept l.sheet p.unit) l.host p.number) (drop l.place-index l.held)
-    ≡ count_by (λ (p : Place). still_holds (g.S.Draft.kept l.sheet p.unit) l.host p.number) l.held
+    l.count + count_by (λ (p : Place). still_holds (g.S.Draft.kept l.working_set p.unit) l.host p.number) (drop l.place-index l.held)
+    ≡ count_by (λ (p : Place). still_holds (g.S.Draft.kept l.working_set p.unit) l.host p.number) l.held

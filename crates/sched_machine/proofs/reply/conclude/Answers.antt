@@ -13,8 +13,8 @@ use Rattle.sched_machine.specs.Totals.{user_credits_in}
 use Rattle.sched_machine.proofs.reply.conclude.Given
 use Rattle.sched_machine.proofs.reply.conclude.Goals as goal
 
--- after the jobs are given, the sheet is only read
-read : (g : Given.Over) (c : goal.In_ok-add_granted g) → g.S.Units.reads c.give.new.sheet c.add_granted.new.sheet
+-- after the jobs are given, the working set is only read
+read : (g : Given.Over) (c : goal.In_ok-add_granted g) → g.S.Units.reads c.give.new.working_set c.add_granted.new.working_set
 read g c =
     let u = g.met.S.Units in
     u.reads_on _ _ _ c.host_total.ensures.reads (u.reads_on _ _ _ c.user_total.ensures.reads (u.reads_on _ _ _ c.user_name.ensures.reads
@@ -54,15 +54,15 @@ returns-clause-left g c = λ honest kept.
 
 pub returns-clause-fits : goal.returns-clause-fits
 returns-clause-fits g c = λ honest kept can fits.
-    subst (FitWithHost (g.S.Draft.entry c.args.sheet.now) c.args.ready.now.call.number) (sym (g.met.S.Draft.reads_edits _ _ (read g c)))
+    subst (FitWithHost (g.S.Draft.entry c.args.working_set.now) c.args.ready.now.call.number) (sym (g.met.S.Draft.reads_edits _ _ (read g c)))
     (c.in_ok-give.ensures.fits (g.met.S.Units.stays_honest _ _ (read g c) honest) kept can fits)
 
 pub returns-clause-told : goal.returns-clause-told
 returns-clause-told g c = λ honest kept called runs.
     let u = g.met.S.Units in
     let draft = g.met.S.Draft in
-    let w = g.S.Draft.entry c.args.sheet.now in
-    let v = g.S.Units.world c.add_granted.new.sheet in
+    let w = g.S.Draft.entry c.args.working_set.now in
+    let v = g.S.Units.world c.add_granted.new.working_set in
     let call = c.args.ready.now.call in
     let jobs = c.args.jobs.now in
     let honest_4 = u.stays_honest _ _ c.add_granted.ensures.reads honest in

@@ -15,10 +15,10 @@ returns-clause-step g c = λ honest kept.
     let honest_1 = d.stays_honest _ _ c.act.ensures.reads honest in
     let kept_1 = d.stays_kept _ _ c.settings.ensures.reads honest_1 kept in
     let here = d.stays_same _ _ c.settings.ensures.reads honest_1 kept in
-    let page = c.new-page.ensures.page _ (c.in_ok-settings.ensures.answer honest_1 kept ∙ ap (λ (v : World). v.settings) (sym here)) in
+    let call_state = c.new-call_state.ensures.call_state _ (c.in_ok-settings.ensures.answer honest_1 kept ∙ ap (λ (v : World). v.settings) (sym here)) in
     subst (λ (e : World). Sound e → IsAdmitted e c.args.caller.now c.args.request.now
-    → RpcStep e c.args.caller.now c.args.request.now c.args.now (edited e c.act.new.page.edits) c.in_ok-reply.reply) here
-    (c.in_ok-reply.ensures.step honest kept_1 page c.new-page.ensures.edits)
+    → RpcStep e c.args.caller.now c.args.request.now c.args.now (edited e c.act.new.call_state.edits) c.in_ok-reply.reply) here
+    (c.in_ok-reply.ensures.step honest kept_1 call_state c.new-call_state.ensures.edits)
 
 pub returns-clause-sound : goal.returns-clause-sound
 returns-clause-sound g c = λ honest kept sound admitted.
@@ -31,6 +31,6 @@ returns-clause-fits g c = λ honest kept.
     let honest_1 = d.stays_honest _ _ c.act.ensures.reads honest in
     let kept_1 = d.stays_kept _ _ c.settings.ensures.reads honest_1 kept in
     let here = d.stays_same _ _ c.settings.ensures.reads honest_1 kept in
-    let page = c.new-page.ensures.page _ (c.in_ok-settings.ensures.answer honest_1 kept ∙ ap (λ (v : World). v.settings) (sym here)) in
-    subst (λ (e : World). Sound e → IsAdmitted e c.args.caller.now c.args.request.now → EditsFit e c.act.new.page.edits) here
-    (c.in_ok-reply.ensures.fits honest kept_1 page c.new-page.ensures.edits)
+    let call_state = c.new-call_state.ensures.call_state _ (c.in_ok-settings.ensures.answer honest_1 kept ∙ ap (λ (v : World). v.settings) (sym here)) in
+    subst (λ (e : World). Sound e → IsAdmitted e c.args.caller.now c.args.request.now → EditsFit e c.act.new.call_state.edits) here
+    (c.in_ok-reply.ensures.fits honest kept_1 call_state c.new-call_state.ensures.edits)

@@ -7,9 +7,9 @@ use Rattle.stores.specs.Acting.{parts_of}
 use Rattle.stores.proofs.Results.{only}
 use Rattle.stores.proofs.ReadsAct.{reads_act, whole_too}
 use Rattle.pasts.specs.Messages.{Said, Import, Tick, Read, Refused, heard_now}
-use Rattle.pasts.specs.declared.answer.Answer.TheVariants.{Refusal}
+use Rattle.pasts.specs.declared.answer.AnswerContent.TheVariants.{Refusal}
 use Rattle.message_engine.specs.Stores.{ServesIn}
-use Rattle.sched_server.specs.Meanings.{Says, said_by}
+use Rattle.sched_server.specs.Meanings.{SaysInThisEra, said_by}
 use Rattle.sched_server.specs.Statements.{told_of_host}
 use Rattle.sched_server.proofs.Told.{refused_serves}
 use Rattle.sched_server.proofs.Answered.{says_so, known_serves, at_moment, import_says, import_serves}
@@ -70,7 +70,7 @@ returns-in-WrongMethod-clause-exact g c = λ honest kept.
     let old = c.args.store.now in
     let new = c.confirmed.new.store in
     only c.confirmed.result (Refusal fault.WrongMethod)
-    (λ a. (said : Said) × Says (message_seen c.args.message) said × ServesIn (heard_now c.args.now said) a (g.S.Store.holds old) (g.S.Store.holds new)) c.confirmed.ensures.answer
+    (λ a. (said : Said) × SaysInThisEra (message_seen c.args.message) said × ServesIn (heard_now c.args.now said) a (g.S.Store.holds old) (g.S.Store.holds new)) c.confirmed.ensures.answer
     (Refused fault.WrongMethod, says_so c.args.message _ _ c.in-WrongMethod.is refl, refused_serves fault.WrongMethod c.args.now (g.S.Store.holds old) (g.S.Store.holds new) (g.met.S.Store.stays_held _ _ reads honest kept))
 
 pub returns-in-WrongMethod-clause-acts : goal.returns-in-WrongMethod-clause-acts
@@ -87,7 +87,7 @@ returns-in-Refused-clause-exact g c = λ honest kept.
     let old = c.args.store.now in
     let new = c.confirmed-in-Refused.new.store in
     only c.confirmed-in-Refused.result (Refusal c.in-Refused.fault)
-    (λ a. (said : Said) × Says (message_seen c.args.message) said × ServesIn (heard_now c.args.now said) a (g.S.Store.holds old) (g.S.Store.holds new)) c.confirmed-in-Refused.ensures.answer
+    (λ a. (said : Said) × SaysInThisEra (message_seen c.args.message) said × ServesIn (heard_now c.args.now said) a (g.S.Store.holds old) (g.S.Store.holds new)) c.confirmed-in-Refused.ensures.answer
     (Refused c.in-Refused.fault, says_so c.args.message _ _ c.in-Refused.is refl, refused_serves c.in-Refused.fault c.args.now (g.S.Store.holds old) (g.S.Store.holds new) (g.met.S.Store.stays_held _ _ reads honest kept))
 
 pub returns-in-Refused-clause-acts : goal.returns-in-Refused-clause-acts

@@ -7,7 +7,7 @@ use Rattle.stores.specs.Acting.{parts_of}
 use Rattle.stores.proofs.ReadsAct.{reads_act}
 use Rattle.stores.proofs.Results.{only}
 use Rattle.pasts.specs.Messages.{heard_now}
-use Rattle.pasts.specs.declared.answer.Answer.TheVariants.{Refusal}
+use Rattle.pasts.specs.declared.answer.AnswerContent.TheVariants.{Refusal}
 use Rattle.message_engine.specs.Stores.{ServesIn}
 use Rattle.sched_server.specs.Meanings.{said_by}
 use Rattle.sched_server.proofs.Told.{refused_serves}

@@ -2,7 +2,7 @@ use Rattle.std.proofs.Common.{◌≡◌, ◌<◌, true, length, arith, subst}
 use Rattle.std.specs.List.{AllWithin}
 use Rattle.std.proofs.lemmas.List.Elements.{AllWithin-none, AllWithin-from_all, All-from_all_within}
 use Rattle.table_cache.specs.Covering.{IsUserSkip}
-use Rattle.table_desk.specs.WaitingPage.{with_wait_at}
+use Rattle.table_desk.specs.WaitingWindow.{with_wait_at}
 use Rattle.table_cache.proofs.SkipMoves.{one_changed}
 use Rattle.table_cache.proofs.skips.add_to_each.Goals as goal
 

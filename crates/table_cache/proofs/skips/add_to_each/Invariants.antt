@@ -4,7 +4,7 @@ use Rattle.std.specs.List.{AllWithin}
 use Rattle.sched_book.specs.declared.instance.Instance.{Instance}
 use Rattle.table_desk.specs.declared.hosts.CountedHost.{CountedHost}
 use Rattle.table_cache.specs.Covering.{IsUserSkip}
-use Rattle.table_desk.specs.WaitingPage.{with_wait_at}
+use Rattle.table_desk.specs.WaitingWindow.{with_wait_at}
 use Rattle.table_cache.proofs.skips.add_to_each.Given as goal
 
 -- the skips so far are those after it, and the others those before it

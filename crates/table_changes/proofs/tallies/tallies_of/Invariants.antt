@@ -6,4 +6,4 @@ use Rattle.table_changes.proofs.tallies.tallies_of.Given as goal
 
 -- the tallies of the workunits so far
 abbrev pub invariant-loop-unit : goal.invariant-loop-unit
-invariant-loop-unit l = AreTallies (get nat_cmp l.page.leaves) (take l.unit-index l.units) l.tallies
+invariant-loop-unit l = AreTallies (get nat_cmp l.call_state.unit_states) (take l.unit-index l.units) l.tallies

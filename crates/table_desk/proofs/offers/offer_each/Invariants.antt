@@ -3,7 +3,7 @@ use Rattle.sqlite.specs.Held.{state}
 use Rattle.sched_book.specs.Offers.{Leads}
 use Rattle.sched_book.specs.declared.desk.Candidate.{Candidate}
 use Rattle.table_meaning.specs.Reads.{Reads}
-use Rattle.table_desk.specs.Asked.{Asked}
+use Rattle.table_desk.specs.Asked.{LooksUp}
 use Rattle.table_desk.specs.Skips.{IsCovered}
 use Rattle.sched_book.specs.Offers.{OrSkips}
 use Rattle.table_desk.specs.Pages.{candidates_at}
@@ -13,5 +13,5 @@ use Rattle.table_desk.proofs.offers.offer_each.Given as goal
 abbrev pub invariant-loop-place : goal.invariant-loop-place
 invariant-loop-place g l =
     Reads (state g.S.Store l.fn.conn) (state g.S.Store l.conn)
-    × Asked g.S.Store l.fn.conn l.conn (λ w. l.apps ≡ w.apps → g.K.KnownUnits.are_of w l.known → (more : List Candidate)
+    × LooksUp g.S.Store l.fn.conn l.conn (λ w. l.apps ≡ w.apps → g.K.KnownUnits.are_of w l.known → (more : List Candidate)
     → Leads (OrSkips (IsCovered l.skip) g.T.Taker.takes) l.fn.taker (candidates_at w l.places ++ more) l.taker (candidates_at w (drop l.place-index l.places) ++ more))

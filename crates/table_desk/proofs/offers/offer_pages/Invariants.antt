@@ -2,7 +2,7 @@ use Rattle.std.proofs.Common.{◌≡◌}
 use Rattle.sqlite.specs.Held.{state}
 use Rattle.sched_book.specs.Offers.{Leads}
 use Rattle.table_meaning.specs.Reads.{Reads}
-use Rattle.table_desk.specs.Asked.{Asked}
+use Rattle.table_desk.specs.Asked.{LooksUp}
 use Rattle.table_desk.specs.Skips.{IsCovered}
 use Rattle.sched_book.specs.Offers.{OrSkips}
 use Rattle.table_desk.specs.Pages.{unsent_on}
@@ -12,4 +12,4 @@ use Rattle.table_desk.proofs.offers.offer_pages.Given as goal
 abbrev pub invariant-loop-turn : goal.invariant-loop-turn
 invariant-loop-turn g l =
     Reads (state g.S.Store l.fn.conn) (state g.S.Store l.conn)
-    × Asked g.S.Store l.fn.conn l.conn (λ w. l.apps ≡ w.apps → g.K.KnownUnits.are_of w l.known → Leads (OrSkips (IsCovered l.skip) g.T.Taker.takes) l.fn.taker (unsent_on w l.fn.from) l.taker (unsent_on w l.next))
+    × LooksUp g.S.Store l.fn.conn l.conn (λ w. l.apps ≡ w.apps → g.K.KnownUnits.are_of w l.known → Leads (OrSkips (IsCovered l.skip) g.T.Taker.takes) l.fn.taker (unsent_on w l.fn.from) l.taker (unsent_on w l.next))

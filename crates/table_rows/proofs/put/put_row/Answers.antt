@@ -4,7 +4,7 @@ use Rattle.sqlite.specs.Held.{state}
 use Rattle.sqlite.specs.State.{HasCleanDisk, ExecutesInside}
 use Rattle.sqlite.proofs.InsideLemmas.{keeps_then}
 use Rattle.table_meaning.specs.Texts.{update_first}
-use Rattle.table_meaning.specs.Rows.{table_at, columns_of, key_of}
+use Rattle.table_meaning.specs.Rows.{table_at, columns_of, row_key_of}
 use Rattle.table_meaning.specs.Steps.{Moves}
 use Rattle.table_meaning.proofs.TypedRows.{bound_as}
 use Rattle.table_meaning.proofs.StepLemmas.{kept_by, moved_more, row_moved, row_updated}
@@ -32,7 +32,7 @@ returns-in-Some-clause-moves g c clean inside =
     let text = c.in-Some.text.now in
     let count = c.in_ok-stood-in-Some.field-0 in
     let same : map owned params ≡ columns_of row = ap (map owned) c.as_slice-params.ensures.value ∙ c.in_ok-values.ensures.values in
-    let is : Some text ≡ update_first (table_at (key_of row)) = search rules in
+    let is : Some text ≡ update_first (table_at (row_key_of row)) = search rules in
     let tried = λ (early : HasCleanDisk mid). row_updated row text is old mid count
     (subst (λ values. ExecutesInside 0 text values old mid (Ok count)) (bound_as params row same) (c.in_ok-stood-in-Some.ensures.runs early inside)) in
     elim c.if-not-stood.branch [

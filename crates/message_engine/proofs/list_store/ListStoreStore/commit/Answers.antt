@@ -1,7 +1,7 @@
 use Rattle.std.proofs.Common.{rules, sym, subst, true≢false}
 use Rattle.stores.specs.Standing.{MayStand}
 use Rattle.stores.proofs.ReadsAct.{left_is}
-use Rattle.message_engine.specs.ListStores.{held_of}
+use Rattle.message_engine.specs.ListStores.{held_of_list}
 use Rattle.message_engine.proofs.list_store.ListStoreStore.commit.Goals as goal
 
 pub returns-in_err-keep-clause-acts : goal.returns-in_err-keep-clause-acts
@@ -13,7 +13,7 @@ returns-in_err-keep-clause-acts c = record {
     lasts = search rules;
     stays_kept = search rules;
     left = λ h may. absurd may;
-    reopens = λ stands more. subst MayStand (sym (left_is (held_of c.args.self.now) (held_of c.keep.new.self) c.in_err-keep.ensures.err)) stands;
+    reopens = λ stands more. subst MayStand (sym (left_is (held_of_list c.args.self.now) (held_of_list c.keep.new.self) c.in_err-keep.ensures.err)) stands;
   };
   unchanged = λ honest kept bad. c.in_err-keep.ensures.err;
 }

@@ -17,15 +17,15 @@ returns-clause-reads g c = (
   search rules,
   search rules,
   λ honest kept.
-      let taken = c.take_page-page.ensures _ _ kept.1.rows_are in
-      c.remember_page.ensures _ _ taken.0 (told g.S.Store c.args.self.now c.unsent_from-offered.new.conn _ c.unsent_from-offered.ensures.page honest kept taken.1),
+      let taken = c.take_window-window.ensures _ _ kept.1.rows_are in
+      c.remember_window.ensures _ _ taken.0 (told g.S.Store c.args.self.now c.unsent_from-offered.new.conn _ c.unsent_from-offered.ensures.window honest kept taken.1),
   λ honest kept. kept.1.due_from_is,
 )
 
 pub returns-clause-all : goal.returns-clause-all
 returns-clause-all g c = λ honest kept.
     let w = world_of g.S.Store c.args.self.now in
-    let taken = c.take_page-page.ensures _ _ kept.1.rows_are in
+    let taken = c.take_window-window.ensures _ _ kept.1.rows_are in
     let skip = c.skip_of.ensures _ _ taken.0 in
     each_ok c.unsent_from-offered.result _ _ (told g.S.Store c.args.self.now c.unsent_from-offered.new.conn _ c.unsent_from-offered.ensures.all honest kept (c.as_slice.ensures ∙ kept.1.apps_are) taken.0.units taken.1)
     (λ offered.
@@ -36,7 +36,7 @@ returns-clause-all g c = λ honest kept.
 pub returns-clause-some : goal.returns-clause-some
 returns-clause-some g c = λ honest kept.
     let w = world_of g.S.Store c.args.self.now in
-    let taken = c.take_page-page.ensures _ _ kept.1.rows_are in
+    let taken = c.take_window-window.ensures _ _ kept.1.rows_are in
     let skip = c.skip_of.ensures _ _ taken.0 in
     all_err c.unsent_from-offered.result _ _ (told g.S.Store c.args.self.now c.unsent_from-offered.new.conn _ c.unsent_from-offered.ensures.some honest kept (c.as_slice.ensures ∙ kept.1.apps_are) taken.0.units taken.1)
     (λ offered.
@@ -47,7 +47,7 @@ returns-clause-some g c = λ honest kept.
 pub returns-clause-noted : goal.returns-clause-noted
 returns-clause-noted g c = λ honest kept before.
     let w = world_of g.S.Store c.args.self.now in
-    let taken = c.take_page-page.ensures _ _ kept.1.rows_are in
+    let taken = c.take_window-window.ensures _ _ kept.1.rows_are in
     let skip = c.skip_of.ensures _ _ taken.0 in
     either_way c.unsent_from-offered.result _ _ _
     (told g.S.Store c.args.self.now c.unsent_from-offered.new.conn _ c.unsent_from-offered.ensures.all honest kept (c.as_slice.ensures ∙ kept.1.apps_are) taken.0.units taken.1)

@@ -4,7 +4,7 @@ use Rattle.std.proofs.lemmas.List.{take_all, take_more}
 use Rattle.std.proofs.lemmas.List.Sums.{fold-append}
 use Rattle.table_cache.specs.Carrying.{with_host, with_hosts, with_job, with_jobs, AreCarried, AreOfHosts, AreOfJobs}
 use Rattle.table_cache.specs.Leading.{IsUnput}
-use Rattle.table_desk.specs.WaitingPage.{IsPageFor}
+use Rattle.table_desk.specs.WaitingWindow.{IsWindowFor}
 use Rattle.table_cache.specs.Covering.{with_wait, with_waits, AreSkipsFor}
 use Rattle.table_cache.specs.Holding.{holders_of, AreHeldOf}
 use Rattle.table_cache.specs.Keys.{with_title, with_titles, AreKeysOf, AreNamesOf}
@@ -32,8 +32,8 @@ loop-change-preserved c =
           (c.note_row.ensures.skips (with_waits waiting so_far) (with_jobs jobs so_far) (with_hosts hosts so_far)
           (c.loop-change.invariant.1 hosts of_hosts) (c.loop-change.invariant.2 jobs of_jobs) (c.loop-change.invariant.3 waiting jobs hosts of_hosts of_jobs are))),
       λ waiting is.
-          subst (λ (ws : ℕ → ℕ → Option Bool). IfSome c.note_row.new.self.page (IsPageFor ws)) (sym (ap (with_waits waiting) next ∙ fold-append with_wait waiting so_far (row ∷ [])))
-          (c.note_row.ensures.page (with_waits waiting so_far) (c.loop-change.invariant.4 waiting is)),
+          subst (λ (ws : ℕ → ℕ → Option Bool). IfSome c.note_row.new.self.window (IsWindowFor ws)) (sym (ap (with_waits waiting) next ∙ fold-append with_wait waiting so_far (row ∷ [])))
+          (c.note_row.ensures.window (with_waits waiting so_far) (c.loop-change.invariant.4 waiting is)),
       λ jobs of_jobs are.
           subst (λ js. AreHeldOf (holders_of js) c.note_row.new.self.held) (sym (ap (with_jobs jobs) next ∙ fold-append with_job jobs so_far (row ∷ [])))
           (c.note_row.ensures.held (with_jobs jobs so_far) (c.loop-change.invariant.2 jobs of_jobs) (c.loop-change.invariant.5 jobs of_jobs are)),
@@ -63,9 +63,9 @@ returns-clause-skips c = λ waiting jobs hosts of_hosts of_jobs are.
     subst (λ rs. AreSkipsFor (with_waits waiting rs) (with_jobs jobs rs) (with_hosts hosts rs) c.loop-change.self.skips) (take_all c.loop-change.change-index c.args.changes.now c.loop-change-test.false)
     (c.loop-change.invariant.3 waiting jobs hosts of_hosts of_jobs are)
 
-pub returns-clause-page : goal.returns-clause-page
-returns-clause-page c = λ waiting is.
-    subst (λ rs. IfSome c.loop-change.self.page (IsPageFor (with_waits waiting rs))) (take_all c.loop-change.change-index c.args.changes.now c.loop-change-test.false) (c.loop-change.invariant.4 waiting is)
+pub returns-clause-window : goal.returns-clause-window
+returns-clause-window c = λ waiting is.
+    subst (λ rs. IfSome c.loop-change.self.window (IsWindowFor (with_waits waiting rs))) (take_all c.loop-change.change-index c.args.changes.now c.loop-change-test.false) (c.loop-change.invariant.4 waiting is)
 
 pub returns-clause-held : goal.returns-clause-held
 returns-clause-held c = λ jobs of_jobs are.

@@ -1,6 +1,6 @@
 use Rattle.std.specs.Prelude.{ℕ, Bool, take, IfSome, List, Option}
 use Rattle.sched_book.specs.declared.instance.Instance.{Instance}
-use Rattle.table_desk.specs.WaitingPage.{IsPageFor}
+use Rattle.table_desk.specs.WaitingWindow.{IsWindowFor}
 use Rattle.table_desk.specs.declared.hosts.CountedHost.{CountedHost}
 use Rattle.table_cache.specs.Carrying.{with_hosts, with_jobs, AreCarried, AreOfHosts, AreOfJobs}
 use Rattle.table_cache.specs.Leading.{IsUnput}
@@ -18,7 +18,7 @@ invariant-loop-change l =
     × ((waiting : ℕ → ℕ → Option Bool) (jobs : ℕ → ℕ → Option Instance) (hosts : ℕ → Option CountedHost)
     → AreOfHosts hosts l.fn.self.hosts → AreOfJobs jobs l.fn.self.jobs → AreSkipsFor waiting jobs hosts l.fn.self.skips
     → AreSkipsFor (with_waits waiting (take l.change-index l.changes)) (with_jobs jobs (take l.change-index l.changes)) (with_hosts hosts (take l.change-index l.changes)) l.self.skips)
-    × ((waiting : ℕ → ℕ → Option Bool) → IfSome l.fn.self.page (IsPageFor waiting) → IfSome l.self.page (IsPageFor (with_waits waiting (take l.change-index l.changes))))
+    × ((waiting : ℕ → ℕ → Option Bool) → IfSome l.fn.self.window (IsWindowFor waiting) → IfSome l.self.window (IsWindowFor (with_waits waiting (take l.change-index l.changes))))
     × ((jobs : ℕ → ℕ → Option Instance) → AreOfJobs jobs l.fn.self.jobs
     → AreHeldOf (holders_of jobs) l.fn.self.held → AreHeldOf (holders_of (with_jobs jobs (take l.change-index l.changes))) l.self.held)
     × ((hosts : ℕ → Option CountedHost) → AreOfHosts hosts l.fn.self.hosts → AreKeysOf hosts l.fn.self.keys → AreKeysOf (with_hosts hosts (take l.change-index l.changes)) l.self.keys)

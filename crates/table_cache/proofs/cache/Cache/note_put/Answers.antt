@@ -1,5 +1,5 @@
 use Rattle.table_desk.specs.Columns.{counted_host_at}
-use Rattle.table_desk.specs.WaitingPage.{waiting_of}
+use Rattle.table_desk.specs.WaitingWindow.{waiting_of}
 use Rattle.table_cache.specs.Carrying.{with_hosts, with_jobs}
 use Rattle.table_cache.specs.Covering.{jobs_of, with_waits}
 use Rattle.table_cache.specs.Keys.{title_at, with_titles}
@@ -23,7 +23,7 @@ returns c = λ w w' calls calls' lead known.
     (c.follow.ensures.hosts (counted_host_at w) hosts)
     (c.follow.ensures.jobs (jobs_of w) jobs)
     (c.follow.ensures.skips (waiting_of w) (jobs_of w) (counted_host_at w) hosts jobs known.skips)
-    (c.follow.ensures.page (waiting_of w) known.page)
+    (c.follow.ensures.window (waiting_of w) known.window)
     (c.follow.ensures.held (jobs_of w) jobs (held_of_world w old.held known.held))
     (c.follow.ensures.keys (counted_host_at w) hosts (keys_of_world w calls old known))
     (c.follow.ensures.names (title_at w) (names_of_world w calls old known))

@@ -1,6 +1,6 @@
 use Rattle.std.proofs.Common.{◌≡◌, None, Some, sym, subst, ◌∙◌, inl, inr, rules}
 use Rattle.std.specs.Prelude.{IfSome}
-use Rattle.table_desk.specs.WaitingPage.{IsPageFor}
+use Rattle.table_desk.specs.WaitingWindow.{IsWindowFor}
 use Rattle.std.specs.Ordering.{nat_cmp}
 use Rattle.sched_book.specs.declared.rows.Workunit.{Workunit}
 use Rattle.table_cache.specs.Carrying.{with_host, with_job, AreOfJobs}
@@ -37,14 +37,14 @@ pub returns-in-Host-clause-skips : goal.returns-in-Host-clause-skips
 returns-in-Host-clause-skips c = λ waiting jobs hosts of_hosts of_jobs are.
     subst (λ r. AreSkipsFor (with_wait waiting r) (with_job jobs r) (with_host hosts r) c.follow_host.new.self) (sym c.in-Host.is) (c.follow_host.ensures waiting jobs hosts of_hosts are)
 
-pub returns-in-Version-clause-page : goal.returns-in-Version-clause-page
-returns-in-Version-clause-page c = λ waiting is. elim c.in-Version.is [
-  | inl it ↦ subst (λ r. IfSome c.args.self.now.page (IsPageFor (with_wait waiting r))) (sym it.1) is
-  | inr it ↦ subst (λ r. IfSome c.args.self.now.page (IsPageFor (with_wait waiting r))) (sym it.1) is
+pub returns-in-Version-clause-window : goal.returns-in-Version-clause-window
+returns-in-Version-clause-window c = λ waiting is. elim c.in-Version.is [
+  | inl it ↦ subst (λ r. IfSome c.args.self.now.window (IsWindowFor (with_wait waiting r))) (sym it.1) is
+  | inr it ↦ subst (λ r. IfSome c.args.self.now.window (IsWindowFor (with_wait waiting r))) (sym it.1) is
 ]
 
-pub returns-in-Instance-clause-page : goal.returns-in-Instance-clause-page
-returns-in-Instance-clause-page c = λ waiting is. subst (λ r. IfSome c.follow_page.new.page (IsPageFor (with_wait waiting r))) (sym c.in-Instance.is) (c.follow_page.ensures waiting is)
+pub returns-in-Instance-clause-window : goal.returns-in-Instance-clause-window
+returns-in-Instance-clause-window c = λ waiting is. subst (λ r. IfSome c.follow_window.new.window (IsWindowFor (with_wait waiting r))) (sym c.in-Instance.is) (c.follow_window.ensures waiting is)
 
 pub returns-in-Version-clause-held : goal.returns-in-Version-clause-held
 returns-in-Version-clause-held c = λ jobs of_jobs are. elim c.in-Version.is [

@@ -1,6 +1,6 @@
 use Rattle.table_desk.specs.Columns.{counted_host_at}
 use Rattle.table_cache.specs.Covering.{jobs_of}
-use Rattle.table_desk.specs.WaitingPage.{waiting_of}
+use Rattle.table_desk.specs.WaitingWindow.{waiting_of}
 use Rattle.table_cache.proofs.HadBy.{given_before}
 use Rattle.table_cache.proofs.cache.Cache.remember_had.Goals as goal
 
@@ -20,6 +20,6 @@ returns c = λ w calls read is. record {
   last_jobs = read.last_jobs;
   versions = read.versions;
   slot = read.slot;
-  page = read.page;
+  window = read.window;
   skips = c.raise.ensures (waiting_of w) (jobs_of w) (counted_host_at w) (given_before w c.args.account c.args.place is) read.skips;
 }

@@ -24,6 +24,6 @@ returns-in-Ok c = λ w calls read found.
       last_jobs = read.last_jobs;
       versions = read.versions;
       slot = read.slot;
-      page = read.page;
+      window = read.window;
       skips = read.skips;
     }

@@ -24,6 +24,6 @@ loop-unit-preserved c = λ w calls before all.
       last_jobs = so_far.last_jobs;
       versions = so_far.versions;
       slot = so_far.slot;
-      page = so_far.page;
+      window = so_far.window;
       skips = so_far.skips;
     }

@@ -1,6 +1,6 @@
 use Rattle.table_desk.specs.Columns.{counted_host_at}
 use Rattle.table_cache.specs.Covering.{jobs_of}
-use Rattle.table_desk.specs.WaitingPage.{waiting_of}
+use Rattle.table_desk.specs.WaitingWindow.{waiting_of}
 use Rattle.table_cache.proofs.cache.Cache.skip_of.Goals as goal
 
 pub returns : goal.returns

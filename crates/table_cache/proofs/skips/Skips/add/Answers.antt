@@ -2,7 +2,7 @@ use Rattle.std.proofs.Common.{◌≡◌, true, length, sym, subst, ◌∙◌}
 use Rattle.std.specs.Prelude.{All}
 use Rattle.std.proofs.lemmas.List.{with_items_is}
 use Rattle.table_cache.specs.Covering.{IsUserSkip}
-use Rattle.table_desk.specs.WaitingPage.{with_wait_at}
+use Rattle.table_desk.specs.WaitingWindow.{with_wait_at}
 use Rattle.table_cache.proofs.skips.Skips.add.Goals as goal
 
 pub returns : goal.returns

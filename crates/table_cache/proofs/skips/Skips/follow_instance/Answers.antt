@@ -2,7 +2,7 @@ use Rattle.std.proofs.Common.{◌≡◌, true, false, sym, subst, rules}
 use Rattle.table_meaning.specs.declared.rows.StoredRow.TheVariants as stored
 use Rattle.table_cache.specs.Carrying.{with_job}
 use Rattle.table_cache.specs.Covering.{AreSkipsFor}
-use Rattle.table_desk.specs.WaitingPage.{with_wait_at}
+use Rattle.table_desk.specs.WaitingWindow.{with_wait_at}
 use Rattle.table_cache.proofs.SkipMoves.{jobs_followed, none_waits}
 use Rattle.table_cache.proofs.skips.Skips.follow_instance.Goals as goal
 
