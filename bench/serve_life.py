@@ -948,7 +948,7 @@ def profile(program: str, folder: str) -> None:
     stages = {"sqlite::connection::Connection::query_near": "look-ups", "table_rows::put::put_each": "puts"}
     stages["sqlite::connection::Connection::commit"] = "the commit"
     stages["message_engine::commits::commit_and_answer"] = "that a commit calls, these two with it"
-    stages["call_sheet::by_name::put_all"] = "changes put into a call state, in the step and the commit"
+    stages["call_working_set::by_name::put_all"] = "changes put into a call state, in the step and the commit"
     for what, many in [
         *((f"all {stage}", whole[function]) for function, stage in stages.items()),
         *((f"the crate {crate}", many) for crate, many in crates.most_common(10)),

@@ -6,7 +6,7 @@ ghost use Rattle.sched_server.specs.Arrivals.{Came};
 ghost use Rattle.sched_server.specs.Serving.{ServesInTurn};
 ghost use Rattle.commands.specs.Messages.{AreOf, IsImport, IsTick, IsStatement, IsOne, HasArrived};
 
-use crate::ending::{Failure, Ending};
+use crate::ending::{Ending, Failure};
 use crate::files::bytes_of;
 use crate::serving::serve_on;
 use http_requests::{import_request, statement_request, tick_request};
@@ -102,11 +102,7 @@ fn import_message(
 }
 
 /// Sends a tick at a moment.
-fn tick<S: Store>(
-    rt: &HostRuntime,
-    service: &mut Service<S>,
-    at: Moment,
-) -> Result<Ending, Failure>
+fn tick<S: Store>(rt: &HostRuntime, service: &mut Service<S>, at: Moment) -> Result<Ending, Failure>
     ensures { (came : List Came) × IsOne result at IsTick came × ServesInTurn S.Store came service.old service.new }
 {
     let message = tick_request(rt.alloc(), service.operator_key())?;

@@ -11,7 +11,7 @@ ghost use Rattle.commands.specs.Messages.{AreOf};
 ghost use Rattle.commands.specs.Databases.{IsGivenBack, LeavesDatabase, MakesTables, ServesTables, ServesStore, UpgradesTables};
 
 use crate::answering::{Task, perform_by};
-use crate::ending::{Failure, Ending, Performed};
+use crate::ending::{Ending, Failure, Performed};
 use sched_book::Settings;
 use sched_server::Service;
 use sched_server::laws::new_stores_stand;

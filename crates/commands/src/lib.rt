@@ -15,7 +15,7 @@ mod orders;
 mod replaying;
 mod serving;
 
-pub use ending::{Failure, Ending, Performed};
+pub use ending::{Ending, Failure, Performed};
 pub use orders::perform;
 pub use replaying::default_settings;
 pub use serving::serve_on;

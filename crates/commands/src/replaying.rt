@@ -3,7 +3,7 @@
 ghost use Rattle.std.specs.Prelude.{IfOk};
 ghost use Rattle.sched_book.specs.Limits.{AreSettingsInLimits};
 
-use crate::ending::{Failure, Ending, ended};
+use crate::ending::{Ending, Failure, ended};
 use crate::files::settings_in;
 use replay_lines::replay;
 use sched_book::Settings;

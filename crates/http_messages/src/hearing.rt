@@ -10,7 +10,7 @@ ghost use Rattle.http_messages.specs.Routers.{the_routes};
 
 use crate::deciding::{Decision, decide_for};
 use crate::heads::{HeadRead, MOST_FIELDS, head_room, read_head};
-use crate::message::{MessageSoFar, Message};
+use crate::message::{Message, MessageSoFar};
 use crate::route_kind::RouteKind;
 use crate::routes::{path_of, route_of};
 use httparse::spans::{EMPTY_HEADER_SPAN, HeaderSpan, RequestSpans};

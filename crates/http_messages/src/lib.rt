@@ -17,6 +17,6 @@ pub mod route_kind;
 mod routes;
 
 pub use hearing::hear;
-pub use message::{MessageSoFar, Message};
+pub use message::{Message, MessageSoFar};
 pub use route_kind::RouteKind;
 pub use routes::new_router;

@@ -18,9 +18,9 @@ use Rattle.sched_book.specs.declared.rows.HostRow.{HostRow}
 use Rattle.sched_book.specs.declared.rows.Workunit.{Workunit}
 use Rattle.sched_book.specs.declared.world.World.{World}
 use Rattle.sched_book.proofs.Recording.{passes-is}
-use Rattle.call_sheet.specs.WorkingSets.{IsReadAt, instance_now}
-use Rattle.call_sheet.specs.UnitState.{UnitState}
-use Rattle.call_sheet.proofs.OnUnitStates.{instance_before-is, instance_now-is, status_before-is, status_now-is}
+use Rattle.call_working_set.specs.WorkingSets.{IsReadAt, instance_now}
+use Rattle.call_working_set.specs.UnitState.{UnitState}
+use Rattle.call_working_set.proofs.OnUnitStates.{instance_before-is, instance_now-is, status_before-is, status_now-is}
 use Rattle.texts.specs.SeenSet.{has_seen}
 use Rattle.texts.specs.declared.seen_set.SeenSet.{SeenSet}
 use Rattle.lost_jobs.specs.Fated.{fated, fate_change}

@@ -8,8 +8,8 @@ use Rattle.sched_book.specs.Places.{option_any, is_held_by, deadline_of}
 use Rattle.sched_book.specs.declared.delta.Edit.{Edit}
 use Rattle.sched_book.specs.declared.delta.Edit.TheVariants as edit
 use Rattle.sched_book.specs.declared.instance.Instance.{Instance}
-use Rattle.call_sheet.specs.WorkingSets.{instance_now, status_now}
-use Rattle.call_sheet.specs.UnitState.{UnitState}
+use Rattle.call_working_set.specs.WorkingSets.{instance_now, status_now}
+use Rattle.call_working_set.specs.UnitState.{UnitState}
 use Rattle.lost_jobs.specs.Fated.{fated}
 use Rattle.lost_jobs.specs.declared.fates.Fate.{Fate}
 use Rattle.lost_jobs.specs.declared.fates.OpenJob.{OpenJob}

@@ -6,7 +6,7 @@ ghost use Rattle.sched_book.specs.Lost.{is_aborted, aborts};
 ghost use Rattle.sched_book.specs.Trusted.{Trusted};
 ghost use Rattle.lost_jobs.specs.UnitStates.{is_aborted_on};
 
-use call_sheet::{Draft, UnitState};
+use call_working_set::{Draft, UnitState};
 use rpc_records::Request;
 use sched_book::{Unavailable, first_of_each, place_named};
 use std::alloc::Global;

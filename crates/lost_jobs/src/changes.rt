@@ -7,7 +7,7 @@ ghost use Rattle.lost_jobs.specs.Fated.{fated, with_fate, fate_change, AreByPlac
 ghost use Rattle.lost_jobs.specs.UnitStates.{change_on};
 
 use crate::fates::Fate;
-use call_sheet::{Draft, UnitState, put_all};
+use call_working_set::{Draft, UnitState, put_all};
 use sched_book::{Edit, Instance, Lapse, Owner, Unavailable};
 use std::alloc::Global;
 use texts::{Listed, Memory};
@@ -47,7 +47,11 @@ fn change_on(unit_state: Option<&UnitState>, fate: Fate) -> Result<Option<Edit>,
 ///
 /// [`Unavailable`] if there is no memory or the desk is unavailable.
 #[tactic(auto, using(crate::proofs::OnUnitStates::change_steps))]
-pub fn put_fates<S: Draft>(alloc: Global, working_set: &mut S, fates: &[Fate]) -> Result<(), Unavailable>
+pub fn put_fates<S: Draft>(
+    alloc: Global,
+    working_set: &mut S,
+    fates: &[Fate],
+) -> Result<(), Unavailable>
     ensures works { S.works working_set.old working_set.new }
     ensures put { Trusted S.Units working_set.old working_set.new (
         OnOk result (AreByPlace fates.now → S.world working_set.new ≡ fold with_fate (S.world working_set.old) fates.now)) }

@@ -8,7 +8,7 @@ ghost use Rattle.sched_book.specs.Trusted.{Trusted};
 ghost use Rattle.lost_jobs.specs.Fates.{fate, resent_to};
 ghost use Rattle.lost_jobs.specs.UnitStates.{open_job_on};
 
-use call_sheet::{Draft, UnitState};
+use call_working_set::{Draft, UnitState};
 use job_choice::{fits, seconds_at};
 use sched_book::{HostRow, Moment, Place, Unavailable, Version, Workunit, copy_of};
 use std::alloc::Global;

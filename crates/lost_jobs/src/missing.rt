@@ -8,7 +8,7 @@ ghost use Rattle.sched_book.specs.Trusted.{Trusted};
 ghost use Rattle.lost_jobs.specs.Holding.{HoldsNoMore};
 ghost use Rattle.lost_jobs.specs.UnitStates.{is_missing_on};
 
-use call_sheet::{Draft, UnitState};
+use call_working_set::{Draft, UnitState};
 use rpc_records::Request;
 use sched_book::{Place, Unavailable, instance_name};
 use std::alloc::Global;
@@ -66,7 +66,13 @@ pub fn lost_on<S: Draft>(
     let mut missing = Listed::new(alloc);
     for place in held {
         working_set.read(alloc, place.unit)?;
-        if is_missing_on(alloc, host, &listed, working_set.unit_state(place.unit), place.number)? {
+        if is_missing_on(
+            alloc,
+            host,
+            &listed,
+            working_set.unit_state(place.unit),
+            place.number,
+        )? {
             missing.push(*place)?;
         }
     }

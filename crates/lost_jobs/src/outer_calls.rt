@@ -12,7 +12,7 @@ ghost use Rattle.lost_jobs.specs.Requested.{RecordsReports, AreLostBy};
 
 use crate::fates::{Fate, fates_on};
 use crate::missing::lost_on;
-use call_sheet::{Draft, CallState, WorkingSet, put_all};
+use call_working_set::{CallState, Draft, WorkingSet, put_all};
 use rpc_records::Request;
 use sched_book::{
     Desk, Edits, HostRow, Moment, Place, Unavailable, Units, first_of_each, place_named, status_at,

@@ -166,7 +166,10 @@ pub fn call<S: Store>(
 {
     match caller_of(alloc, store, &request) {
         Ok(caller) => call_admitted(alloc, store, &caller, &request, now),
-        Err(AdmissionError::BadAccount) => confirmed(store, AnswerContent::Refusal(Fault::BadAccount)),
+        Err(AdmissionError::BadAccount) => confirmed(
+            store,
+            AnswerContent::Refusal(Fault::BadAccount),
+        ),
         Err(AdmissionError::BadHost) => confirmed(store, AnswerContent::Refusal(Fault::BadHost)),
         Err(AdmissionError::Unavailable(cause)) => Err(Unavailable(cause)),
     }

@@ -40,7 +40,11 @@ fn make_lapse<S: Store>(
 /// # Errors
 ///
 /// [`Unavailable`] leaves everything as it was, unless a fault has shut the store.
-pub fn tick<S: Store>(alloc: Global, store: &mut S, now: Moment) -> Result<AnswerContent, Unavailable>
+pub fn tick<S: Store>(
+    alloc: Global,
+    store: &mut S,
+    now: Moment,
+) -> Result<AnswerContent, Unavailable>
     ensures acts { ActsWhole S.Store (is_ok result) (IsServed (heard_now now Tick) (S.holds store.old)) store.old store.new }
     ensures exact { Trusted S.Units store.old store.new (IfOk result (λ answer.
         ServesIn (heard_now now Tick) answer (S.holds store.old) (S.holds store.new))) }

@@ -3,7 +3,7 @@ use Rattle.std.proofs.Common.{◌≡◌, ℕ, suc, ◌+◌, ◌-◌, ◌<◌, Li
 use Rattle.sched_book.specs.Settle.{fresh}
 use Rattle.sched_book.specs.declared.delta.Edit.{Edit}
 use Rattle.sched_book.specs.declared.delta.Edit.TheVariants as edit
-use Rattle.call_sheet.specs.UnitState.{UnitState}
+use Rattle.call_working_set.specs.UnitState.{UnitState}
 use Rattle.quorum_credit.specs.UnitStates.{growth_on}
 use Rattle.quorum_credit.specs.Growing.{fresh_changes}
 use Rattle.quorum_credit.specs.Settled.{new_instances}

@@ -18,7 +18,7 @@ use Rattle.sched_book.proofs.Settling.{nth-map}
 use Rattle.quorum_credit.specs.Growing.{fresh_changes, growth_of, growth, all_growth}
 use Rattle.quorum_credit.specs.Settled.{new_instances}
 use Rattle.quorum_credit.specs.Settling.{TouchJust, grown_among, with_grown_among}
-use Rattle.call_sheet.specs.WorkingSets.{AreAbove, AreRising, is_among}
+use Rattle.call_working_set.specs.WorkingSets.{AreAbove, AreRising, is_among}
 use Rattle.sched_book.proofs.ByPlace.{all_nth, same_by_place, nth-map_places}
 
 -- one more instance after a workunit's own

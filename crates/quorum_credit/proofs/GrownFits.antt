@@ -20,7 +20,7 @@ use Rattle.sched_book.specs.declared.world.World.{World}
 use Rattle.sched_book.proofs.UnitChanges.{unit_at-edited}
 use Rattle.quorum_credit.specs.Growing.{fresh_changes, growth_of, growth, all_growth}
 use Rattle.quorum_credit.specs.Settling.{AreUnitsInLimits}
-use Rattle.call_sheet.specs.WorkingSets.{AreRising, is_among}
+use Rattle.call_working_set.specs.WorkingSets.{AreRising, is_among}
 use Rattle.quorum_credit.proofs.Grown.{one_behind, put_behind, above_others, growth_elsewhere}
 
 -- changes that fit after others that do

@@ -15,8 +15,8 @@ use Rattle.sched_book.proofs.PlacesOf.{nth-suc}
 use Rattle.sched_book.proofs.Credits.{sum_same, sum_plus}
 use Rattle.quorum_credit.specs.Scores.{standing_with, no_standing, standing_in, standing_at, one_if_new, charges_between, merits_between, charges_at, merits_at, unit_charges, unit_merits}
 use Rattle.quorum_credit.specs.Settling.{TouchJust}
-use Rattle.call_sheet.specs.WorkingSets.{is_among}
-use Rattle.call_sheet.proofs.Sums.{sum_from, at_one, from_zero, sum_of_some}
+use Rattle.call_working_set.specs.WorkingSets.{is_among}
+use Rattle.call_working_set.proofs.Sums.{sum_from, at_one, from_zero, sum_of_some}
 use Rattle.quorum_credit.specs.declared.scores.Standing.{Standing}
 
 -- a test of the host's own instances is two tests

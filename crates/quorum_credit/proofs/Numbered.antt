@@ -11,7 +11,7 @@ use Rattle.sched_book.specs.Delta.{set_nth}
 use Rattle.sched_book.proofs.PlacesOf.{nth-suc}
 use Rattle.quorum_credit.specs.Tallies.{number_got}
 use Rattle.sched_book.proofs.ByPlace.{same_by_place, nth-map_places}
-use Rattle.call_sheet.proofs.SetRows.{nth-set_nth}
+use Rattle.call_working_set.proofs.SetRows.{nth-set_nth}
 
 pub length-numbered : {X Y : Type 0} (f : ℕ × X → Y) (xs : List X) → length (map f (enumerate_from 1 xs)) ≡ length xs
 length-numbered f xs = length-map (enumerate_from 1 xs) f ∙ length-enumerate_from 1 xs

@@ -11,9 +11,9 @@ use Rattle.sched_book.specs.declared.instance.Status.{Status}
 use Rattle.sched_book.specs.declared.instance.UnitBook.{UnitBook}
 use Rattle.sched_book.specs.declared.rows.Agreement.{Agreement}
 use Rattle.sched_book.specs.declared.world.World.{World}
-use Rattle.call_sheet.specs.WorkingSets.{IsReadAt}
-use Rattle.call_sheet.specs.UnitState.{UnitState}
-use Rattle.call_sheet.proofs.OnUnitStates.{agreed, instances_now-is, status_before-is}
+use Rattle.call_working_set.specs.WorkingSets.{IsReadAt}
+use Rattle.call_working_set.specs.UnitState.{UnitState}
+use Rattle.call_working_set.proofs.OnUnitStates.{agreed, instances_now-is, status_before-is}
 use Rattle.quorum_credit.specs.Growing.{fresh_changes, growth_of, growth}
 use Rattle.quorum_credit.specs.Late.{late_in}
 use Rattle.quorum_credit.specs.UnitStates.{reported_on, late_on, growth_on, scores_on}

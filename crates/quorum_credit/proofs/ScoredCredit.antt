@@ -21,8 +21,8 @@ use Rattle.quorum_credit.specs.declared.scores.Score.{Score}
 use Rattle.quorum_credit.specs.declared.scores.Standing.{Standing}
 use Rattle.quorum_credit.proofs.Scored.{credits_in-scores}
 use Rattle.quorum_credit.proofs.NewlyCounted.{sum_in-zero, stands_as_before}
-use Rattle.call_sheet.proofs.Sums.{sum_from, at_one, sum_from_plus, sum_from_zero, sum_listed, from_zero, sum_of_some}
-use Rattle.call_sheet.specs.WorkingSets.{is_among}
+use Rattle.call_working_set.proofs.Sums.{sum_from, at_one, sum_from_plus, sum_from_zero, sum_listed, from_zero, sum_of_some}
+use Rattle.call_working_set.specs.WorkingSets.{is_among}
 
 -- sums over the places of a workunit's instances, and further ones
 abbrev place : ℕ → ℕ → Place

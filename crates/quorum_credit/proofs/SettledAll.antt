@@ -25,8 +25,8 @@ use Rattle.sched_book.proofs.PlacesOf.{nth-modify_nth, nth-within}
 use Rattle.sched_book.proofs.Settling.{settlement_is_pointwise}
 use Rattle.quorum_credit.specs.Scores.{charges_in, merits_in, unit_charges, unit_merits}
 use Rattle.quorum_credit.specs.Settling.{TouchJust, with_grown_among, quota_by, with_quotas_by, AreHostsInLimits, AreUnitsInLimits, AreQuotasBy, IsSettlement}
-use Rattle.call_sheet.specs.WorkingSets.{IsUnitStateAt, AreAllOf, AreRising, is_among}
-use Rattle.call_sheet.specs.UnitState.{UnitState}
+use Rattle.call_working_set.specs.WorkingSets.{IsUnitStateAt, AreAllOf, AreRising, is_among}
+use Rattle.call_working_set.specs.UnitState.{UnitState}
 use Rattle.quorum_credit.specs.Growing.{all_growth}
 use Rattle.quorum_credit.specs.Scoring.{scores_of_units}
 use Rattle.quorum_credit.specs.Taken.{touches, AreTouched}
@@ -36,7 +36,7 @@ use Rattle.sched_book.proofs.Fitting.{all_settings_stay, all_apps_stay}
 use Rattle.quorum_credit.proofs.Grown.{grown_sound, others_need_nothing, all_grown_among}
 use Rattle.quorum_credit.specs.Tallies.{number_got}
 use Rattle.quorum_credit.proofs.Numbered.{number_within}
-use Rattle.call_sheet.proofs.SetRows.{nth-set_nth}
+use Rattle.call_working_set.proofs.SetRows.{nth-set_nth}
 use Rattle.quorum_credit.proofs.GrownFits.{fits_then, all_fit}
 use Rattle.quorum_credit.proofs.Scored.{charges_in-scores, merits_in-scores}
 use Rattle.quorum_credit.proofs.NewlyCounted.{charges_touched, merits_touched}

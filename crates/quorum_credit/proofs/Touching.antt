@@ -5,7 +5,7 @@ use Rattle.std.specs.BTreeSet.{BTreeSet, IsOrdered, contains}
 use Rattle.std.specs.List.{list_any}
 use Rattle.std.specs.Ordering.{nat_cmp, is_eq}
 use Rattle.sched_book.specs.declared.delta.Edit.{Edit}
-use Rattle.call_sheet.proofs.UnitStates.{same, rising}
+use Rattle.call_working_set.proofs.UnitStates.{same, rising}
 use Rattle.quorum_credit.specs.Taken.{touches, AreTouched}
 
 among : (unit : ℕ) (ns : List ℕ) → list_any (λ n. is_eq (nat_cmp unit n)) ns ≡ list_any (λ n. eqb n unit) ns

@@ -15,7 +15,7 @@ use Rattle.sched_book.specs.declared.rows.HostRow.{HostRow}
 use Rattle.sched_book.specs.declared.world.World.{World}
 use Rattle.quorum_credit.specs.Scoring.{scores_of_units}
 use Rattle.quorum_credit.specs.Scores.{charges_in, merits_in}
-use Rattle.call_sheet.specs.WorkingSets.{AreRising, is_among}
+use Rattle.call_working_set.specs.WorkingSets.{AreRising, is_among}
 use Rattle.quorum_credit.specs.declared.scores.Score.{Score}
 
 -- Between two worlds only these workunits are touched, and their places rise.

@@ -8,7 +8,7 @@ use Rattle.sched_book.specs.Reports.{awaits_report, with_report}
 use Rattle.sched_book.specs.declared.delta.Edit.{Edit}
 use Rattle.sched_book.specs.declared.delta.Edit.TheVariants as edit
 use Rattle.sched_book.specs.declared.instance.Instance.{Instance}
-use Rattle.call_sheet.specs.WorkingSets.{AreRising}
+use Rattle.call_working_set.specs.WorkingSets.{AreRising}
 
 -- the place that the next report of a workunit with these instances gets: none if the workunit had failed
 abbrev pub place_among : Bool → List Instance → Option ℕ

@@ -4,8 +4,8 @@ use Rattle.rpc_records.specs.declared.request.Report.{Report}
 use Rattle.sched_book.specs.Count.{has_failed}
 use Rattle.sched_book.specs.declared.delta.Edit.{Edit}
 use Rattle.sched_book.specs.declared.instance.Instance.{Instance}
-use Rattle.call_sheet.specs.WorkingSets.{instances_now, status_before}
-use Rattle.call_sheet.specs.UnitState.{UnitState}
+use Rattle.call_working_set.specs.WorkingSets.{instances_now, status_before}
+use Rattle.call_working_set.specs.UnitState.{UnitState}
 use Rattle.quorum_credit.specs.Growing.{fresh_changes}
 use Rattle.quorum_credit.specs.Late.{late_in}
 use Rattle.quorum_credit.specs.Scoring.{standings_in, scores_from}

@@ -2,14 +2,14 @@
 
 ghost use Rattle.std.specs.Prelude.{◌≡◌, ◌++◌, Some, IfOk, OnOk};
 ghost use Rattle.sched_book.specs.Trusted.{Trusted};
-ghost use Rattle.call_sheet.specs.WorkingSets.{AreRising};
+ghost use Rattle.call_working_set.specs.WorkingSets.{AreRising};
 ghost use Rattle.quorum_credit.specs.Growing.{growth, all_growth};
 ghost use Rattle.quorum_credit.specs.UnitStates.{growth_on};
 ghost use Rattle.quorum_credit.specs.Settled.{new_instances};
 ghost use Rattle.quorum_credit.specs.Settling.{with_grown_among};
 
 use crate::settlement::new_instances;
-use call_sheet::{Draft, UnitState, put_all};
+use call_working_set::{Draft, UnitState, put_all};
 use sched_book::limits::MOST_INSTANCES;
 use sched_book::{Cause, Edit, Edits, Instance, Invariant, Place, Unavailable};
 use std::alloc::Global;
@@ -19,7 +19,11 @@ use texts::Listed;
 fn new_instances_on(unit_state: &UnitState) -> usize
     ensures { result ≡ new_instances unit_state.now.agreement unit_state.now.unit unit_state.now.present }
 {
-    new_instances(unit_state.decided_now().status, unit_state.unit(), unit_state.present())
+    new_instances(
+        unit_state.decided_now().status,
+        unit_state.unit(),
+        unit_state.present(),
+    )
 }
 
 /// Adds the instances that the workunit of a unit state is to get after those of others. Refused if these would be too

@@ -7,7 +7,7 @@ ghost use Rattle.quorum_credit.specs.Tallies.{new_quotas, tally_with, tally_afte
 
 use crate::quota::next_quota;
 use crate::scores::Score;
-use call_sheet::Draft;
+use call_working_set::Draft;
 use sched_book::{Cause, Edit, Edits, HostRow, Invariant, Unavailable};
 use std::alloc::Global;
 use std::collections::BTreeMap;

@@ -10,7 +10,7 @@ ghost use Rattle.quorum_credit.specs.Late.{lapsed_at};
 ghost use Rattle.quorum_credit.specs.UnitStates.{late_on};
 ghost use Rattle.quorum_credit.specs.Limited.{FitWithin};
 
-use call_sheet::{Draft, UnitState};
+use call_working_set::{Draft, UnitState};
 use sched_book::{Cause, Instance, Invariant, Lapse, Place, Unavailable, copy_of};
 use std::alloc::Global;
 use texts::Memory;
@@ -56,7 +56,11 @@ fn put_late<S: Draft>(alloc: Global, working_set: &mut S, place: Place) -> Resul
 /// # Errors
 ///
 /// [`Unavailable`] if there is no memory or the desk is unavailable.
-pub fn lapse_on<S: Draft>(alloc: Global, working_set: &mut S, places: &[Place]) -> Result<(), Unavailable>
+pub fn lapse_on<S: Draft>(
+    alloc: Global,
+    working_set: &mut S,
+    places: &[Place],
+) -> Result<(), Unavailable>
     ensures works { S.works working_set.old working_set.new }
     ensures lapsed { Trusted S.Units working_set.old working_set.new (
         OnOk result (S.world working_set.new ≡ lapsed_at (S.world working_set.old) places.now)) }

@@ -12,7 +12,7 @@ ghost use Rattle.sched_book.specs.Settle.{settled};
 ghost use Rattle.sched_book.specs.Sound.{Sound};
 ghost use Rattle.sched_book.specs.Step.{lapsed};
 ghost use Rattle.sched_book.specs.Trusted.{Trusted};
-ghost use Rattle.call_sheet.specs.WorkingSets.{IsCallStateOf};
+ghost use Rattle.call_working_set.specs.WorkingSets.{IsCallStateOf};
 ghost use Rattle.quorum_credit.specs.Settled.{new_instances, verdicts};
 ghost use Rattle.quorum_credit.specs.Settling.{IsSettlement};
 ghost use Rattle.quorum_credit.specs.Taken.{AreTouched};
@@ -21,7 +21,7 @@ use crate::reports::record_on;
 use crate::settlement::new_instances;
 use crate::settling::{lapse_places, settle_on};
 use arrayvec::ArrayVec;
-use call_sheet::{CallState, WorkingSet, put_all};
+use call_working_set::{CallState, WorkingSet, put_all};
 use rpc_records::Request;
 use sched_book::limits::MOST_INSTANCES;
 use sched_book::{

@@ -11,7 +11,7 @@ ghost use Rattle.quorum_credit.specs.UnitStates.{reported_on};
 ghost use Rattle.quorum_credit.specs.Limited.{FitWithin};
 ghost use Rattle.quorum_credit.specs.Taken.{place_among};
 
-use call_sheet::{Draft, UnitState, place_before};
+use call_working_set::{Draft, UnitState, place_before};
 use rpc_records::{Report, Request};
 use sched_book::{Instance, Outcome, Place, Unavailable, first_of_each};
 use std::alloc::Global;
@@ -99,7 +99,12 @@ fn put_report<S: Draft>(
         FitWithin (S.entry working_set.old) (S.edits working_set.old) → FitWithin (S.entry working_set.old) (S.edits working_set.new))) }
 {
     working_set.read(alloc, place.unit)?;
-    match reported_on(host, report, working_set.unit_state(place.unit), place.number)? {
+    match reported_on(
+        host,
+        report,
+        working_set.unit_state(place.unit),
+        place.number,
+    )? {
         None => Ok(()),
         Some(row) => {
             working_set.put_instance(place, &row)?;

@@ -9,7 +9,7 @@ ghost use Rattle.quorum_credit.specs.Scores.{one_if_new, charges_between, credit
 ghost use Rattle.quorum_credit.specs.Scoring.{owned_standing, standing_of, score_of, scores_from, scores_at, scores_of_units};
 ghost use Rattle.quorum_credit.specs.declared.scores.Score.{Score};
 
-use call_sheet::{Draft, UnitState};
+use call_working_set::{Draft, UnitState};
 use sched_book::{Agreement, Instance, Lapse, Owner, Unavailable, Verdict, count};
 use std::alloc::Global;
 use texts::{Listed, Memory};
@@ -180,7 +180,11 @@ fn push_scores(
 }
 
 /// Adds what is new of the instances of a unit state since the call came after the other scores.
-fn push_scores_on(alloc: Global, scores: &mut Listed<Score>, unit_state: &UnitState) -> Result<(), Memory>
+fn push_scores_on(
+    alloc: Global,
+    scores: &mut Listed<Score>,
+    unit_state: &UnitState,
+) -> Result<(), Memory>
     ensures { OnOk result (scores.new ≡ scores.old ++ scores_on (Some unit_state.now)) }
 {
     let agreement = unit_state.agreement();
@@ -196,7 +200,12 @@ fn push_scores_on(alloc: Global, scores: &mut Listed<Score>, unit_state: &UnitSt
         unit_state.decided_now().canonical,
         unit_state.present(),
     )?;
-    push_scores(scores, unit_state.unit().credit, old.as_slice(), new.as_slice())
+    push_scores(
+        scores,
+        unit_state.unit().credit,
+        old.as_slice(),
+        new.as_slice(),
+    )
 }
 
 /// Adds what is new of the instances of the workunit at a place after the other scores.

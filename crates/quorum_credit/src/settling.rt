@@ -13,7 +13,7 @@ use crate::growth::grow_on;
 use crate::host_quotas::new_quotas;
 use crate::late::lapse_on;
 use crate::scores::{Score, scores_of_units};
-use call_sheet::{Draft, CallState, WorkingSet, put_all};
+use call_working_set::{CallState, Draft, WorkingSet, put_all};
 use sched_book::{Desk, Edits, Place, Unavailable};
 use std::alloc::Global;
 use texts::Listed;
@@ -54,7 +54,10 @@ pub fn settle_on<S: Draft>(
 /// # Errors
 ///
 /// [`Unavailable`] if there is no memory or the desk is unavailable.
-pub fn settle_read<S: Draft>(alloc: Global, working_set: &mut S) -> Result<Listed<Score>, Unavailable>
+pub fn settle_read<S: Draft>(
+    alloc: Global,
+    working_set: &mut S,
+) -> Result<Listed<Score>, Unavailable>
     ensures works { S.works working_set.old working_set.new }
     ensures settled { Trusted S.Units working_set.old working_set.new (OnOk result (
         Sound (S.entry working_set.old) → EditsFit (S.entry working_set.old) (S.edits working_set.old) →
@@ -70,7 +73,11 @@ pub fn settle_read<S: Draft>(alloc: Global, working_set: &mut S) -> Result<Liste
 }
 
 /// Lets the instances at these places lapse late, in their order, and settles their workunits, before any other edit.
-fn lapse_read<S: Draft>(alloc: Global, working_set: &mut S, places: &[Place]) -> Result<(), Unavailable>
+fn lapse_read<S: Draft>(
+    alloc: Global,
+    working_set: &mut S,
+    places: &[Place],
+) -> Result<(), Unavailable>
     ensures works { S.works working_set.old working_set.new }
     ensures left { Trusted S.Units working_set.old working_set.new (OnOk result (S.edits working_set.old ≡ [] → Sound (S.entry working_set.old) →
         S.world working_set.new ≡ settled (S.entry working_set.old) (lapsed_at (S.entry working_set.old) places.now))) }

@@ -108,14 +108,17 @@ impl fmt::Display for Invariant {
             Invariant::InstancesOfNewUnit =>
                 "sched_book::new_book: a new workunit has at most 100 instances",
             Invariant::InstancesOnWorkingSet =>
-                "call_sheet::Instances::put: a workunit has at most 100 instances",
-            Invariant::AppOfUnit => "call_sheet::ask_unit_state: the application of a workunit exists",
-            Invariant::ReplacedHost => "call_sheet::put_host: the host exists",
+                "call_working_set::Instances::put: a workunit has at most 100 instances",
+            Invariant::AppOfUnit =>
+                "call_working_set::ask_unit_state: the application of a workunit exists",
+            Invariant::ReplacedHost => "call_working_set::put_host: the host exists",
             Invariant::HostBeforeEdits =>
-                "call_sheet::add_host: a new host comes before other edits",
-            Invariant::ReadBeforePut => "call_sheet::put_on_unit_state: the workunit was read",
-            Invariant::ReadBeforeClass => "call_sheet::class_on_unit_state: the workunit was read",
-            Invariant::NumberOfHost => "call_sheet::put_row: a new host gets the next number",
+                "call_working_set::add_host: a new host comes before other edits",
+            Invariant::ReadBeforePut =>
+                "call_working_set::put_on_unit_state: the workunit was read",
+            Invariant::ReadBeforeClass =>
+                "call_working_set::class_on_unit_state: the workunit was read",
+            Invariant::NumberOfHost => "call_working_set::put_row: a new host gets the next number",
             Invariant::StopsOfChoice =>
                 "job_choice::offer_all: a choice stops once for each application at most",
             Invariant::Growth =>

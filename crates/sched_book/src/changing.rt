@@ -6,10 +6,10 @@ ghost use Rattle.sched_book.specs.Imports.{with_rows};
 ghost use Rattle.sched_book.specs.Classes.{with_class};
 ghost use Rattle.sched_book.specs.Reports.{modify_nth};
 
+use crate::by_place::copy_of;
 use crate::delta::{Delta, Edit, changed_book, classed_book, new_books};
 use crate::desk::Unavailable;
 use crate::instance::{Instance, Place, UnitBook};
-use crate::by_place::copy_of;
 use crate::rows::Rows;
 use crate::world::World;
 use std::alloc::Global;

@@ -8,6 +8,7 @@ ghost use Rattle.sched_book.specs.declared.instance.UnitBook.{UnitBook};
 ghost use Rattle.sched_book.specs.Delta.{with_instance};
 ghost use Rattle.sched_book.specs.Classes.{with_class};
 
+use crate::by_place::copy_of;
 use crate::cause::{Cause, Invariant};
 use crate::changing::put;
 use crate::desk::Unavailable;
@@ -15,7 +16,6 @@ use crate::instance::{Instance, Place, UnitBook};
 use crate::limits::{
     MOST_ACCOUNTS, MOST_APPS, MOST_HOSTS, MOST_INSTANCES, MOST_VERSIONS, MOST_WORKUNITS,
 };
-use crate::by_place::copy_of;
 use crate::rows::{HostRow, Rows, Workunit};
 use crate::world::World;
 use std::alloc::Global;

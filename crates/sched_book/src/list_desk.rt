@@ -6,16 +6,16 @@ ghost use Rattle.sched_book.specs.Places.{unit_named, known_host, held_by, sent_
 ghost use Rattle.sched_book.specs.Desk.{counts, agreement_at, unit_status};
 ghost use Rattle.sched_book.specs.Step.{empty_world};
 
+use crate::by_place::{
+    account_place, app_place, copy_at, copy_instance, copy_nth, find_version, host_place, nth,
+    unit_place,
+};
 use crate::cause::{Cause, Invariant};
 use crate::changing::changed;
 use crate::count::{agreement_by, book_status};
 use crate::delta::{Delta, is_bounded};
 use crate::desk::{Counts, Desk, Placed, Taker, Unavailable, Units};
 use crate::instance::{Instance, Place, Status};
-use crate::by_place::{
-    account_place, app_place, copy_at, copy_instance, copy_nth, find_version, host_place, nth,
-    unit_place,
-};
 use crate::moment::Moment;
 use crate::offers::offer_all;
 use crate::rows::{Account, Agreement, App, HostRow, Version, Workunit};

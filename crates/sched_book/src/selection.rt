@@ -9,9 +9,9 @@ ghost use Rattle.sched_book.specs.Places.{is_of_user, book_verdict, places_in, p
 ghost use Rattle.sched_book.specs.Selections.{includes, credit_of};
 ghost use Rattle.sched_book.specs.declared.instance.UnitBook.{UnitBook};
 
+use crate::by_place::nth;
 use crate::count::{agreement_by, canonical, is_valid, verdict_by};
 use crate::instance::{Instance, Place, UnitBook};
-use crate::by_place::nth;
 use crate::moment::Moment;
 use crate::rows::{App, HostRow};
 use crate::world::World;

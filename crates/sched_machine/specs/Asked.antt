@@ -4,7 +4,7 @@ use Rattle.sched_book.specs.Places.{passes, is_held_by}
 use Rattle.sched_book.specs.declared.instance.Place.{Place}
 use Rattle.sched_book.specs.declared.world.World.{World}
 use Rattle.lost_jobs.specs.declared.fates.Fate.{Fate}
-use Rattle.call_sheet.specs.UnitState.{UnitState}
+use Rattle.call_working_set.specs.UnitState.{UnitState}
 
 -- the host holds the instance at a place
 abbrev pub holds : World → ℕ → Place → Bool

@@ -14,8 +14,8 @@ use Rattle.sched_book.specs.declared.rows.HostRow.{HostRow}
 use Rattle.sched_book.specs.declared.rows.Version.{Version}
 use Rattle.sched_book.specs.declared.world.World.{World}
 use Rattle.job_choice.specs.declared.granted.Granted.{Granted}
-use Rattle.call_sheet.specs.WorkingSets.{instance_now}
-use Rattle.call_sheet.specs.UnitState.{UnitState}
+use Rattle.call_working_set.specs.WorkingSets.{instance_now}
+use Rattle.call_working_set.specs.UnitState.{UnitState}
 use Rattle.quorum_credit.specs.Limited.{FitWithin}
 use Rattle.quorum_credit.specs.Settling.{AreUnitsInLimits}
 use Rattle.sched_machine.specs.declared.jobs.Sending.{Sending}

@@ -8,7 +8,7 @@ ghost use Rattle.sched_machine.specs.Calling.{IsAdmitted, IsEntered, LacksRoom};
 ghost use Rattle.sched_machine.specs.declared.step_error.StepError.TheVariants as error;
 
 use crate::step_error::StepError;
-use call_sheet::Draft;
+use call_working_set::Draft;
 use rpc_records::Request;
 use sched_book::{Caller, Cause, HostRow, Invariant, Unavailable};
 use std::alloc::Global;

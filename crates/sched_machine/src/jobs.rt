@@ -10,10 +10,10 @@ ghost use Rattle.sched_book.specs.Trusted.{Trusted};
 ghost use Rattle.sched_book.specs.declared.instance.Instance.{Instance};
 ghost use Rattle.job_choice.specs.Chosen.{places_of};
 ghost use Rattle.job_choice.specs.declared.granted.Granted.{Granted};
-ghost use Rattle.call_sheet.specs.WorkingSets.{instance_now};
+ghost use Rattle.call_working_set.specs.WorkingSets.{instance_now};
 ghost use Rattle.sched_machine.specs.Granting.{is_again, job_on, AreRunBy};
 
-use call_sheet::{Draft, UnitState};
+use call_working_set::{Draft, UnitState};
 use job_choice::{Granted, seconds_at};
 use lost_jobs::version_on;
 use rpc_records::Job;

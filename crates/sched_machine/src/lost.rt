@@ -9,7 +9,7 @@ ghost use Rattle.sched_machine.specs.Asked.{resent_places};
 ghost use Rattle.sched_machine.specs.Calling.{IsCalling};
 
 use crate::caller::Calling;
-use call_sheet::Draft;
+use call_working_set::Draft;
 use lost_jobs::{Fate, fates_on, lost_on, put_fates};
 use rpc_records::Request;
 use sched_book::{Moment, Place, Unavailable};

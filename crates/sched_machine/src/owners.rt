@@ -7,7 +7,7 @@ ghost use Rattle.sched_book.specs.Trusted.{Trusted};
 ghost use Rattle.job_choice.specs.Chosen.{places_of};
 ghost use Rattle.sched_machine.specs.Granting.{given_on, with_classes, CanTake, FitWithHost};
 
-use call_sheet::{Draft, UnitState};
+use call_working_set::{Draft, UnitState};
 use job_choice::Granted;
 use sched_book::{Cause, Instance, Invariant, Moment, Owner, Place, Unavailable, copy_of};
 use std::alloc::Global;

@@ -16,7 +16,7 @@ ghost use Rattle.sched_machine.specs.declared.step_error.StepError.TheVariants a
 use crate::caller::{Calling, enter};
 use crate::settlement::{SettledCall, settle_call};
 use crate::step_error::StepError;
-use call_sheet::{Draft, UnitState};
+use call_working_set::{Draft, UnitState};
 use job_choice::seconds_at;
 use lost_jobs::aborts_on;
 use quorum_credit::Score;

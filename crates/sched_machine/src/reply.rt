@@ -11,7 +11,7 @@ use crate::jobs::{add_granted, resent_jobs};
 use crate::owners::give;
 use crate::preparing::Ready;
 use crate::totals::{host_total, user_total};
-use call_sheet::Draft;
+use call_working_set::Draft;
 use job_choice::Granted;
 use rpc_records::{EndWord, Job, Reply, Request};
 use sched_book::{Caller, Moment, Unavailable};
@@ -68,7 +68,12 @@ pub(crate) fn conclude<S: Draft>(
     let settled = &ready.settled;
     give(alloc, working_set, call.number, now, jobs)?;
     let host_credit = host_total(working_set, call.number, settled.scores.as_slice())?;
-    let user_credit = user_total(alloc, working_set, call.caller.account, settled.scores.as_slice())?;
+    let user_credit = user_total(
+        alloc,
+        working_set,
+        call.caller.account,
+        settled.scores.as_slice(),
+    )?;
     let user_name = user_name(alloc, working_set, call.caller, request)?;
     let mut results = resent_jobs(alloc, working_set, &call.host, settled.resent.as_slice())?;
     add_granted(alloc, working_set, &call.host, jobs, &mut results)?;

@@ -8,7 +8,7 @@ ghost use Rattle.sched_machine.specs.Prepared.{IsSettledCall};
 
 use crate::caller::Calling;
 use crate::lost::lose;
-use call_sheet::Draft;
+use call_working_set::Draft;
 use quorum_credit::{Score, record_on, settle_read};
 use rpc_records::Request;
 use sched_book::{Moment, Place, Unavailable};

@@ -6,7 +6,7 @@ ghost use Rattle.sched_book.specs.Trusted.{Trusted};
 ghost use Rattle.quorum_credit.specs.Scores.{credits_in};
 ghost use Rattle.sched_machine.specs.Totals.{belongs, user_credits_in};
 
-use call_sheet::Draft;
+use call_working_set::Draft;
 use quorum_credit::Score;
 use sched_book::{Cause, Invariant, Unavailable};
 use std::alloc::Global;

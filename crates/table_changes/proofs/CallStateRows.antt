@@ -16,9 +16,9 @@ use Rattle.sched_book.specs.declared.rows.App.{App}
 use Rattle.sched_book.specs.declared.rows.ClassRule.{ClassRule}
 use Rattle.sched_book.specs.declared.rows.HostRow.{HostRow}
 use Rattle.sched_book.specs.declared.world.World.{World}
-use Rattle.call_sheet.specs.UnitState.{UnitState}
-use Rattle.call_sheet.specs.declared.call_state.CallState.{CallState}
-use Rattle.call_sheet.specs.WorkingSets.{book_before, book_now, IsUnitStateOf, IsUnitStateAt, IsHostAt, IsCallStateOf, AreAllOf, is_among}
+use Rattle.call_working_set.specs.UnitState.{UnitState}
+use Rattle.call_working_set.specs.declared.call_state.CallState.{CallState}
+use Rattle.call_working_set.specs.WorkingSets.{book_before, book_now, IsUnitStateOf, IsUnitStateAt, IsHostAt, IsCallStateOf, AreAllOf, is_among}
 use Rattle.table_meaning.specs.Worlds.{unit_row, mark_row, host_row, instance_row, app_place}
 use Rattle.table_meaning.specs.declared.rows.StoredRow.{StoredRow}
 use Rattle.table_meaning.specs.declared.rows.StoredRow.TheVariants as stored

@@ -7,8 +7,8 @@ use Rattle.std.proofs.lemmas.List.Sums.{sum_by-cons}
 use Rattle.std.proofs.lemmas.Option.{slice_get_past}
 use Rattle.sched_book.specs.Places.{nth}
 use Rattle.sched_book.proofs.PlacesOf.{nth-suc}
-use Rattle.call_sheet.specs.WorkingSets.{AreRising, is_among}
-use Rattle.call_sheet.proofs.Sums.{sum_from, sum_listed, from_zero, differ}
+use Rattle.call_working_set.specs.WorkingSets.{AreRising, is_among}
+use Rattle.call_working_set.proofs.Sums.{sum_from, sum_listed, from_zero, differ}
 
 -- what `f` gives at a place of a list
 abbrev pub at_place : {X : Type 0} → (X → ℕ) → List X → ℕ → ℕ

@@ -10,7 +10,7 @@ use Rattle.table_worlds.specs.declared.keys.WorldKey.{WorldKey}
 use Rattle.table_worlds.specs.declared.keys.WorldKey.TheVariants.{Account, Unit as UnitKey, Mark, Host, Instance}
 use Rattle.table_changes.specs.Added.{is_unit_among, is_mark_among, is_host_among, is_instance_among}
 use Rattle.table_changes.proofs.Adding.{IsSettled}
-use Rattle.call_sheet.specs.WorkingSets.{is_among}
+use Rattle.call_working_set.specs.WorkingSets.{is_among}
 
 -- the numbers so far, with one more
 more_among : (ns : List ℕ) (i n id : ℕ) → i < length ns → get_or ns i 0 ≡ n → is_among (take (i + 1) ns) id ≡ true → (id ≡ n) ⊎ (is_among (take i ns) id ≡ true)

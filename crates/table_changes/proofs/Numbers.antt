@@ -10,8 +10,8 @@ use Rattle.std.specs.BTreeSet.{BTreeSet, contains}
 use Rattle.std.specs.List.{list_any}
 use Rattle.std.specs.Map.{lookup, keys_of}
 use Rattle.std.specs.Ordering.{nat_cmp, is_eq}
-use Rattle.call_sheet.proofs.UnitStates.{same}
-use Rattle.call_sheet.specs.WorkingSets.{is_among}
+use Rattle.call_working_set.proofs.UnitStates.{same}
+use Rattle.call_working_set.specs.WorkingSets.{is_among}
 
 -- an entry is found exactly at the keys
 among_keys : {X : Type 0} (n : ℕ) (es : List (ℕ × X)) → is_some (lookup (is_at (nat_cmp n)) es) ≡ is_among (keys_of es) n

@@ -3,8 +3,8 @@ use Rattle.std.proofs.Common.{◌≡◌, List, Result, Ok, Err, IfOk, OnOk, subs
 use Rattle.sched_book.specs.Delta.{edited}
 use Rattle.sched_book.specs.declared.delta.Edit.{Edit}
 use Rattle.sched_book.specs.declared.world.World.{World}
-use Rattle.call_sheet.specs.declared.call_state.CallState.{CallState}
-use Rattle.call_sheet.specs.WorkingSets.{IsCallStateOf}
+use Rattle.call_working_set.specs.declared.call_state.CallState.{CallState}
+use Rattle.call_working_set.specs.WorkingSets.{IsCallStateOf}
 use Rattle.table_meaning.specs.declared.rows.StoredRow.{StoredRow}
 use Rattle.table_worlds.specs.Changes.{AreChanges}
 

@@ -7,7 +7,7 @@ use Rattle.table_meaning.specs.Rows.{row_key_of, same_row_key}
 use Rattle.table_worlds.specs.declared.keys.WorldKey.{WorldKey}
 use Rattle.table_worlds.specs.declared.keys.WorldKey.TheVariants.{Account, App, Version, Class, Unit, Mark, Host, Instance}
 use Rattle.table_worlds.specs.Keys.{row_key, row_in}
-use Rattle.call_sheet.specs.WorkingSets.{is_among}
+use Rattle.call_working_set.specs.WorkingSets.{is_among}
 
 -- the key is that of one of these workunits
 abbrev pub is_unit_among : List ℕ → WorldKey → Bool

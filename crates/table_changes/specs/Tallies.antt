@@ -6,8 +6,8 @@ use Rattle.sched_book.specs.Count.{verdict, is_valid}
 use Rattle.sched_book.specs.Places.{is_owned_by, is_held_by, held_by, host_credit}
 use Rattle.sched_book.specs.declared.instance.UnitBook.{UnitBook}
 use Rattle.sched_book.specs.declared.world.World.{World}
-use Rattle.call_sheet.specs.UnitState.{UnitState}
-use Rattle.call_sheet.specs.WorkingSets.{book_before, book_now}
+use Rattle.call_working_set.specs.UnitState.{UnitState}
+use Rattle.call_working_set.specs.WorkingSets.{book_before, book_now}
 use Rattle.table_worlds.specs.declared.totals.Total.{Total}
 use Rattle.table_changes.specs.declared.tallies.Tallies.{Tallies}
 

@@ -2,8 +2,8 @@
 use Rattle.std.specs.Prelude.{◌≡◌, ℕ, false, List, None}
 use Rattle.std.specs.BTreeMap.{get}
 use Rattle.std.specs.Ordering.{nat_cmp}
-use Rattle.call_sheet.specs.WorkingSets.{AreAllOf, is_among}
-use Rattle.call_sheet.specs.declared.call_state.CallState.{CallState}
+use Rattle.call_working_set.specs.WorkingSets.{AreAllOf, is_among}
+use Rattle.call_working_set.specs.declared.call_state.CallState.{CallState}
 use Rattle.table_changes.specs.Tallies.{AreTallies}
 use Rattle.table_changes.specs.declared.tallies.Tallies.{Tallies}
 use Rattle.table_changes.specs.declared.touched.Touched.{Touched}

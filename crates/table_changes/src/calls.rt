@@ -4,7 +4,7 @@ ghost use Rattle.std.specs.Prelude.{◌≡◌, ◌++◌, [], IfOk, OnOk};
 ghost use Rattle.std.specs.List.{list_all};
 ghost use Rattle.sched_book.specs.Delta.{edited};
 ghost use Rattle.sched_book.specs.Trusted.{Trusted};
-ghost use Rattle.call_sheet.specs.WorkingSets.{IsCallStateOf};
+ghost use Rattle.call_working_set.specs.WorkingSets.{IsCallStateOf};
 ghost use Rattle.table_worlds.specs.Changes.{AreChanges};
 ghost use Rattle.table_worlds.specs.Readable.{IsReadable, are_words, gives_words};
 ghost use Rattle.table_changes.specs.Touching.{AreTouched};
@@ -15,7 +15,7 @@ use crate::instances::push_instances;
 use crate::marks::push_marks;
 use crate::touched::{Touched, touched_by};
 use crate::units::push_units;
-use call_sheet::{CallState, WorkingSet, put_all};
+use call_working_set::{CallState, WorkingSet, put_all};
 use sched_book::{Cause, Desk, Edit, Edits, Invariant, Unavailable};
 use std::alloc::Global;
 use table_meaning::rows::RowChange;
@@ -74,7 +74,11 @@ fn put_onto<D: Desk>(
 }
 
 /// The state of a call that started from the desk's world and makes these edits. Each of its workunits is decided.
-fn call_state_of<D: Desk>(alloc: Global, desk: &mut D, edits: &Edits) -> Result<CallState, Unavailable>
+fn call_state_of<D: Desk>(
+    alloc: Global,
+    desk: &mut D,
+    edits: &Edits,
+) -> Result<CallState, Unavailable>
     ensures reads { D.reads desk.old desk.new }
     ensures call_state { Trusted D.Units desk.old desk.new (IfOk result (IsCallStateOf (D.world desk.old))) }
     ensures edits { IfOk result (λ call_state. call_state.edits ≡ edits.now) }

@@ -5,7 +5,7 @@ ghost use Rattle.sched_book.specs.Delta.{edited};
 ghost use Rattle.sched_book.specs.Places.{host_at};
 ghost use Rattle.sched_book.specs.Trusted.{Trusted};
 ghost use Rattle.sched_book.specs.declared.world.World.{World};
-ghost use Rattle.call_sheet.specs.WorkingSets.{IsCallStateOf};
+ghost use Rattle.call_working_set.specs.WorkingSets.{IsCallStateOf};
 ghost use Rattle.table_meaning.specs.Worlds.{host_row as specified_row};
 ghost use Rattle.table_meaning.specs.declared.rows.StoredRow.TheVariants as stored;
 ghost use Rattle.table_worlds.specs.Changes.{IsChange};
@@ -18,7 +18,7 @@ ghost use Rattle.table_changes.specs.Touching.{AreTouched};
 
 use crate::tallies::tally;
 use crate::touched::Touched;
-use call_sheet::CallState;
+use call_working_set::CallState;
 use sched_book::{Cause, Desk, HostRow, Invariant, Unavailable, copy_of};
 use std::alloc::Global;
 use table_meaning::rows::{RowChange, StoredRow};

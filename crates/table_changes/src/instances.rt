@@ -5,14 +5,14 @@ ghost use Rattle.std.specs.Option.{option_copied};
 ghost use Rattle.sched_book.specs.Count as spec;
 ghost use Rattle.sched_book.specs.Delta.{edited};
 ghost use Rattle.sched_book.specs.declared.world.World.{World};
-ghost use Rattle.call_sheet.specs.WorkingSets.{IsUnitStateOf, IsUnitStateAt, IsCallStateOf};
+ghost use Rattle.call_working_set.specs.WorkingSets.{IsUnitStateOf, IsUnitStateAt, IsCallStateOf};
 ghost use Rattle.table_worlds.specs.Changes.{IsChange};
 ghost use Rattle.table_worlds.specs.Keys.{row_in};
 ghost use Rattle.table_worlds.specs.declared.keys.WorldKey.TheVariants as key;
 ghost use Rattle.table_changes.specs.Added.{is_instance_among, AreAdded};
 
 use crate::units::present_status;
-use call_sheet::{UnitState, CallState};
+use call_working_set::{CallState, UnitState};
 use sched_book::{Cause, Invariant, Place, Status, Unavailable};
 use table_meaning::rows::{RowChange, StoredRow};
 use table_worlds::instance_row;

@@ -4,13 +4,13 @@ ghost use Rattle.std.specs.Prelude.{◌≡◌, IsTrue, IfOk, OnOk};
 ghost use Rattle.std.specs.Option.{option_copied};
 ghost use Rattle.sched_book.specs.Delta.{edited};
 ghost use Rattle.sched_book.specs.declared.world.World.{World};
-ghost use Rattle.call_sheet.specs.WorkingSets.{IsUnitStateAt, IsCallStateOf};
+ghost use Rattle.call_working_set.specs.WorkingSets.{IsUnitStateAt, IsCallStateOf};
 ghost use Rattle.table_worlds.specs.Changes.{IsChange};
 ghost use Rattle.table_worlds.specs.Keys.{row_in};
 ghost use Rattle.table_worlds.specs.declared.keys.WorldKey.TheVariants as key;
 ghost use Rattle.table_changes.specs.Added.{is_mark_among, AreAdded};
 
-use call_sheet::{UnitState, CallState};
+use call_working_set::{CallState, UnitState};
 use sched_book::{ClassRule, Unavailable};
 use table_meaning::rows::{RowChange, StoredRow};
 use table_worlds::mark_row;

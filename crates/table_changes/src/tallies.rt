@@ -5,11 +5,11 @@ ghost use Rattle.std.specs.BTreeMap.{get};
 ghost use Rattle.std.specs.Option.{option_copied};
 ghost use Rattle.std.specs.Ordering.{nat_cmp};
 ghost use Rattle.sched_book.specs.Count.{verdict_by, is_valid};
-ghost use Rattle.call_sheet.specs.WorkingSets.{book_before, book_now};
+ghost use Rattle.call_working_set.specs.WorkingSets.{book_before, book_now};
 ghost use Rattle.table_worlds.specs.Totals.{more, with_instance, with_instances};
 ghost use Rattle.table_changes.specs.Tallies.{tally, held_on, credit_on, AreTallies};
 
-use call_sheet::{UnitState, CallState};
+use call_working_set::{CallState, UnitState};
 use sched_book::count::{is_valid, verdict_by};
 use sched_book::{Agreement, Instance, Unavailable, Workunit};
 use std::alloc::Global;
@@ -88,7 +88,10 @@ fn count_instances(
 }
 
 /// Counts the workunit of a unit state, as it was before the call and as it is now.
-fn count_unit_state(tallies: &mut Tallies, unit_state: Option<&UnitState>) -> Result<(), Unavailable>
+fn count_unit_state(
+    tallies: &mut Tallies,
+    unit_state: Option<&UnitState>,
+) -> Result<(), Unavailable>
     ensures before { OnOk result ((host : ℕ) → tally tallies.new.before host
         ≡ more (tally tallies.old.before host) (held_on book_before host (option_copied unit_state.entry)) (credit_on book_before host (option_copied unit_state.entry))) }
     ensures present { OnOk result ((host : ℕ) → tally tallies.new.present host
@@ -115,7 +118,11 @@ fn count_unit_state(tallies: &mut Tallies, unit_state: Option<&UnitState>) -> Re
 }
 
 /// What each host has from the workunits at these places of the call state.
-pub(crate) fn tallies_of(alloc: Global, call_state: &CallState, units: &[u32]) -> Result<Tallies, Unavailable>
+pub(crate) fn tallies_of(
+    alloc: Global,
+    call_state: &CallState,
+    units: &[u32],
+) -> Result<Tallies, Unavailable>
     ensures { IfOk result (AreTallies (get nat_cmp call_state.now.unit_states) units.now) }
 {
     let mut tallies = Tallies {

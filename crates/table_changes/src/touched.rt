@@ -4,11 +4,11 @@ ghost use Rattle.std.specs.Prelude.{◌≡◌, ◌||◌, ℕ, false, None, is_so
 ghost use Rattle.std.specs.BTreeMap.{get};
 ghost use Rattle.std.specs.BTreeSet.{contains};
 ghost use Rattle.std.specs.Ordering.{nat_cmp};
-ghost use Rattle.call_sheet.specs.WorkingSets.{is_among};
+ghost use Rattle.call_working_set.specs.WorkingSets.{is_among};
 ghost use Rattle.table_changes.specs.Touching.{AreTouched, HaveAll};
 
 use crate::tallies::{Tallies, tallies_of};
-use call_sheet::CallState;
+use call_working_set::CallState;
 use sched_book::Unavailable;
 use std::alloc::Global;
 use std::collections::{BTreeMap, BTreeSet};

@@ -6,14 +6,14 @@ ghost use Rattle.sched_book.specs.Count as spec;
 ghost use Rattle.sched_book.specs.Delta.{edited};
 ghost use Rattle.sched_book.specs.Trusted.{Trusted};
 ghost use Rattle.sched_book.specs.declared.world.World.{World};
-ghost use Rattle.call_sheet.specs.WorkingSets.{IsUnitStateAt, IsCallStateOf};
+ghost use Rattle.call_working_set.specs.WorkingSets.{IsUnitStateAt, IsCallStateOf};
 ghost use Rattle.table_worlds.specs.Changes.{IsChange};
 ghost use Rattle.table_worlds.specs.Keys.{row_in};
 ghost use Rattle.table_worlds.specs.declared.keys.WorldKey.TheVariants as key;
 ghost use Rattle.table_changes.specs.Added.{is_unit_among, AreAdded};
 
 use crate::applications::known_app;
-use call_sheet::{UnitState, CallState};
+use call_working_set::{CallState, UnitState};
 use sched_book::{Desk, Status, Unavailable};
 use std::alloc::Global;
 use table_meaning::rows::{RowChange, StoredRow};

@@ -10,11 +10,11 @@ mod columns;
 mod hosts;
 mod lengths;
 mod offers;
-mod window;
 mod places;
 mod skip;
 mod sorted;
 mod users;
+mod window;
 mod workunits;
 
 pub use accounts::{account_by_key, host_by_key};
@@ -23,9 +23,9 @@ pub use columns::{credit_of_none_given, credit_of_user, held_of_none_given, stat
 pub use hosts::{CountedHost, counted_host};
 pub use lengths::counts;
 pub use offers::{KnownUnits, unsent_from};
-pub use window::QueueWindow;
 pub use places::{due_before, held_by, owned_by, sent_on_day};
 pub use skip::Skip;
 pub use sorted::{insert_place, remove_place};
 pub use users::units_of_user;
+pub use window::QueueWindow;
 pub use workunits::{instance_at, instances_at, unit_at, unit_by_name};

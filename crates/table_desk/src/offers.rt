@@ -12,8 +12,8 @@ ghost use Rattle.sched_book.specs.Offers.{OrSkips};
 ghost use Rattle.table_desk.specs.Pages.{candidate_at, candidates_at, unsent_on, unsent_after};
 ghost use Rattle.table_desk.specs.WaitingWindow.{IsWindowOf};
 
-use crate::window::{QueueWindow, next_page};
 use crate::skip::Skip;
+use crate::window::{QueueWindow, next_page};
 use crate::workunits::unit_at;
 use sched_book::limits::{MOST_INSTANCES, MOST_WORKUNITS};
 use sched_book::{App, Candidate, Cause, Flow, Invariant, Place, Taker, Unavailable, Workunit};
@@ -194,7 +194,16 @@ pub fn unsent_from<S: Alter, K: KnownUnits, T: Taker>(
         }
     }
     let window = QueueWindow::read(alloc, conn, from)?;
-    let offered = offer_on(alloc, conn, apps, known, skip, &window, window.places(), taker);
+    let offered = offer_on(
+        alloc,
+        conn,
+        apps,
+        known,
+        skip,
+        &window,
+        window.places(),
+        taker,
+    );
     *read = Some(window);
     offered
 }

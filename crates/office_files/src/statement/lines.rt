@@ -72,7 +72,11 @@ fn line_of<D: Desk>(
 }
 
 /// The line of the instance at this place, if there is one.
-fn line_at<D: Desk>(alloc: Global, desk: &mut D, place: Place) -> Result<Option<StatementLine>, Unavailable>
+fn line_at<D: Desk>(
+    alloc: Global,
+    desk: &mut D,
+    place: Place,
+) -> Result<Option<StatementLine>, Unavailable>
     ensures reads { D.reads desk.old desk.new }
     ensures answer { Trusted D.Units desk.old desk.new (
         IfOk result (λ line. line ≡ spec.line_at (D.world desk.old) place)) }

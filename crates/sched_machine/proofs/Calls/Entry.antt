@@ -19,7 +19,7 @@ use Rattle.sched_book.proofs.PlacesOf.{nth-modify_nth}
 use Rattle.quorum_credit.specs.Tallies.{number_got}
 use Rattle.sched_book.proofs.ByPlace.{same_by_place, all_nth}
 use Rattle.quorum_credit.proofs.Numbered.{number_within}
-use Rattle.call_sheet.proofs.SetRows.{nth-set_nth}
+use Rattle.call_working_set.proofs.SetRows.{nth-set_nth}
 use Rattle.sched_machine.specs.Calling.{IsAdmitted, IsCalling, IsEntered}
 use Rattle.sched_machine.specs.declared.caller.Calling.{Calling}
 use Rattle.sched_machine.proofs.Rows.Entry.{entry_is_sound}

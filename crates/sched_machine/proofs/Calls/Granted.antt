@@ -13,8 +13,8 @@ use Rattle.sched_book.specs.declared.instance.Instance.{Instance}
 use Rattle.sched_book.specs.declared.instance.Place.{Place}
 use Rattle.sched_book.specs.declared.instance.UnitBook.{UnitBook}
 use Rattle.sched_book.specs.declared.world.World.{World}
-use Rattle.call_sheet.specs.WorkingSets.{IsReadAt, book_before, book_now}
-use Rattle.call_sheet.specs.UnitState.{UnitState}
+use Rattle.call_working_set.specs.WorkingSets.{IsReadAt, book_before, book_now}
+use Rattle.call_working_set.specs.UnitState.{UnitState}
 use Rattle.quorum_credit.specs.Limited.{IsLimited}
 use Rattle.quorum_credit.specs.Settling.{AreUnitsInLimits}
 use Rattle.quorum_credit.proofs.FitReports.{done_fits, fit_more}

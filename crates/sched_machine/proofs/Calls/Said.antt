@@ -13,8 +13,8 @@ use Rattle.sched_book.specs.declared.rows.HostRow.{HostRow}
 use Rattle.sched_book.specs.declared.rows.Version.{Version}
 use Rattle.sched_book.specs.declared.rows.Workunit.{Workunit}
 use Rattle.sched_book.specs.declared.world.World.{World}
-use Rattle.call_sheet.specs.WorkingSets.{IsUnitStateAt}
-use Rattle.call_sheet.specs.UnitState.{UnitState}
+use Rattle.call_working_set.specs.WorkingSets.{IsUnitStateAt}
+use Rattle.call_working_set.specs.UnitState.{UnitState}
 use Rattle.lost_jobs.proofs.Standing.{name_none, name_some}
 use Rattle.sched_machine.proofs.OptionParts.{mapped_by}
 

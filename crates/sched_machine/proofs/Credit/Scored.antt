@@ -54,7 +54,7 @@ use Rattle.sched_machine.proofs.Rows.Entry.{AccountsStay}
 use Rattle.sched_machine.proofs.Rows.Listed.{count_changed, sum_changed_at}
 use Rattle.sched_machine.proofs.Moves.Moves.{eligible_is_free}
 use Rattle.sched_machine.proofs.Moves.Sound.{settled_sound}
-use Rattle.call_sheet.proofs.Sums.{sum_from, sum_listed}
+use Rattle.call_working_set.proofs.Sums.{sum_from, sum_listed}
 
 -- a verdict on a valid result
 valid_verdict : (o : Option Verdict) → is_valid o ≡ true → o ≡ Some Valid

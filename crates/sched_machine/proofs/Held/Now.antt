@@ -6,8 +6,8 @@ use Rattle.sched_book.specs.Places.{is_held_by, held_by}
 use Rattle.sched_book.specs.declared.instance.Place.{Place}
 use Rattle.sched_book.specs.declared.instance.UnitBook.{UnitBook}
 use Rattle.sched_book.specs.declared.world.World.{World}
-use Rattle.call_sheet.specs.WorkingSets.{IsUnitStateAt}
-use Rattle.call_sheet.specs.UnitState.{UnitState}
+use Rattle.call_working_set.specs.WorkingSets.{IsUnitStateAt}
+use Rattle.call_working_set.specs.UnitState.{UnitState}
 use Rattle.lost_jobs.specs.Holding.{HoldsNoMore}
 use Rattle.lost_jobs.proofs.Holding as holding
 use Rattle.sched_machine.specs.Asked.{holds, still_holds}

@@ -4,7 +4,7 @@ use Rattle.sched_book.specs.Delta.{edited}
 use Rattle.sched_book.specs.Places.{held_by}
 use Rattle.sched_book.specs.declared.delta.Edit.{Edit}
 use Rattle.sched_book.specs.declared.world.World.{World}
-use Rattle.call_sheet.specs.WorkingSets.{IsCallStateOf}
+use Rattle.call_working_set.specs.WorkingSets.{IsCallStateOf}
 use Rattle.lost_jobs.proofs.Requested.{lost_of_both, lost_by_request}
 use Rattle.lost_jobs.proofs.outer_calls.lost.Goals as goal
 

@@ -1,6 +1,6 @@
 use Rattle.std.proofs.Common.{◌≡◌, sym, ap, subst, ◌∙◌, rules}
 use Rattle.sched_book.specs.Delta.{EditsFit}
-use Rattle.call_sheet.specs.declared.call_state.CallState.{CallState}
+use Rattle.call_working_set.specs.declared.call_state.CallState.{CallState}
 use Rattle.quorum_credit.proofs.FitReports.{call_state_fits}
 use Rattle.quorum_credit.proofs.outer_calls.take_reports.Goals as goal
 

@@ -4,8 +4,8 @@ use Rattle.sched_book.specs.Sound.{Sound}
 use Rattle.sched_book.specs.Step.{RpcStep}
 use Rattle.sched_book.specs.declared.settings.Settings.{Settings}
 use Rattle.sched_book.specs.declared.world.World.{World}
-use Rattle.call_sheet.specs.WorkingSets.{IsCallStateOf}
-use Rattle.call_sheet.specs.declared.call_state.CallState.{CallState}
+use Rattle.call_working_set.specs.WorkingSets.{IsCallStateOf}
+use Rattle.call_working_set.specs.declared.call_state.CallState.{CallState}
 use Rattle.sched_machine.specs.Calling.{IsAdmitted}
 use Rattle.sched_machine.specs.Prepared.{IsReady}
 use Rattle.sched_machine.specs.Replying.{IsGranted}

@@ -3,8 +3,8 @@ use Rattle.sched_book.specs.Delta.{edited}
 use Rattle.sched_book.specs.Step.{IsCaller, granted}
 use Rattle.sched_book.specs.declared.world.World.{World}
 use Rattle.job_choice.specs.Chosen.{places_of}
-use Rattle.call_sheet.specs.WorkingSets.{IsCallStateOf}
-use Rattle.call_sheet.specs.declared.call_state.CallState.{CallState}
+use Rattle.call_working_set.specs.WorkingSets.{IsCallStateOf}
+use Rattle.call_working_set.specs.declared.call_state.CallState.{CallState}
 use Rattle.sched_machine.specs.Granting.{with_classes, AreRunBy, CanTake, FitWithHost}
 use Rattle.sched_machine.specs.Replying.{AreReplyParts, IsGranted}
 use Rattle.sched_machine.proofs.Calls.Done.{granted_is}

@@ -1,5 +1,5 @@
 use Rattle.std.proofs.Common.{sym, ap, subst, ◌∙◌}
-use Rattle.call_sheet.specs.WorkingSets.{IsCallStateOf}
+use Rattle.call_working_set.specs.WorkingSets.{IsCallStateOf}
 use Rattle.table_changes.proofs.calls.call_state_of.Goals as goal
 
 pub returns-clause-call_state : goal.returns-clause-call_state

@@ -3,7 +3,7 @@ use Rattle.std.proofs.lemmas.Result.{IfOk-weaker}
 use Rattle.sched_book.specs.Delta.{edited}
 use Rattle.sched_book.specs.Places.{host_at}
 use Rattle.sched_book.specs.declared.world.World.{World}
-use Rattle.call_sheet.specs.WorkingSets.{IsCallStateOf}
+use Rattle.call_working_set.specs.WorkingSets.{IsCallStateOf}
 use Rattle.table_changes.proofs.CallStateRows.{host_changed}
 use Rattle.table_changes.proofs.hosts.changed_host.Goals as goal
 

@@ -1,6 +1,6 @@
 use Rattle.std.proofs.Common.{take}
 use Rattle.sched_book.specs.Delta.{edited}
-use Rattle.call_sheet.specs.WorkingSets.{IsCallStateOf}
+use Rattle.call_working_set.specs.WorkingSets.{IsCallStateOf}
 use Rattle.table_changes.specs.Added.{is_host_among, AreAdded}
 use Rattle.table_changes.specs.Touching.{AreTouched}
 use Rattle.table_changes.proofs.hosts.push_hosts.Given as goal

@@ -1,7 +1,7 @@
 use Rattle.std.proofs.Common.{take}
 use Rattle.sched_book.specs.Delta.{edited}
 use Rattle.sched_book.specs.declared.world.World.{World}
-use Rattle.call_sheet.specs.WorkingSets.{IsCallStateOf}
+use Rattle.call_working_set.specs.WorkingSets.{IsCallStateOf}
 use Rattle.table_changes.specs.Added.{is_instance_among, AreAdded}
 use Rattle.table_changes.proofs.instances.push_instances.Given as goal
 

@@ -1,6 +1,6 @@
 use Rattle.std.proofs.Common.{rules, ◌+◌, ◌≤◌, length, [], ◌∷◌, subst}
 use Rattle.std.specs.Option.{option_copied}
-use Rattle.call_sheet.specs.WorkingSets.{IsUnitStateOf, IsUnitStateAt}
+use Rattle.call_working_set.specs.WorkingSets.{IsUnitStateOf, IsUnitStateAt}
 use Rattle.table_worlds.specs.declared.keys.WorldKey.TheVariants.{Instance}
 use Rattle.table_changes.specs.Added.{is_instance_among}
 use Rattle.table_changes.proofs.Adding.{none_added, one_added, added_at}

@@ -1,6 +1,6 @@
 use Rattle.std.proofs.Common.{◌≡◌}
 use Rattle.sched_book.specs.declared.world.World.{World}
-use Rattle.call_sheet.specs.WorkingSets.{IsUnitStateOf}
+use Rattle.call_working_set.specs.WorkingSets.{IsUnitStateOf}
 use Rattle.table_changes.specs.Added.{AreAdded}
 use Rattle.table_changes.proofs.InTurn.{is_instance_below}
 use Rattle.table_changes.proofs.instances.push_instances_of.Given as goal

@@ -1,7 +1,7 @@
 use Rattle.std.proofs.Common.{sym, ap, subst, ◌∙◌}
 use Rattle.std.specs.Option.{option_copied}
 use Rattle.sched_book.specs.declared.rows.Workunit.{Workunit}
-use Rattle.call_sheet.specs.WorkingSets.{IsUnitStateAt}
+use Rattle.call_working_set.specs.WorkingSets.{IsUnitStateAt}
 use Rattle.table_meaning.specs.declared.rows.StoredRow.TheVariants as stored
 use Rattle.table_changes.proofs.CallStateRows.{mark_changed, mark_stays, mark_unread}
 use Rattle.table_changes.proofs.marks.changed_mark.Goals as goal

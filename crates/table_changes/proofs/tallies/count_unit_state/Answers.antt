@@ -1,7 +1,7 @@
 use Rattle.std.proofs.Common.{ap}
 use Rattle.std.specs.Option.{option_copied}
 use Rattle.std.proofs.lemmas.Result.{on_ok_weaker}
-use Rattle.call_sheet.specs.WorkingSets.{book_before, book_now}
+use Rattle.call_working_set.specs.WorkingSets.{book_before, book_now}
 use Rattle.table_changes.specs.Tallies.{tally}
 use Rattle.table_changes.proofs.ReadableCalls.{done_anyhow}
 use Rattle.table_changes.proofs.Totals.{unit_state_counted}

@@ -1,7 +1,7 @@
 use Rattle.std.proofs.Common.{rules, ◌<◌, length, get_or, ap, ◌∙◌}
 use Rattle.std.specs.BTreeMap.{get}
 use Rattle.std.specs.Ordering.{nat_cmp}
-use Rattle.call_sheet.specs.WorkingSets.{book_before, book_now}
+use Rattle.call_working_set.specs.WorkingSets.{book_before, book_now}
 use Rattle.table_worlds.specs.Totals.{more}
 use Rattle.table_changes.specs.Tallies.{tally, held_on, credit_on}
 use Rattle.table_changes.proofs.Totals.{total_next}

@@ -1,6 +1,6 @@
 use Rattle.std.proofs.Common.{rules, ◌≡◌, sym, ap, ◌∙◌}
 use Rattle.table_changes.proofs.Numbers.{none_of_three}
-use Rattle.call_sheet.specs.WorkingSets.{is_among}
+use Rattle.call_working_set.specs.WorkingSets.{is_among}
 use Rattle.table_changes.proofs.touched.hosts_of.Goals as goal
 
 pub returns : goal.returns

@@ -2,7 +2,7 @@ use Rattle.std.proofs.Common.{◌≡◌, ℕ, take}
 use Rattle.std.specs.Prelude.{◌||◌}
 use Rattle.std.specs.BTreeSet.{contains}
 use Rattle.std.specs.Ordering.{nat_cmp}
-use Rattle.call_sheet.specs.WorkingSets.{is_among}
+use Rattle.call_working_set.specs.WorkingSets.{is_among}
 use Rattle.table_changes.proofs.touched.put_numbers.Given as goal
 
 -- the numbers so far are put
