@@ -1,4 +1,4 @@
-"""The URLs of the project, each with what answers it. Werkzeug finds the one that a message asks for."""
+"""The URLs of the project, each with what answers it. Those with a value in them are found by Werkzeug."""
 from collections.abc import Callable, Iterable
 from dataclasses import dataclass
 from typing import Any
@@ -43,6 +43,12 @@ class Routes:
     def __init__(self, path: str, routes: Iterable[Route]) -> None:
         found = list(routes)
         self._path, self._handlers = path, {route.path: route.handler for route in found}
+        self._without_values = {
+            (f"{path}{route.path}", method): route.handler
+            for route in found
+            if "<" not in route.path
+            for method in route.methods
+        }
         rules = [route.rule() for route in found]
         urls = Map(rules, converters={"number": Number}, merge_slashes=False, redirect_defaults=False)
         self._urls = urls.bind("bridge")
@@ -52,9 +58,13 @@ class Routes:
         does not exist. Raises NotFound for a path elsewhere, and MethodNotAllowed.
         """
         path = message.environ.get("SCRIPT_NAME", "") + message.environ.get("PATH_INFO", "")
+        method = message.environ["REQUEST_METHOD"]
+        handler = self._without_values.get((path, method))
+        if handler is not None:
+            return handler, {}
         if not path.startswith(self._path):
             raise NotFound
-        name, method = path.removeprefix(self._path), message.environ["REQUEST_METHOD"]
+        name = path.removeprefix(self._path)
         if name.startswith("/"):  # Werkzeug would leave it out
             return None, {}
         try:
