@@ -49,11 +49,13 @@ OPENED_AS = (
     f"{OPENED} AND last_number = ?6 AND jobs_in_hand = ?7 AND open_call IS NULL "
     "AND scheduler_hostid IS NOT NULL"
 )
+# bsched's number of the host is nearly always the one that is stored, so its indexes are left alone
 ANSWERED = (
-    "UPDATE host SET open_call = NULL, jobs_in_hand = ?, scheduler_hostid = ?, user_name = ?, "
-    "user_credit = ?, host_credit = ?, heard_at = ?, about = coalesce(?, about) "
-    "WHERE authenticator = ? AND host_cpid = ?"
+    "UPDATE host SET open_call = NULL, jobs_in_hand = ?, user_name = ?, user_credit = ?, host_credit = ?, "
+    "heard_at = ?, about = coalesce(?, about) "
+    "WHERE authenticator = ? AND host_cpid = ? AND scheduler_hostid = ?"
 )
+NUMBERED = "UPDATE host SET scheduler_hostid = ? WHERE authenticator = ? AND host_cpid = ?"
 JOB_MEMBERS = [member.name for member in fields(Job)]
 # Open calls of accounts that the bridge does not know. Somebody may have made these accounts up, and each
 # call takes up to 262,144 bytes of the disk until bsched answers.
@@ -313,7 +315,6 @@ class CallNumbers:
         now = int(time.time())
         values = (
             text_of_jobs(jobs_in_hand),
-            reply.hostid,
             reply.user_name,
             reply.user_total_credit,
             reply.host_total_credit,
@@ -321,18 +322,12 @@ class CallNumbers:
             about,
             key.authenticator,
             key.host_cpid,
+            reply.hostid,
         )
         with self.file.transaction(is_synced=False) as connection:
-            try:
-                is_stored = connection.execute(ANSWERED, values).rowcount == 1
-            except sqlite3.IntegrityError:
-                # Another host of the account had the number. If bsched's tables were restored from an older
-                # copy, bsched may give a number a second time.
-                connection.execute(
-                    "UPDATE host SET scheduler_hostid = NULL "
-                    "WHERE authenticator = ? AND scheduler_hostid = ?",
-                    (key.authenticator, reply.hostid),
-                )
+            is_stored = connection.execute(ANSWERED, values).rowcount == 1
+            if not is_stored:
+                store_number(connection, key, reply.hostid)
                 is_stored = connection.execute(ANSWERED, values).rowcount == 1
             if is_stored:  # else the account was deleted just now
                 record_credit(connection, key, reply, state, now)
@@ -363,6 +358,21 @@ class CallNumbers:
                 "UPDATE host SET jobs_in_hand = ? WHERE authenticator = ? AND host_cpid = ?",
                 (text_of_jobs(jobs), key.authenticator, key.host_cpid),
             )
+
+
+def store_number(connection: sqlite3.Connection, key: Key, number: int) -> None:
+    """Stores bsched's number of a host, within a transaction."""
+    values = number, key.authenticator, key.host_cpid
+    try:
+        connection.execute(NUMBERED, values)
+    except sqlite3.IntegrityError:
+        # Another host of the account had the number. If bsched's tables were restored from an older copy,
+        # bsched may give a number a second time.
+        connection.execute(
+            "UPDATE host SET scheduler_hostid = NULL WHERE authenticator = ? AND scheduler_hostid = ?",
+            (key.authenticator, number),
+        )
+        connection.execute(NUMBERED, values)
 
 
 def record_credit(connection: sqlite3.Connection, key: Key, reply: Reply, state: KeyState, now: int) -> None:
