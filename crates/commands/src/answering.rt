@@ -153,10 +153,10 @@ fn answer<S: Store>(
 /// Prints the body of an answer, and says how its order ended.
 fn outcome_of(rt: &HostRuntime, answer: &Answer) -> Result<Ending, Failure> {
     print(rt, answer)?;
-    match answer.status() {
-        200 => Ok(Ending::Done),
-        503 => Err(Failure::Unavailable),
-        _ => Ok(Ending::Refused),
+    match answer {
+        Answer::Unavailable => Err(Failure::Unavailable),
+        Answer::Response(response) if response.status.is_success() => Ok(Ending::Done),
+        Answer::Response(_) => Ok(Ending::Refused),
     }
 }
 

@@ -101,10 +101,10 @@ fn is_of_user<D: Desk>(
     ensures answer { Trusted D.Units desk.old desk.new (
         IfOk result (λ is. is ≡ is_of_user (D.world desk.old).hosts account instance.now)) }
 {
-    let Some(owner) = instance.owner.as_ref() else {
+    let Some(host) = instance.owner_host() else {
         return Ok(false);
     };
-    match desk.host_by_id(alloc, owner.host)? {
+    match desk.host_by_id(alloc, host)? {
         None => Ok(false),
         Some(host) => Ok(host.account == account),
     }

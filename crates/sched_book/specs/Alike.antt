@@ -1,4 +1,4 @@
--- Words. Reports with the same output, of which the first stands for all.
+-- Words. Reports with the same output: the first of them stands for all.
 use Rattle.std.specs.Prelude.{◌≡◌, ℕ, List, find, Option, Some, unwrap_or}
 use Rattle.std.specs.Cmp.Lexicographic.{slice_cmp}
 use Rattle.std.specs.List.{All, Contains}

@@ -2,7 +2,7 @@
 
 ghost use Rattle.std.specs.Prelude.{◌≡◌, Some};
 ghost use Rattle.sched_book.specs.Count.{tells_success, tells_error, is_judged, is_held, is_live, is_open, has_failed};
-ghost use Rattle.sched_book.specs.Places.{is_owned_by, is_held_by, was_sent, is_overdue};
+ghost use Rattle.sched_book.specs.Places.{host_of, is_owned_by, is_held_by, was_sent, is_overdue};
 ghost use Rattle.sched_book.specs.Reports.{awaits_report};
 ghost use Rattle.sched_book.specs.Settle.{fresh};
 
@@ -112,14 +112,18 @@ impl Instance {
         }
     }
 
+    /// The number of the host that it was given to, if it was given to one.
+    pub fn owner_host(&self) -> Option<u32>
+        ensures { result ≡ host_of self.now }
+    {
+        self.owner.as_ref().map(|owner| owner.host)
+    }
+
     /// Whether it was given to the host of this number.
     pub fn is_owned_by(&self, host: u32) -> bool
         ensures { result ≡ is_owned_by host self.now }
     {
-        match &self.owner {
-            None => false,
-            Some(owner) => owner.host == host,
-        }
+        self.owner_host().is_some_and(|owner| owner == host)
     }
 
     /// Whether a host holds it: it was given to a host, and has neither report nor lapse.

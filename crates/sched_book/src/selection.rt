@@ -37,10 +37,10 @@ pub enum Selection {
 fn is_of_user(hosts: &[HostRow], account: u32, instance: &Instance) -> bool
     ensures { result ≡ is_of_user hosts.now account instance.now }
 {
-    let Some(owner) = &instance.owner else {
+    let Some(host) = instance.owner_host() else {
         return false;
     };
-    match nth(hosts, owner.host) {
+    match nth(hosts, host) {
         None => false,
         Some(host) => host.account == account,
     }

@@ -15,6 +15,7 @@ use crate::tables::Tables;
 use sched_book::{Candidate, Flow, Place, Taker, Unavailable, copy_of};
 use sqlite::Alter;
 use table_cache::UnitRead;
+use table_desk::Offering;
 
 /// Of how many offers of one look-up the workunits are remembered, at most.
 const MOST_NOTED: usize = 16;
@@ -86,12 +87,14 @@ impl<S: Alter> Tables<S> {
     {
         let mut window = self.cache.take_window();
         let mut noting = Noting { taker, noted };
-        let offered = table_desk::unsent_from(
+        let offering = Offering {
+            apps: self.apps.as_slice(),
+            known: &self.cache,
+            skip: self.cache.skip_of(account),
+        };
+        let offered = offering.unsent_from(
             self.alloc,
             &mut self.conn,
-            self.apps.as_slice(),
-            &self.cache,
-            self.cache.skip_of(account),
             &mut window,
             from,
             &mut noting,

@@ -121,16 +121,7 @@ one_host (stored.Host row) hosts number = cases (eqb row.id number) refl
         → IsStillKnown (IsOtherKey (stored.Host row)) (λ s. s ≡ stored.Host row) counted_of (host_key number) (hosts number) (cond b (Some (counted_of (stored.Host row))) (hosts number))
     cases true is = inr (stored.Host row, refl, ap host_key (eqb-true row.id number is), refl)
     cases false is = inl ((λ same. true≢false (sym (eq-eqb row.id number (ap number_of_host same)) ∙ is)), refl)
-one_host (stored.Setting row) hosts number = inl ((λ same. absurd cc), refl)
-one_host (stored.Account row) hosts number = inl ((λ same. absurd cc), refl)
-one_host (stored.App row) hosts number = inl ((λ same. absurd cc), refl)
-one_host (stored.Version row) hosts number = inl ((λ same. absurd cc), refl)
-one_host (stored.Unit row) hosts number = inl ((λ same. absurd cc), refl)
-one_host (stored.Instance row) hosts number = inl ((λ same. absurd cc), refl)
-one_host (stored.Kept row) hosts number = inl ((λ same. absurd cc), refl)
-one_host (stored.Batch row) hosts number = inl ((λ same. absurd cc), refl)
-one_host (stored.VersionClass row) hosts number = inl ((λ same. absurd cc), refl)
-one_host (stored.UnitMark row) hosts number = inl ((λ same. absurd cc), refl)
+one_host _ hosts number = inl ((λ same. absurd cc), refl)
 
 pub host_known : (rows : List StoredRow) (hosts : ℕ → Option CountedHost) (number : ℕ) → IsStillKnown (IsUnput rows) (IsPut rows) counted_of (host_key number) (hosts number) (with_hosts hosts rows number)
 host_known rows hosts number = known_after counted_of (host_key number) with_host (λ (hs : ℕ → Option CountedHost). hs number) (λ r hs. one_host r hs number) rows hosts
@@ -158,16 +149,7 @@ one_title (stored.Unit row) titles place = cases (eqb row.id place) refl
         → IsStillKnown (IsOtherKey (stored.Unit row)) (λ s. s ≡ stored.Unit row) title_of (unit_key place) (titles place) (cond b (Some row.name) (titles place))
     cases true is = inr (stored.Unit row, refl, ap unit_key (eqb-true row.id place is), refl)
     cases false is = inl ((λ same. true≢false (sym (eq-eqb row.id place (ap place_of_unit same)) ∙ is)), refl)
-one_title (stored.Setting row) titles place = inl ((λ same. absurd cc), refl)
-one_title (stored.Account row) titles place = inl ((λ same. absurd cc), refl)
-one_title (stored.App row) titles place = inl ((λ same. absurd cc), refl)
-one_title (stored.Version row) titles place = inl ((λ same. absurd cc), refl)
-one_title (stored.Host row) titles place = inl ((λ same. absurd cc), refl)
-one_title (stored.Instance row) titles place = inl ((λ same. absurd cc), refl)
-one_title (stored.Kept row) titles place = inl ((λ same. absurd cc), refl)
-one_title (stored.Batch row) titles place = inl ((λ same. absurd cc), refl)
-one_title (stored.VersionClass row) titles place = inl ((λ same. absurd cc), refl)
-one_title (stored.UnitMark row) titles place = inl ((λ same. absurd cc), refl)
+one_title _ titles place = inl ((λ same. absurd cc), refl)
 
 pub title_known : (rows : List StoredRow) (titles : ℕ → Option (List ℕ)) (place : ℕ) → IsStillKnown (IsUnput rows) (IsPut rows) title_of (unit_key place) (titles place) (with_titles titles rows place)
 title_known rows titles place = known_after title_of (unit_key place) with_title (λ (ts : ℕ → Option (List ℕ)). ts place) (λ r ts. one_title r ts place) rows titles
@@ -209,16 +191,7 @@ one_instance told row known unit number = cases (eqb row.unit_id unit) refl (eqb
 
 one_job : (r : StoredRow) (jobs : ℕ → ℕ → Option Job) (unit number : ℕ) → IsStillKnown (IsOtherKey r) (λ s. s ≡ r) job_of (instance_key unit number) (jobs unit number) (with_job jobs r unit number)
 one_job (stored.Instance row) jobs unit number = one_instance job_of row jobs unit number
-one_job (stored.Host row) jobs unit number = inl ((λ same. absurd cc), refl)
-one_job (stored.Setting row) jobs unit number = inl ((λ same. absurd cc), refl)
-one_job (stored.Account row) jobs unit number = inl ((λ same. absurd cc), refl)
-one_job (stored.App row) jobs unit number = inl ((λ same. absurd cc), refl)
-one_job (stored.Version row) jobs unit number = inl ((λ same. absurd cc), refl)
-one_job (stored.Unit row) jobs unit number = inl ((λ same. absurd cc), refl)
-one_job (stored.Kept row) jobs unit number = inl ((λ same. absurd cc), refl)
-one_job (stored.Batch row) jobs unit number = inl ((λ same. absurd cc), refl)
-one_job (stored.VersionClass row) jobs unit number = inl ((λ same. absurd cc), refl)
-one_job (stored.UnitMark row) jobs unit number = inl ((λ same. absurd cc), refl)
+one_job _ jobs unit number = inl ((λ same. absurd cc), refl)
 
 pub job_known : (rows : List StoredRow) (jobs : ℕ → ℕ → Option Job) (unit number : ℕ) → IsStillKnown (IsUnput rows) (IsPut rows) job_of (instance_key unit number) (jobs unit number) (with_jobs jobs rows unit number)
 job_known rows jobs unit number = known_after job_of (instance_key unit number) with_job (λ (js : ℕ → ℕ → Option Job). js unit number) (λ r js. one_job r js unit number) rows jobs
@@ -226,16 +199,7 @@ job_known rows jobs unit number = known_after job_of (instance_key unit number) 
 -- the same of whether it waits
 one_wait : (r : StoredRow) (waiting : ℕ → ℕ → Option Bool) (unit number : ℕ) → IsStillKnown (IsOtherKey r) (λ s. s ≡ r) queued_of (instance_key unit number) (waiting unit number) (with_wait waiting r unit number)
 one_wait (stored.Instance row) waiting unit number = one_instance queued_of row waiting unit number
-one_wait (stored.Host row) waiting unit number = inl ((λ same. absurd cc), refl)
-one_wait (stored.Setting row) waiting unit number = inl ((λ same. absurd cc), refl)
-one_wait (stored.Account row) waiting unit number = inl ((λ same. absurd cc), refl)
-one_wait (stored.App row) waiting unit number = inl ((λ same. absurd cc), refl)
-one_wait (stored.Version row) waiting unit number = inl ((λ same. absurd cc), refl)
-one_wait (stored.Unit row) waiting unit number = inl ((λ same. absurd cc), refl)
-one_wait (stored.Kept row) waiting unit number = inl ((λ same. absurd cc), refl)
-one_wait (stored.Batch row) waiting unit number = inl ((λ same. absurd cc), refl)
-one_wait (stored.VersionClass row) waiting unit number = inl ((λ same. absurd cc), refl)
-one_wait (stored.UnitMark row) waiting unit number = inl ((λ same. absurd cc), refl)
+one_wait _ waiting unit number = inl ((λ same. absurd cc), refl)
 
 pub wait_known : (rows : List StoredRow) (waiting : ℕ → ℕ → Option Bool) (unit number : ℕ) → IsStillKnown (IsUnput rows) (IsPut rows) queued_of (instance_key unit number) (waiting unit number) (with_waits waiting rows unit number)
 wait_known rows waiting unit number = known_after queued_of (instance_key unit number) with_wait (λ (ws : ℕ → ℕ → Option Bool). ws unit number) (λ r ws. one_wait r ws unit number) rows waiting

@@ -5,6 +5,7 @@ pub mod HeldMoves
 pub mod InstanceListed
 pub mod KeyMoves
 pub mod NoneRemembered
+pub mod Remembered
 pub mod RowsKept
 pub mod SentMoves
 pub mod SkipMoves

@@ -41,12 +41,10 @@ fn copied(alloc: Global, places: &Listed<Place>) -> Result<Listed<Place>, Memory
 fn holder_in(instance: &Instance) -> Option<u32>
     ensures { result ≡ holder_of instance.now }
 {
-    if !instance.is_held() {
-        return None;
-    }
-    match &instance.owner {
-        None => None,
-        Some(owner) => Some(owner.host),
+    if instance.is_held() {
+        instance.owner_host()
+    } else {
+        None
     }
 }
 

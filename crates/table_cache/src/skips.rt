@@ -102,10 +102,7 @@ fn host_at(instances: &[Instance], number: usize) -> Option<u32>
 {
     match instances.get(number) {
         None => None,
-        Some(instance) => match &instance.owner {
-            None => None,
-            Some(owner) => Some(owner.host),
-        },
+        Some(instance) => instance.owner_host(),
     }
 }
 

@@ -56,9 +56,9 @@ fn count_instance(
 ) -> Result<(), Unavailable>
     ensures { OnOk result ((host : ℕ) → tally totals.new host ≡ with_instance instance.now credit host (tally totals.old host)) }
 {
-    match &instance.owner {
+    match instance.owner_host() {
         None => Ok(()),
-        Some(owner) => count_more(totals, owner.host, u32::from(instance.is_held()), credit),
+        Some(host) => count_more(totals, host, u32::from(instance.is_held()), credit),
     }
 }
 

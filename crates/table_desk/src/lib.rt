@@ -22,7 +22,7 @@ pub use apps::{app_by_name, version_by_key, version_for};
 pub use columns::{credit_of_none_given, credit_of_user, held_of_none_given, status_of};
 pub use hosts::{CountedHost, counted_host};
 pub use lengths::counts;
-pub use offers::{KnownUnits, unsent_from};
+pub use offers::{KnownUnits, Offering};
 pub use places::{due_before, held_by, owned_by, sent_on_day};
 pub use skip::Skip;
 pub use sorted::{insert_place, remove_place};

@@ -39,171 +39,164 @@ pub trait KnownUnits {
         ensures { (w : World) → are_of w self.now → IfOk result (λ r. IfSome r (λ u. workunit_at w unit ≡ Some u)) };
 }
 
-/// Offers the candidate at this place, and says whether the taker wants more. The workunit is read if it is not known.
-/// Unavailable if there is no such workunit. What the connection shows is unchanged.
-fn offer_at<S: Alter, K: KnownUnits, T: Taker>(
-    alloc: Global,
-    conn: &mut Connection<S>,
-    apps: &[App],
-    known: &K,
-    place: Place,
-    taker: &mut T,
-) -> Result<Flow, Unavailable>
-    ensures reads { Reads (state S.Store conn.old) (state S.Store conn.new) }
-    ensures offered { LooksUp S.Store conn.old conn.new (λ w. apps.now ≡ w.apps → K.are_of w known.now
-        → IfOk result (λ flow. (c : BookCandidate) × (candidate_at w place ≡ Some c) × T.takes taker.old c flow taker.new)) }
-    ensures none { OnErr result (taker.new ≡ taker.old) }
-{
-    if let Some(unit) = known.known_unit(place.unit)? {
-        return Ok(taker.offer(&Candidate { place, unit }));
-    }
-    match unit_at(alloc, conn, apps, place.unit)? {
-        None => Err(Unavailable(Cause::Broken(Invariant::OfferedUnit))),
-        Some(unit) => Ok(taker.offer(&Candidate { place, unit })),
-    }
+/// What offers are made with.
+#[derive(Drop)]
+pub struct Offering<'a, K> {
+    /// All applications.
+    pub apps: &'a [App],
+    /// Who knows some workunits. One that is not known is read.
+    pub known: &'a K,
+    /// Where no candidate need be offered.
+    pub skip: &'a Skip,
 }
 
-/// Whether no candidate at this place need be offered: the skip covers it, or the taker passes over it.
-fn is_skipped<T: Taker>(skip: &Skip, taker: &T, place: Place) -> bool
-    ensures { IsTrue result → (c : BookCandidate) → c.place ≡ place → OrSkips (IsCovered skip.now) T.takes taker.now c GoOn taker.now }
-{
-    skip.covers(place) || taker.passes_over(place)
-}
-
-/// Offers the candidates at these places, except those that are left out, and says whether the taker wants more. What
-/// the connection shows is unchanged.
-fn offer_each<S: Alter, K: KnownUnits, T: Taker>(
-    alloc: Global,
-    conn: &mut Connection<S>,
-    apps: &[App],
-    known: &K,
-    skip: &Skip,
-    places: &[Place],
-    taker: &mut T,
-) -> Result<Flow, Unavailable>
-    ensures reads { Reads (state S.Store conn.old) (state S.Store conn.new) }
-    ensures all { LooksUp S.Store conn.old conn.new (λ w. apps.now ≡ w.apps → K.are_of w known.now → IfOk result (Offered (OrSkips (IsCovered skip.now) T.takes) taker.old (candidates_at w places.now) taker.new)) }
-    ensures some { LooksUp S.Store conn.old conn.new (λ w. apps.now ≡ w.apps → K.are_of w known.now → OnErr result (OfferedSome (OrSkips (IsCovered skip.now) T.takes) taker.old (candidates_at w places.now) taker.new)) }
-{
-    for place in places {
-        if is_skipped(skip, taker, *place) {
-            continue;
+impl<K: KnownUnits> Offering<'_, K> {
+    /// Offers the candidate at this place, and says whether the taker wants more. The workunit is read if it is not known.
+    /// Unavailable if there is no such workunit. What the connection shows is unchanged.
+    fn offer_at<S: Alter, T: Taker>(
+        &self,
+        alloc: Global,
+        conn: &mut Connection<S>,
+        place: Place,
+        taker: &mut T,
+    ) -> Result<Flow, Unavailable>
+        ensures reads { Reads (state S.Store conn.old) (state S.Store conn.new) }
+        ensures offered { LooksUp S.Store conn.old conn.new (λ w. self.now.apps.now ≡ w.apps → K.are_of w self.now.known.now
+            → IfOk result (λ flow. (c : BookCandidate) × (candidate_at w place ≡ Some c) × T.takes taker.old c flow taker.new)) }
+        ensures none { OnErr result (taker.new ≡ taker.old) }
+    {
+        if let Some(unit) = self.known.known_unit(place.unit)? {
+            return Ok(taker.offer(&Candidate { place, unit }));
         }
-        match offer_at(alloc, conn, apps, known, *place, taker)? {
-            Flow::GoOn => {}
-            Flow::Stop => return Ok(Flow::Stop),
+        match unit_at(alloc, conn, self.apps, place.unit)? {
+            None => Err(Unavailable(Cause::Broken(Invariant::OfferedUnit))),
+            Some(unit) => Ok(taker.offer(&Candidate { place, unit })),
         }
     }
-    Ok(Flow::GoOn)
-}
 
-/// Offers one further page of what waits, from this place on. Returns from where there may be more. What the connection
-/// shows is unchanged.
-fn offer_page<S: Alter, K: KnownUnits, T: Taker>(
-    alloc: Global,
-    conn: &mut Connection<S>,
-    apps: &[App],
-    known: &K,
-    skip: &Skip,
-    from: Place,
-    taker: &mut T,
-) -> Result<Option<Place>, Unavailable>
-    ensures reads { Reads (state S.Store conn.old) (state S.Store conn.new) }
-    ensures all { LooksUp S.Store conn.old conn.new (λ w. apps.now ≡ w.apps → K.are_of w known.now → IfOk result (λ next. Leads (OrSkips (IsCovered skip.now) T.takes) taker.old (unsent w from) taker.new (unsent_on w next))) }
-    ensures some { LooksUp S.Store conn.old conn.new (λ w. apps.now ≡ w.apps → K.are_of w known.now → OnErr result (OffersSome (OrSkips (IsCovered skip.now) T.takes) taker.old (unsent w from) taker.new)) }
-{
-    let queued = queued_from(alloc, conn, skip.next(from), QueuePage::Further)?;
-    match offer_each(alloc, conn, apps, known, skip, queued.as_slice(), taker)? {
-        Flow::Stop => Ok(None),
-        Flow::GoOn => next_page(QueuePage::Further, queued.as_slice()),
+    /// Whether no candidate at this place need be offered: the skip covers it, or the taker passes over it.
+    fn is_skipped<T: Taker>(&self, taker: &T, place: Place) -> bool
+        ensures { IsTrue result → (c : BookCandidate) → c.place ≡ place → OrSkips (IsCovered self.now.skip.now) T.takes taker.now c GoOn taker.now }
+    {
+        self.skip.covers(place) || taker.passes_over(place)
     }
-}
 
-/// Offers what waits from this place on, if there is one, one further page after another. What the connection shows is
-/// unchanged.
-fn offer_pages<S: Alter, K: KnownUnits, T: Taker>(
-    alloc: Global,
-    conn: &mut Connection<S>,
-    apps: &[App],
-    known: &K,
-    skip: &Skip,
-    from: Option<Place>,
-    taker: &mut T,
-) -> Result<(), Unavailable>
-    ensures reads { Reads (state S.Store conn.old) (state S.Store conn.new) }
-    ensures all { LooksUp S.Store conn.old conn.new (λ w. apps.now ≡ w.apps → K.are_of w known.now → OnOk result (OffersAll (OrSkips (IsCovered skip.now) T.takes) taker.old (unsent_on w from) taker.new)) }
-    ensures some { LooksUp S.Store conn.old conn.new (λ w. apps.now ≡ w.apps → K.are_of w known.now → OnErr result (OffersSome (OrSkips (IsCovered skip.now) T.takes) taker.old (unsent_on w from) taker.new)) }
-{
-    let mut next = from;
-    for _turn in 0..MOST_PAGES {
-        match next {
-            None => return Ok(()),
-            Some(place) => next = offer_page(alloc, conn, apps, known, skip, place, taker)?,
+    /// Offers the candidates at these places, except those that are left out, and says whether the taker wants more. What
+    /// the connection shows is unchanged.
+    fn offer_each<S: Alter, T: Taker>(
+        &self,
+        alloc: Global,
+        conn: &mut Connection<S>,
+        places: &[Place],
+        taker: &mut T,
+    ) -> Result<Flow, Unavailable>
+        ensures reads { Reads (state S.Store conn.old) (state S.Store conn.new) }
+        ensures all { LooksUp S.Store conn.old conn.new (λ w. self.now.apps.now ≡ w.apps → K.are_of w self.now.known.now → IfOk result (Offered (OrSkips (IsCovered self.now.skip.now) T.takes) taker.old (candidates_at w places.now) taker.new)) }
+        ensures some { LooksUp S.Store conn.old conn.new (λ w. self.now.apps.now ≡ w.apps → K.are_of w self.now.known.now → OnErr result (OfferedSome (OrSkips (IsCovered self.now.skip.now) T.takes) taker.old (candidates_at w places.now) taker.new)) }
+    {
+        for place in places {
+            if self.is_skipped(taker, *place) {
+                continue;
+            }
+            match self.offer_at(alloc, conn, *place, taker)? {
+                Flow::GoOn => {}
+                Flow::Stop => return Ok(Flow::Stop),
+            }
+        }
+        Ok(Flow::GoOn)
+    }
+
+    /// Offers one further page of what waits, from this place on. Returns from where there may be more. What the connection
+    /// shows is unchanged.
+    fn offer_page<S: Alter, T: Taker>(
+        &self,
+        alloc: Global,
+        conn: &mut Connection<S>,
+        from: Place,
+        taker: &mut T,
+    ) -> Result<Option<Place>, Unavailable>
+        ensures reads { Reads (state S.Store conn.old) (state S.Store conn.new) }
+        ensures all { LooksUp S.Store conn.old conn.new (λ w. self.now.apps.now ≡ w.apps → K.are_of w self.now.known.now → IfOk result (λ next. Leads (OrSkips (IsCovered self.now.skip.now) T.takes) taker.old (unsent w from) taker.new (unsent_on w next))) }
+        ensures some { LooksUp S.Store conn.old conn.new (λ w. self.now.apps.now ≡ w.apps → K.are_of w self.now.known.now → OnErr result (OffersSome (OrSkips (IsCovered self.now.skip.now) T.takes) taker.old (unsent w from) taker.new)) }
+    {
+        let queued = queued_from(alloc, conn, self.skip.next(from), QueuePage::Further)?;
+        match self.offer_each(alloc, conn, queued.as_slice(), taker)? {
+            Flow::Stop => Ok(None),
+            Flow::GoOn => next_page(QueuePage::Further, queued.as_slice()),
         }
     }
-    Err(Unavailable(Cause::Broken(Invariant::PagesOfOffers)))
-}
 
-/// Offers the candidates at these places of a window, and then what waits after the window. What the connection shows
-/// is unchanged.
-fn offer_on<S: Alter, K: KnownUnits, T: Taker>(
-    alloc: Global,
-    conn: &mut Connection<S>,
-    apps: &[App],
-    known: &K,
-    skip: &Skip,
-    window: &QueueWindow,
-    places: &[Place],
-    taker: &mut T,
-) -> Result<(), Unavailable>
-    ensures reads { Reads (state S.Store conn.old) (state S.Store conn.new) }
-    ensures all { LooksUp S.Store conn.old conn.new (λ w. apps.now ≡ w.apps → K.are_of w known.now → OnOk result (OffersAll (OrSkips (IsCovered skip.now) T.takes) taker.old (candidates_at w places.now ++ unsent_after w window.now) taker.new)) }
-    ensures some { LooksUp S.Store conn.old conn.new (λ w. apps.now ≡ w.apps → K.are_of w known.now → OnErr result (OffersSome (OrSkips (IsCovered skip.now) T.takes) taker.old (candidates_at w places.now ++ unsent_after w window.now) taker.new)) }
-{
-    match offer_each(alloc, conn, apps, known, skip, places, taker)? {
-        Flow::Stop => Ok(()),
-        Flow::GoOn => offer_pages(alloc, conn, apps, known, skip, window.next(), taker),
+    /// Offers what waits from this place on, if there is one, one further page after another. What the connection shows is
+    /// unchanged.
+    fn offer_pages<S: Alter, T: Taker>(
+        &self,
+        alloc: Global,
+        conn: &mut Connection<S>,
+        from: Option<Place>,
+        taker: &mut T,
+    ) -> Result<(), Unavailable>
+        ensures reads { Reads (state S.Store conn.old) (state S.Store conn.new) }
+        ensures all { LooksUp S.Store conn.old conn.new (λ w. self.now.apps.now ≡ w.apps → K.are_of w self.now.known.now → OnOk result (OffersAll (OrSkips (IsCovered self.now.skip.now) T.takes) taker.old (unsent_on w from) taker.new)) }
+        ensures some { LooksUp S.Store conn.old conn.new (λ w. self.now.apps.now ≡ w.apps → K.are_of w self.now.known.now → OnErr result (OffersSome (OrSkips (IsCovered self.now.skip.now) T.takes) taker.old (unsent_on w from) taker.new)) }
+    {
+        let mut next = from;
+        for _turn in 0..MOST_PAGES {
+            match next {
+                None => return Ok(()),
+                Some(place) => next = self.offer_page(alloc, conn, place, taker)?,
+            }
+        }
+        Err(Unavailable(Cause::Broken(Invariant::PagesOfOffers)))
     }
-}
 
-/// Offers the instances of open workunits that were given to nobody, in the order of their places, from this place on.
-/// The offers end when the taker says stop. A candidate that the skip covers or that the taker passes over is not
-/// offered. `apps` are all applications. Pages are read from the first place on that the skip does not cover. If the
-/// window that was read last has what waits there, the offers begin on that window. If not, another window is read and
-/// replaces it. A workunit is read if it is not known. If the tables are unavailable, the offers end early. What the
-/// connection shows is unchanged.
-pub fn unsent_from<S: Alter, K: KnownUnits, T: Taker>(
-    alloc: Global,
-    conn: &mut Connection<S>,
-    apps: &[App],
-    known: &K,
-    skip: &Skip,
-    read: &mut Option<QueueWindow>,
-    from: Place,
-    taker: &mut T,
-) -> Result<(), Unavailable>
-    ensures reads { Reads (state S.Store conn.old) (state S.Store conn.new) }
-    ensures window { LooksUp S.Store conn.old conn.new (λ w. IfSome read.old (IsWindowOf w) → IfSome read.new (IsWindowOf w)) }
-    ensures all { LooksUp S.Store conn.old conn.new (λ w. apps.now ≡ w.apps → K.are_of w known.now → IfSome read.old (IsWindowOf w) → OnOk result (OffersAll (OrSkips (IsCovered skip.now) T.takes) taker.old (unsent w from) taker.new)) }
-    ensures some { LooksUp S.Store conn.old conn.new (λ w. apps.now ≡ w.apps → K.are_of w known.now → IfSome read.old (IsWindowOf w) → OnErr result (OffersSome (OrSkips (IsCovered skip.now) T.takes) taker.old (unsent w from) taker.new)) }
-{
-    let from = skip.next(from);
-    if let Some(window) = read {
-        if let Some(places) = window.places_from(from) {
-            return offer_on(alloc, conn, apps, known, skip, window, places, taker);
+    /// Offers the candidates at these places of a window, and then what waits after the window. What the connection shows
+    /// is unchanged.
+    fn offer_on<S: Alter, T: Taker>(
+        &self,
+        alloc: Global,
+        conn: &mut Connection<S>,
+        window: &QueueWindow,
+        places: &[Place],
+        taker: &mut T,
+    ) -> Result<(), Unavailable>
+        ensures reads { Reads (state S.Store conn.old) (state S.Store conn.new) }
+        ensures all { LooksUp S.Store conn.old conn.new (λ w. self.now.apps.now ≡ w.apps → K.are_of w self.now.known.now → OnOk result (OffersAll (OrSkips (IsCovered self.now.skip.now) T.takes) taker.old (candidates_at w places.now ++ unsent_after w window.now) taker.new)) }
+        ensures some { LooksUp S.Store conn.old conn.new (λ w. self.now.apps.now ≡ w.apps → K.are_of w self.now.known.now → OnErr result (OffersSome (OrSkips (IsCovered self.now.skip.now) T.takes) taker.old (candidates_at w places.now ++ unsent_after w window.now) taker.new)) }
+    {
+        match self.offer_each(alloc, conn, places, taker)? {
+            Flow::Stop => Ok(()),
+            Flow::GoOn => self.offer_pages(alloc, conn, window.next(), taker),
         }
     }
-    let window = QueueWindow::read(alloc, conn, from)?;
-    let offered = offer_on(
-        alloc,
-        conn,
-        apps,
-        known,
-        skip,
-        &window,
-        window.places(),
-        taker,
-    );
-    *read = Some(window);
-    offered
+
+    /// Offers the instances of open workunits that were given to nobody, in the order of their places, from this place on.
+    /// The offers end when the taker says stop. A candidate that the skip covers or that the taker passes over is not
+    /// offered. Pages are read from the first place on that the skip does not cover. If the
+    /// window that was read last has what waits there, the offers begin on that window. If not, another window is read and
+    /// replaces it. A workunit is read if it is not known. If the tables are unavailable, the offers end early. What the
+    /// connection shows is unchanged.
+    pub fn unsent_from<S: Alter, T: Taker>(
+        &self,
+        alloc: Global,
+        conn: &mut Connection<S>,
+        read: &mut Option<QueueWindow>,
+        from: Place,
+        taker: &mut T,
+    ) -> Result<(), Unavailable>
+        ensures reads { Reads (state S.Store conn.old) (state S.Store conn.new) }
+        ensures window { LooksUp S.Store conn.old conn.new (λ w. IfSome read.old (IsWindowOf w) → IfSome read.new (IsWindowOf w)) }
+        ensures all { LooksUp S.Store conn.old conn.new (λ w. self.now.apps.now ≡ w.apps → K.are_of w self.now.known.now → IfSome read.old (IsWindowOf w) → OnOk result (OffersAll (OrSkips (IsCovered self.now.skip.now) T.takes) taker.old (unsent w from) taker.new)) }
+        ensures some { LooksUp S.Store conn.old conn.new (λ w. self.now.apps.now ≡ w.apps → K.are_of w self.now.known.now → IfSome read.old (IsWindowOf w) → OnErr result (OffersSome (OrSkips (IsCovered self.now.skip.now) T.takes) taker.old (unsent w from) taker.new)) }
+    {
+        let from = self.skip.next(from);
+        if let Some(window) = read {
+            if let Some(places) = window.places_from(from) {
+                return self.offer_on(alloc, conn, window, places, taker);
+            }
+        }
+        let window = QueueWindow::read(alloc, conn, from)?;
+        let offered = self.offer_on(alloc, conn, &window, window.places(), taker);
+        *read = Some(window);
+        offered
+    }
 }

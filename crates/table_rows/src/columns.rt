@@ -217,6 +217,107 @@ pub(crate) fn stored_row(alloc: Global, table: TableName, row: &Row) -> Result<S
     })
 }
 
+/// The values of a version's columns, in order.
+fn version_values(alloc: Global, row: &StoredVersion) -> Result<Vec<ValueRef<'_>>, AllocError>
+    ensures values { IfOk result (λ values. map owned values.items ≡ columns_of (stored.Version row.now)) }
+    ensures utf8 { IfOk result (λ values. HasUtf8 (columns_of (stored.Version row.now))) }
+{
+    Ok(vec![in alloc;
+        values::whole(row.id),
+        values::whole(row.app_id),
+        values::text(&row.platform),
+        values::whole(row.num),
+    ]?)
+}
+
+/// The values of a workunit's columns, in order.
+fn unit_values(alloc: Global, row: &StoredUnit) -> Result<Vec<ValueRef<'_>>, AllocError>
+    ensures values { IfOk result (λ values. map owned values.items ≡ columns_of (stored.Unit row.now)) }
+    ensures utf8 { IfOk result (λ values. HasUtf8 (columns_of (stored.Unit row.now))) }
+{
+    Ok(vec![in alloc;
+        values::whole(row.id),
+        values::text(&row.name),
+        values::whole(row.app_id),
+        values::whole(row.min_quorum),
+        values::whole(row.target_nresults),
+        values::whole(row.max_error_results),
+        values::whole(row.max_total_results),
+        values::whole(row.max_success_results),
+        values::whole(row.delay_bound),
+        ValueRef::Int(row.rsc_fpops_est),
+        ValueRef::Int(row.rsc_memory_bound),
+        ValueRef::Int(row.rsc_disk_bound),
+        values::whole(row.credit),
+        values::whole(row.status),
+    ]?)
+}
+
+/// The values of a host's columns, in order.
+fn host_values(alloc: Global, row: &StoredHost) -> Result<Vec<ValueRef<'_>>, AllocError>
+    ensures values { IfOk result (λ values. map owned values.items ≡ columns_of (stored.Host row.now)) }
+    ensures utf8 { IfOk result (λ values. HasUtf8 (columns_of (stored.Host row.now))) }
+{
+    Ok(vec![in alloc;
+        values::whole(row.id),
+        values::whole(row.account_id),
+        values::text(&row.cpid),
+        values::text(&row.platforms),
+        ValueRef::Int(row.fpops),
+        ValueRef::Int(row.memory),
+        ValueRef::Int(row.disk),
+        values::whole(row.quota),
+        values::whole(row.held),
+        ValueRef::Int(row.credit),
+    ]?)
+}
+
+/// The values of an instance's columns, in order.
+fn instance_values(alloc: Global, row: &StoredInstance) -> Result<Vec<ValueRef<'_>>, AllocError>
+    ensures values { IfOk result (λ values. map owned values.items ≡ columns_of (stored.Instance row.now)) }
+    ensures utf8 { IfOk result (λ values. HasUtf8 (columns_of (stored.Instance row.now))) }
+{
+    Ok(vec![in alloc;
+        values::whole(row.unit_id),
+        values::whole(row.num),
+        values::optional_whole(row.host_id),
+        values::optional_int(row.sent),
+        values::optional_int(row.deadline),
+        values::whole(row.lapse),
+        values::optional_whole(row.outcome),
+        values::optional_text(&row.output),
+        values::optional_whole(row.place),
+        values::whole(u32::from(row.queued)),
+    ]?)
+}
+
+/// The values of a kept call's columns, in order.
+fn call_values(alloc: Global, row: &StoredCall) -> Result<Vec<ValueRef<'_>>, AllocError>
+    ensures values { IfOk result (λ values. map owned values.items ≡ columns_of (stored.Kept row.now)) }
+    ensures utf8 { IfOk result (λ values. HasUtf8 (columns_of (stored.Kept row.now))) }
+{
+    Ok(vec![in alloc;
+        values::whole(row.host_id),
+        values::whole(row.slot),
+        values::whole(row.seqno),
+        values::text(&row.text),
+        values::text(&row.reply),
+    ]?)
+}
+
+/// The values of a kept batch's columns, in order.
+fn batch_values(alloc: Global, row: &StoredBatch) -> Result<Vec<ValueRef<'_>>, AllocError>
+    ensures values { IfOk result (λ values. map owned values.items ≡ columns_of (stored.Batch row.now)) }
+    ensures utf8 { IfOk result (λ values. HasUtf8 (columns_of (stored.Batch row.now))) }
+{
+    Ok(vec![in alloc;
+        values::text(&row.kind),
+        values::text(&row.name),
+        ValueRef::Blob(row.text.as_slice()),
+        values::text(&row.answer),
+    ]?)
+}
+
 /// The values of a row's columns, in order. Its texts are in UTF-8.
 pub(crate) fn values_of<'a>(
     alloc: Global,
@@ -242,69 +343,12 @@ pub(crate) fn values_of<'a>(
                 values::optional_whole(row.agreement),
             ]?)
         }
-        StoredRow::Version(row) => {
-            Ok(vec![in alloc;
-                values::whole(row.id),
-                values::whole(row.app_id),
-                values::text(&row.platform),
-                values::whole(row.num),
-            ]?)
-        }
-        StoredRow::Unit(row) => Ok(vec![in alloc;
-            values::whole(row.id),
-            values::text(&row.name),
-            values::whole(row.app_id),
-            values::whole(row.min_quorum),
-            values::whole(row.target_nresults),
-            values::whole(row.max_error_results),
-            values::whole(row.max_total_results),
-            values::whole(row.max_success_results),
-            values::whole(row.delay_bound),
-            ValueRef::Int(row.rsc_fpops_est),
-            ValueRef::Int(row.rsc_memory_bound),
-            ValueRef::Int(row.rsc_disk_bound),
-            values::whole(row.credit),
-            values::whole(row.status),
-        ]?),
-        StoredRow::Host(row) => Ok(vec![in alloc;
-            values::whole(row.id),
-            values::whole(row.account_id),
-            values::text(&row.cpid),
-            values::text(&row.platforms),
-            ValueRef::Int(row.fpops),
-            ValueRef::Int(row.memory),
-            ValueRef::Int(row.disk),
-            values::whole(row.quota),
-            values::whole(row.held),
-            ValueRef::Int(row.credit),
-        ]?),
-        StoredRow::Instance(row) => Ok(vec![in alloc;
-            values::whole(row.unit_id),
-            values::whole(row.num),
-            values::optional_whole(row.host_id),
-            values::optional_int(row.sent),
-            values::optional_int(row.deadline),
-            values::whole(row.lapse),
-            values::optional_whole(row.outcome),
-            values::optional_text(&row.output),
-            values::optional_whole(row.place),
-            values::whole(u32::from(row.queued)),
-        ]?),
-        StoredRow::Kept(row) => {
-            Ok(vec![in alloc;
-                values::whole(row.host_id),
-                values::whole(row.slot),
-                values::whole(row.seqno),
-                values::text(&row.text),
-                values::text(&row.reply),
-            ]?)
-        }
-        StoredRow::Batch(row) => Ok(vec![in alloc;
-            values::text(&row.kind),
-            values::text(&row.name),
-            ValueRef::Blob(row.text.as_slice()),
-            values::text(&row.answer),
-        ]?),
+        StoredRow::Version(row) => version_values(alloc, row),
+        StoredRow::Unit(row) => unit_values(alloc, row),
+        StoredRow::Host(row) => host_values(alloc, row),
+        StoredRow::Instance(row) => instance_values(alloc, row),
+        StoredRow::Kept(row) => call_values(alloc, row),
+        StoredRow::Batch(row) => batch_values(alloc, row),
         StoredRow::VersionClass(row) => Ok(vec![in alloc;
             values::whole(row.version_id),
             values::text(&row.class),

@@ -2,13 +2,12 @@
 use Rattle.std.proofs.Common.{◌≡◌, ℕ, ◌+◌, ◌*◌, Bool, true, false, cond, eqb, ◌&&◌, List, [], ◌∷◌, length, Option, Some, None, refl, sym, ap, ◌∙◌, arith}
 use Rattle.std.proofs.Math.Nat.{mul-add}
 use Rattle.std.proofs.lemmas.List.Sums.{sum_by-cons}
-use Rattle.std.specs.Prelude.{replicate, count_by, option_map}
+use Rattle.std.specs.Prelude.{replicate, count_by}
 use Rattle.sched_book.specs.Count.{is_held}
 use Rattle.sched_book.specs.Numbered.{map_from}
-use Rattle.sched_book.specs.Places.{is_owned_by, is_held_by, option_any, credit_in}
+use Rattle.sched_book.specs.Places.{host_of, is_owned_by, is_held_by, option_any, credit_in}
 use Rattle.sched_book.specs.Reports.{modify_nth}
 use Rattle.sched_book.specs.declared.instance.Instance.{Instance}
-use Rattle.sched_book.specs.declared.instance.Owner.{Owner}
 use Rattle.sched_book.specs.declared.instance.UnitBook.{UnitBook}
 use Rattle.sched_book.specs.declared.rows.App.{App}
 use Rattle.sched_book.specs.declared.world.World.{World}
@@ -24,16 +23,16 @@ pub same_total : (h k c d : ℕ) → h ≡ k → c ≡ d → total h c ≡ total
 same_total h k c d held credit = ap (λ m. total m c) held ∙ ap (total k) credit
 
 -- an instance without an owner is counted for no host
-pub none_more : (x : Instance) (credit : ℕ) (ts : List Total) → x.owner ≡ None → ts ≡ map_from 1 (with_instance x credit) ts
+pub none_more : (x : Instance) (credit : ℕ) (ts : List Total) → host_of x ≡ None → ts ≡ map_from 1 (with_instance x credit) ts
 none_more x credit ts is =
-    sym (map_from-none 1 _ (λ n t. ap (λ (o : Option Owner). cond (option_any (λ m. eqb m n) (option_map (λ (w : Owner). w.host) o)) (more t (cond (is_held x) 1 0) credit) t) is) ts)
+    sym (map_from-none 1 _ (λ n t. ap (λ (o : Option ℕ). cond (option_any (λ m. eqb m n) o) (more t (cond (is_held x) 1 0) credit) t) is) ts)
 
 -- any other instance is counted for its owner's host
-pub one_more : (x : Instance) (o : Owner) (held credit : ℕ) (ts : List Total) → x.owner ≡ Some o → held ≡ cond (is_held x) 1 0
-    → modify_nth (λ t. more t held credit) ts o.host ≡ map_from 1 (with_instance x credit) ts
-one_more x o held credit ts is counts =
-    modify_nth-map_from (λ t. more t held credit) ts o.host
-    ∙ map_from-same 1 _ _ (λ n t. ap (λ (p : Option Owner). cond (option_any (λ m. eqb m n) (option_map (λ (w : Owner). w.host) p)) (more t held credit) t) (sym is)
+pub one_more : (x : Instance) (host held credit : ℕ) (ts : List Total) → host_of x ≡ Some host → held ≡ cond (is_held x) 1 0
+    → modify_nth (λ t. more t held credit) ts host ≡ map_from 1 (with_instance x credit) ts
+one_more x host held credit ts is counts =
+    modify_nth-map_from (λ t. more t held credit) ts host
+    ∙ map_from-same 1 _ _ (λ n t. ap (λ (o : Option ℕ). cond (option_any (λ m. eqb m n) o) (more t held credit) t) (sym is)
     ∙ ap (λ m. cond (is_owned_by n x) (more t m credit) t) counts) ts
 
 -- one instance and then the others are all of them

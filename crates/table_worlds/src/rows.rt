@@ -251,7 +251,7 @@ pub fn instance_row(
     Ok(StoredInstance {
         unit_id: place.unit,
         num: place.number,
-        host_id: instance.owner.as_ref().map(|owner| owner.host),
+        host_id: instance.owner_host(),
         sent,
         deadline,
         lapse: lapse_code(instance.lapse),

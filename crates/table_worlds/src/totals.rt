@@ -53,9 +53,9 @@ fn count_more(totals: &mut [Total], host: u32, held: u32, credit: u64) -> Result
 fn count_instance(totals: &mut [Total], instance: &Instance, credit: u64) -> Result<(), Unavailable>
     ensures { OnOk result (totals.new ≡ map_from 1 (with_instance instance.now credit) totals.old) }
 {
-    match &instance.owner {
+    match instance.owner_host() {
         None => Ok(()),
-        Some(owner) => count_more(totals, owner.host, u32::from(instance.is_held()), credit),
+        Some(host) => count_more(totals, host, u32::from(instance.is_held()), credit),
     }
 }
 

@@ -78,16 +78,15 @@ fn has_owner_among(hosts: &[HostRow], instance: &Instance) -> bool
     ensures { IsTrue result ↔ HasOwnerAmong hosts.now instance.now }
 {
     instance
-        .owner
-        .is_none_or(|owner| nth(hosts, owner.host).is_some())
+        .owner_host()
+        .is_none_or(|host| nth(hosts, host).is_some())
 }
 
 /// The place of the account of the host that it was given to.
 fn user_of(hosts: &[HostRow], instance: &Instance) -> Option<u32>
     ensures { result ≡ user_of hosts.now instance.now }
 {
-    let owner = instance.owner?;
-    let host = nth(hosts, owner.host)?;
+    let host = nth(hosts, instance.owner_host()?)?;
     Some(host.account)
 }
 

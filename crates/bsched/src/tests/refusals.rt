@@ -1,49 +1,51 @@
 //! Worked rows of calls that are repeated or refused, and of imports that are.
 
 pub const ROWS: &str = r#"
+~ call scheduler {"authenticator":"$","rpc_seqno":$,"host_info":{"host_cpid":"$","p_fpops":1000,"m_nbytes":8000,"d_free":9000},"platform_name":"linux"$}
+
 = a repeat in another spelling is told the same
 # other blanks, another order, a default written out, an unknown member
-> 1970-01-01T00:16:40Z scheduler {"authenticator":"k1","rpc_seqno":1,"host_info":{"host_cpid":"c1","p_fpops":1000,"m_nbytes":8000,"d_free":9000},"platform_name":"linux"}
+> 1970-01-01T00:16:40Z call k1 1 c1
 < 200 {"end_word":"enough","host_total_credit":0,"hostid":1,"request_delay":60,"result_abort":[],"result_ack":[],"results":[],"rpc_seqno":1,"user_name":"Ann","user_total_credit":0}
 > 1970-01-01T00:16:41Z scheduler  { "platform_name" : "linux", "nobody":{"x":[1.5e3,null]}, "hostid":0 ,"host_info":{"d_free":9000,"m_nbytes":8000,"p_fpops":1000,"host_cpid":"c1"}, "rpc_seqno":1,"authenticator":"k1"} 
 < 200 {"end_word":"enough","host_total_credit":0,"hostid":1,"request_delay":60,"result_abort":[],"result_ack":[],"results":[],"rpc_seqno":1,"user_name":"Ann","user_total_credit":0}
 
 = another request under the same number is refused
-> 1970-01-01T00:16:40Z scheduler {"authenticator":"k1","rpc_seqno":1,"host_info":{"host_cpid":"c1","p_fpops":1000,"m_nbytes":8000,"d_free":9000},"platform_name":"linux"}
+> 1970-01-01T00:16:40Z call k1 1 c1
 < 200 {"end_word":"enough","host_total_credit":0,"hostid":1,"request_delay":60,"result_abort":[],"result_ack":[],"results":[],"rpc_seqno":1,"user_name":"Ann","user_total_credit":0}
-> 1970-01-01T00:16:40Z scheduler {"authenticator":"k1","rpc_seqno":1,"host_info":{"host_cpid":"c1","p_fpops":1000,"m_nbytes":8000,"d_free":9000},"platform_name":"linux","work_req_seconds":100}
+> 1970-01-01T00:16:40Z call k1 1 c1 ,"work_req_seconds":100
 < 409 {"error":"reused","last":1,"number":11}
 
 = an older number is stale
-> 1970-01-01T00:16:40Z scheduler {"authenticator":"k1","rpc_seqno":3,"host_info":{"host_cpid":"c1","p_fpops":1000,"m_nbytes":8000,"d_free":9000},"platform_name":"linux"}
+> 1970-01-01T00:16:40Z call k1 3 c1
 < 200 {"end_word":"enough","host_total_credit":0,"hostid":1,"request_delay":60,"result_abort":[],"result_ack":[],"results":[],"rpc_seqno":3,"user_name":"Ann","user_total_credit":0}
-> 1970-01-01T00:16:40Z scheduler {"authenticator":"k1","rpc_seqno":2,"host_info":{"host_cpid":"c1","p_fpops":1000,"m_nbytes":8000,"d_free":9000},"platform_name":"linux"}
+> 1970-01-01T00:16:40Z call k1 2 c1
 < 409 {"error":"stale","last":3,"number":10}
 
 = each of the latest four calls is repeated, and an older one is stale
-> 1970-01-01T00:16:41Z scheduler {"authenticator":"k1","rpc_seqno":1,"host_info":{"host_cpid":"c1","p_fpops":1000,"m_nbytes":8000,"d_free":9000},"platform_name":"linux"}
+> 1970-01-01T00:16:41Z call k1 1 c1
 < 200 {"end_word":"enough","host_total_credit":0,"hostid":1,"request_delay":60,"result_abort":[],"result_ack":[],"results":[],"rpc_seqno":1,"user_name":"Ann","user_total_credit":0}
-> 1970-01-01T00:16:42Z scheduler {"authenticator":"k1","rpc_seqno":2,"host_info":{"host_cpid":"c1","p_fpops":1000,"m_nbytes":8000,"d_free":9000},"platform_name":"linux"}
+> 1970-01-01T00:16:42Z call k1 2 c1
 < 200 {"end_word":"enough","host_total_credit":0,"hostid":1,"request_delay":60,"result_abort":[],"result_ack":[],"results":[],"rpc_seqno":2,"user_name":"Ann","user_total_credit":0}
-> 1970-01-01T00:16:43Z scheduler {"authenticator":"k1","rpc_seqno":3,"host_info":{"host_cpid":"c1","p_fpops":1000,"m_nbytes":8000,"d_free":9000},"platform_name":"linux"}
+> 1970-01-01T00:16:43Z call k1 3 c1
 < 200 {"end_word":"enough","host_total_credit":0,"hostid":1,"request_delay":60,"result_abort":[],"result_ack":[],"results":[],"rpc_seqno":3,"user_name":"Ann","user_total_credit":0}
-> 1970-01-01T00:16:44Z scheduler {"authenticator":"k1","rpc_seqno":4,"host_info":{"host_cpid":"c1","p_fpops":1000,"m_nbytes":8000,"d_free":9000},"platform_name":"linux"}
+> 1970-01-01T00:16:44Z call k1 4 c1
 < 200 {"end_word":"enough","host_total_credit":0,"hostid":1,"request_delay":60,"result_abort":[],"result_ack":[],"results":[],"rpc_seqno":4,"user_name":"Ann","user_total_credit":0}
-> 1970-01-01T00:16:45Z scheduler {"authenticator":"k1","rpc_seqno":5,"host_info":{"host_cpid":"c1","p_fpops":1000,"m_nbytes":8000,"d_free":9000},"platform_name":"linux"}
+> 1970-01-01T00:16:45Z call k1 5 c1
 < 200 {"end_word":"enough","host_total_credit":0,"hostid":1,"request_delay":60,"result_abort":[],"result_ack":[],"results":[],"rpc_seqno":5,"user_name":"Ann","user_total_credit":0}
-> 1970-01-01T00:33:20Z scheduler {"authenticator":"k1","rpc_seqno":2,"host_info":{"host_cpid":"c1","p_fpops":1000,"m_nbytes":8000,"d_free":9000},"platform_name":"linux"}
+> 1970-01-01T00:33:20Z call k1 2 c1
 < 200 {"end_word":"enough","host_total_credit":0,"hostid":1,"request_delay":60,"result_abort":[],"result_ack":[],"results":[],"rpc_seqno":2,"user_name":"Ann","user_total_credit":0}
-> 1970-01-01T00:33:20Z scheduler {"authenticator":"k1","rpc_seqno":1,"host_info":{"host_cpid":"c1","p_fpops":1000,"m_nbytes":8000,"d_free":9000},"platform_name":"linux"}
+> 1970-01-01T00:33:20Z call k1 1 c1
 < 409 {"error":"stale","last":5,"number":10}
-> 1970-01-01T00:33:20Z scheduler {"authenticator":"k1","rpc_seqno":3,"host_info":{"host_cpid":"c1","p_fpops":1000,"m_nbytes":8000,"d_free":9000},"platform_name":"linux","work_req_seconds":100}
+> 1970-01-01T00:33:20Z call k1 3 c1 ,"work_req_seconds":100
 < 409 {"error":"reused","last":5,"number":11}
 
 = the last number of all is repeated, and nothing is fresh behind it
-> 1970-01-01T00:16:40Z scheduler {"authenticator":"k1","rpc_seqno":2147483647,"host_info":{"host_cpid":"c1","p_fpops":1000,"m_nbytes":8000,"d_free":9000},"platform_name":"linux"}
+> 1970-01-01T00:16:40Z call k1 2147483647 c1
 < 200 {"end_word":"enough","host_total_credit":0,"hostid":1,"request_delay":60,"result_abort":[],"result_ack":[],"results":[],"rpc_seqno":2147483647,"user_name":"Ann","user_total_credit":0}
-> 1970-01-01T00:16:40Z scheduler {"authenticator":"k1","rpc_seqno":2147483647,"host_info":{"host_cpid":"c1","p_fpops":1000,"m_nbytes":8000,"d_free":9000},"platform_name":"linux"}
+> 1970-01-01T00:16:40Z call k1 2147483647 c1
 < 200 {"end_word":"enough","host_total_credit":0,"hostid":1,"request_delay":60,"result_abort":[],"result_ack":[],"results":[],"rpc_seqno":2147483647,"user_name":"Ann","user_total_credit":0}
-> 1970-01-01T00:16:40Z scheduler {"authenticator":"k1","rpc_seqno":0,"host_info":{"host_cpid":"c1","p_fpops":1000,"m_nbytes":8000,"d_free":9000},"platform_name":"linux"}
+> 1970-01-01T00:16:40Z call k1 0 c1
 < 409 {"error":"stale","last":2147483647,"number":10}
 
 = an array in an array two hundred times is no JSON
@@ -51,19 +53,19 @@ pub const ROWS: &str = r#"
 < 400 {"error":"bad_json","number":6}
 
 = a wrong number and a wrong account are told
-> 1970-01-01T00:16:40Z scheduler {"authenticator":"k1","rpc_seqno":1,"host_info":{"host_cpid":"c1","p_fpops":1000,"m_nbytes":8000,"d_free":9000},"platform_name":"linux","hostid":7}
+> 1970-01-01T00:16:40Z call k1 1 c1 ,"hostid":7
 < 409 {"error":"bad_host","number":9}
-> 1970-01-01T00:16:40Z scheduler {"authenticator":"k8","rpc_seqno":1,"host_info":{"host_cpid":"c1","p_fpops":1000,"m_nbytes":8000,"d_free":9000},"platform_name":"linux"}
+> 1970-01-01T00:16:40Z call k8 1 c1
 < 403 {"error":"bad_account","number":8}
 
 = a host too many is refused
-> 1970-01-01T00:16:40Z scheduler {"authenticator":"k1","rpc_seqno":1,"host_info":{"host_cpid":"c1","p_fpops":1000,"m_nbytes":8000,"d_free":9000},"platform_name":"linux"}
+> 1970-01-01T00:16:40Z call k1 1 c1
 < 200 {"end_word":"enough","host_total_credit":0,"hostid":1,"request_delay":60,"result_abort":[],"result_ack":[],"results":[],"rpc_seqno":1,"user_name":"Ann","user_total_credit":0}
-> 1970-01-01T00:16:40Z scheduler {"authenticator":"k2","rpc_seqno":1,"host_info":{"host_cpid":"c2","p_fpops":1000,"m_nbytes":8000,"d_free":9000},"platform_name":"linux"}
+> 1970-01-01T00:16:40Z call k2 1 c2
 < 200 {"end_word":"enough","host_total_credit":0,"hostid":2,"request_delay":60,"result_abort":[],"result_ack":[],"results":[],"rpc_seqno":1,"user_name":"Bob","user_total_credit":0}
-> 1970-01-01T00:16:40Z scheduler {"authenticator":"k3","rpc_seqno":1,"host_info":{"host_cpid":"c3","p_fpops":1000,"m_nbytes":8000,"d_free":9000},"platform_name":"linux"}
+> 1970-01-01T00:16:40Z call k3 1 c3
 < 200 {"end_word":"enough","host_total_credit":0,"hostid":3,"request_delay":60,"result_abort":[],"result_ack":[],"results":[],"rpc_seqno":1,"user_name":"Cid","user_total_credit":0}
-> 1970-01-01T00:16:40Z scheduler {"authenticator":"k1","rpc_seqno":1,"host_info":{"host_cpid":"c9","p_fpops":1000,"m_nbytes":8000,"d_free":9000},"platform_name":"linux"}
+> 1970-01-01T00:16:40Z call k1 1 c9
 < 409 {"error":"hosts_full","number":12}
 
 = a body may be no request
@@ -79,7 +81,7 @@ pub const ROWS: &str = r#"
 < 400 {"error":"bad_member","member":"rpc_seqno","number":7}
 
 = names are acknowledged and aborted once
-> 1970-01-01T00:16:40Z scheduler {"authenticator":"k1","rpc_seqno":1,"host_info":{"host_cpid":"c1","p_fpops":1000,"m_nbytes":8000,"d_free":9000},"platform_name":"linux","work_req_seconds":5,"other_results":["zz_0","zz_0"],"results":[{"name":"q_0","exit_status":0},{"name":"q_0","exit_status":1}]}
+> 1970-01-01T00:16:40Z call k1 1 c1 ,"work_req_seconds":5,"other_results":["zz_0","zz_0"],"results":[{"name":"q_0","exit_status":0},{"name":"q_0","exit_status":1}]
 < 200 {"end_word":"no_eligible_work","host_total_credit":0,"hostid":1,"request_delay":60,"result_abort":["zz_0"],"result_ack":["q_0"],"results":[],"rpc_seqno":1,"user_name":"Ann","user_total_credit":0}
 
 = a batch sent twice counts once

@@ -35,7 +35,7 @@ fn push_arrival(alloc: Global, arrivals: &mut Vec<Arrival>, line: &str) -> Resul
 /// The arrivals: the imports of the project, and the messages of a row in which a job is late.
 fn arrivals(alloc: Global) -> Result<Vec<Arrival>, Fail> {
     let row = lapses::ROWS.split(NEXT).nth(1).unwrap_or("");
-    let lines = format!(in alloc; "{PROJECT}{}", lines_of(alloc, row)?)?;
+    let lines = format!(in alloc; "{PROJECT}{}", lines_of(alloc, lapses::ROWS, row)?)?;
     let mut arrivals = Vec::new(alloc);
     for line in lines.as_str().lines() {
         push_arrival(alloc, &mut arrivals, line)?;

@@ -135,7 +135,7 @@ fn answers_on(alloc: Global, lines: &str) -> Result<bool, Fail> {
 /// class.
 fn lines_of_a_class(alloc: Global) -> Result<String, Fail> {
     let row = classes::ROWS.split(NEXT).nth(2).unwrap_or("");
-    Ok(format!(in alloc; "{PROJECT}{}", lines_of(alloc, row)?)?)
+    Ok(format!(in alloc; "{PROJECT}{}", lines_of(alloc, classes::ROWS, row)?)?)
 }
 
 #[test]

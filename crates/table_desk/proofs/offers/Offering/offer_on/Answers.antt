@@ -6,7 +6,7 @@ use Rattle.sched_book.specs.Offers.{OrSkips}
 use Rattle.table_desk.specs.Pages.{candidates_at, unsent_after, unsent_on}
 use Rattle.table_desk.proofs.AskedOn.{asked_before, asked_after}
 use Rattle.table_desk.proofs.PagesOffered.{then_all, then_some}
-use Rattle.table_desk.proofs.offers.offer_on.Goals as goal
+use Rattle.table_desk.proofs.offers.Offering.offer_on.Goals as goal
 
 pub returns-in-GoOn-clause-all : goal.returns-in-GoOn-clause-all
 returns-in-GoOn-clause-all g c = λ clean is_open rests w tell same known.
@@ -15,7 +15,7 @@ returns-in-GoOn-clause-all g c = λ clean is_open rests w tell same known.
     let mid = c.offer_each.new.conn in
     let last = c.offer_pages.new.conn in
     let read = c.offer_pages.ensures.reads in
-    let takes = OrSkips (IsCovered c.args.skip.now) g.T.Taker.takes in
+    let takes = OrSkips (IsCovered c.args.self.now.skip.now) g.T.Taker.takes in
     let old = c.args.taker.now in
     let now = c.offer_each.new.taker in
     let these = candidates_at w c.args.places.now in
@@ -32,7 +32,7 @@ returns-in-GoOn-clause-some g c = λ clean is_open rests w tell same known.
     let mid = c.offer_each.new.conn in
     let last = c.offer_pages.new.conn in
     let read = c.offer_pages.ensures.reads in
-    let takes = OrSkips (IsCovered c.args.skip.now) g.T.Taker.takes in
+    let takes = OrSkips (IsCovered c.args.self.now.skip.now) g.T.Taker.takes in
     let old = c.args.taker.now in
     let now = c.offer_each.new.taker in
     let these = candidates_at w c.args.places.now in

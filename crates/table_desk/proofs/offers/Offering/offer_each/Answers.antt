@@ -8,11 +8,11 @@ use Rattle.sched_book.specs.Offers.{OrSkips}
 use Rattle.table_desk.specs.Pages.{candidates_at}
 use Rattle.table_desk.proofs.AskedOn.{asked_before, asked_after}
 use Rattle.table_desk.proofs.PagesOffered.{on_any, none_offered, one_more, one_passed}
-use Rattle.table_desk.proofs.offers.offer_each.Goals as goal
+use Rattle.table_desk.proofs.offers.Offering.offer_each.Goals as goal
 
 pub returns-in_err-offer_at-clause-some : goal.returns-in_err-offer_at-clause-some
 returns-in_err-offer_at-clause-some g c = λ clean is_open rests w tell same known.
-    let takes = OrSkips (IsCovered c.args.skip.now) g.T.Taker.takes in
+    let takes = OrSkips (IsCovered c.args.self.now.skip.now) g.T.Taker.takes in
     let old = c.args.taker.now in
     let now = c.loop-place.taker in
     let all = candidates_at w c.args.places.now in
@@ -32,7 +32,7 @@ loop-place-preserved g c =
     let read = c.offer_at.ensures.reads in (
       reads_on (state store first) (state store mid) (state store last) so_far read,
       λ clean is_open rests w tell same known more.
-          let takes = OrSkips (IsCovered c.args.skip.now) g.T.Taker.takes in
+          let takes = OrSkips (IsCovered c.args.self.now.skip.now) g.T.Taker.takes in
           let now = c.loop-place.taker in
           let new = c.offer_at.new.taker in
           let kept = asked_before store first mid last read c.loop-place.invariant.1 clean is_open rests w tell same known in
@@ -45,6 +45,6 @@ pub loop-place-preserved-then-is_skipped : goal.loop-place-preserved-then-is_ski
 loop-place-preserved-then-is_skipped g c = (
   c.loop-place.invariant.0,
   λ clean is_open rests w tell same known more.
-      one_passed (OrSkips (IsCovered c.args.skip.now) g.T.Taker.takes) w c.args.taker.now c.loop-place.taker c.args.places.now c.loop-place.place-index _ (candidates_at w c.args.places.now ++ more) more c.loop-place-test.true
+      one_passed (OrSkips (IsCovered c.args.self.now.skip.now) g.T.Taker.takes) w c.args.taker.now c.loop-place.taker c.args.places.now c.loop-place.place-index _ (candidates_at w c.args.places.now ++ more) more c.loop-place-test.true
       (c.is_skipped.ensures c.if-is_skipped.true) (c.loop-place.invariant.1 clean is_open rests w tell same known more),
 )
