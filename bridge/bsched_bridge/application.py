@@ -1,8 +1,9 @@
 """The WSGI application: it makes what answers messages, and what answers at each URL."""
+import atexit
 import logging
 from collections.abc import Callable, Iterable
 from pathlib import Path
-from wsgiref.types import StartResponse, WSGIEnvironment
+from wsgiref.types import StartResponse, WSGIApplication, WSGIEnvironment
 
 from werkzeug.exceptions import HTTPException
 from werkzeug.wrappers import Request, Response
@@ -41,7 +42,7 @@ from .scheduler import Scheduler
 from .scheduler_messages import SchedulerMessages
 from .scheduler_probe import SchedulerProbe
 from .settings import HostRules, Settings, read_settings
-from .state_file import StateFile
+from .state_file import StateFile, WaitingWrites
 from .statements import Statements
 from .team_pages import TeamPages
 from .teams import Teams
@@ -132,7 +133,7 @@ class Application:
         messages = AccountMessages(self.settings, self.accounts, self.scheduler, self.account_places)
         routes = [
             Route("", self.pages.project),
-            Route("cgi", self.requests.answer, ("POST",)),
+            Route("cgi", self.requests.answer, ("POST",), is_plain=True),
             Route("get_project_config.php", self._project_config),
             Route("lookup_account.php", messages.look_up, ("GET",)),
             Route("create_account.php", messages.create, ("GET",)),
@@ -192,9 +193,10 @@ class Application:
         """Returns a handler that answers messages of this machine alone."""
         field = self.settings.accounts.address_field if self.settings.accounts else None
 
-        def handle(message: Request) -> Response:
-            is_near = is_of_this_machine(message, field)
-            return handler(message) if is_near else self.pages.not_found(message)
+        def handle(message: Request) -> WSGIApplication:
+            if is_of_this_machine(message, field):
+                return handler(message)
+            return self.pages.not_found(message)
 
         return handle
 
@@ -202,12 +204,16 @@ class Application:
         """Answers a message (PEP 3333)."""
         return self._answer(environ)(environ, start_response)
 
-    def _answer(self, environ: WSGIEnvironment) -> Response:
-        """Returns the answer to a message."""
+    def _answer(self, environ: WSGIEnvironment) -> WSGIApplication:
+        """Returns what sends the answer to a message."""
         try:
+            route, values = self.routes.matched(environ)
+            if route is not None and route.is_plain:
+                return route.handler(environ)
             message = Message(environ, populate_request=False)
-            handler, values = self.routes.matched(message)
-            return self.pages.not_found(message) if handler is None else handler(message, **values)
+            if route is not None:
+                return route.handler(message, **values)
+            return self.pages.not_found(message)
         except HTTPException as fault:
             return plain_answer(fault)
         except Exception as error:
@@ -221,7 +227,7 @@ class Application:
 
 def new_application(path: Path) -> Application:
     """Returns the application of a settings file, with its state file. A thread sends open messages again in
-    the background.
+    the background, and another one writes what was put off.
     """
     settings = read_settings(path)
     if settings.is_without_addresses:
@@ -234,6 +240,8 @@ def new_application(path: Path) -> Application:
     application = Application(settings, catalogues.current, file, scheduler, rules.rules, store=store)
     resend_accounts = application.accounts.resend_open if application.accounts else None
     Resending(application.exchange, settings.retry_delay, resend_accounts).start()
+    WaitingWrites(file).start()
+    atexit.register(file.write_waiting)
     return application
 
 

@@ -7,15 +7,16 @@ lack: those of an answer that came when no client waited for it any more, and th
 import json
 import sqlite3
 import time
-from collections.abc import Callable, Iterable
+from collections.abc import Callable, Container, Iterable
 from dataclasses import dataclass, fields
+from operator import attrgetter
 from typing import cast
 
 from .barring import Barred
 from .credit_days import DAY, HOST_TABLE, MEMBER_TABLE, StoredDay
 from .hosts import COUNTED, MOST_NUMBER, Key, new_hostid
 from .members import first_heard, store_credit
-from .scheduler import Job, Reply
+from .scheduler import Job, Reply, members_of_job
 from .state_file import StateFile
 
 
@@ -57,6 +58,8 @@ ANSWERED = (
 )
 NUMBERED = "UPDATE host SET scheduler_hostid = ? WHERE authenticator = ? AND host_cpid = ?"
 JOB_MEMBERS = [member.name for member in fields(Job)]
+values_of_job = attrgetter(*JOB_MEMBERS)
+_written = json.JSONEncoder().encode
 # Open calls of accounts that the bridge does not know. Somebody may have made these accounts up, and each
 # call takes up to 262,144 bytes of the disk until bsched answers.
 MOST_OF_STRANGERS = 32
@@ -112,7 +115,12 @@ class KeyState:
     @property
     def jobs_in_hand(self) -> list[Job]:
         """The jobs that the client may lack."""
-        return [Job(**job) for job in json.loads(self.jobs_text)]
+        return self.jobs_but(())
+
+    def jobs_but(self, names: Container[str]) -> list[Job]:
+        """Returns the jobs that the client may lack, without those of some names."""
+        jobs = json.loads(self.jobs_text)
+        return [Job(*members_of_job(job)) for job in jobs if job["name"] not in names]
 
 
 @dataclass(frozen=True, slots=True)
@@ -156,7 +164,7 @@ def today() -> int:
 
 def text_of_jobs(jobs: Iterable[Job]) -> str:
     """Returns jobs as they are stored."""
-    return json.dumps([{name: getattr(job, name) for name in JOB_MEMBERS} for job in jobs])
+    return _written([dict(zip(JOB_MEMBERS, values_of_job(job))) for job in jobs])
 
 
 class CallNumbers:
@@ -167,6 +175,10 @@ class CallNumbers:
 
     def of_number(self, authenticator: str, hostid: int) -> KnownHost | None:
         """Returns the account's host with a number that a client was told."""
+        waiting = self.file.waiting((authenticator, hostid))
+        known = waiting.known_host() if isinstance(waiting, AnswerWrite) else None
+        if known is not None:
+            return known
         day = today()
         row = self.file.row(OF_NUMBER, day, authenticator, hostid)
         if row is None:
@@ -278,8 +290,8 @@ class CallNumbers:
             is_opened = connection.execute(OPENED_AS, values).rowcount == 1
         return call if is_opened else None
 
-    # A transaction that closes a call is not synced. If a power failure undoes it, the call is the last of
-    # its key. Sent again, it gets the answer that it had.
+    # A transaction that closes a call is not synced, or it is put off. If a power failure or a kill undoes
+    # it, the call is the last of its key. Sent again, it gets the answer that it had.
 
     def record_refusal(self, key: Key) -> None:
         """Closes the open call of a key after a refusal, so the call changed nothing. If bsched knows no host
@@ -303,34 +315,26 @@ class CallNumbers:
         jobs_in_hand: list[Job],
         state: KeyState | None = None,
         about: str | None = None,
+        seqno: int | None = None,
     ) -> None:
         """Closes the open call of a key after a reply. From now on these jobs are in hand. What the computer
         said of itself is stored, too, if it is known.
 
         The state of the key is what was read before the call. The account is inserted unless the state has
         it. Credit that the state has already is not written.
+
+        With the client's seqno the call was opened in that state, by open_as. If the bridge knows the
+        account, the write is put off then: it becomes part of the transaction that opens the next call.
         """
         if state is None:
             state = self.state(key)
         now = int(time.time())
-        values = (
-            text_of_jobs(jobs_in_hand),
-            reply.user_name,
-            reply.user_total_credit,
-            reply.host_total_credit,
-            now,
-            about,
-            key.authenticator,
-            key.host_cpid,
-            reply.hostid,
-        )
-        with self.file.transaction(is_synced=False) as connection:
-            is_stored = connection.execute(ANSWERED, values).rowcount == 1
-            if not is_stored:
-                store_number(connection, key, reply.hostid)
-                is_stored = connection.execute(ANSWERED, values).rowcount == 1
-            if is_stored:  # else the account was deleted just now
-                record_credit(connection, key, reply, state, now)
+        write = AnswerWrite(key, reply, text_of_jobs(jobs_in_hand), state, about, now, seqno)
+        if seqno is None or state.day is None or state.account is None:
+            with self.file.transaction(is_synced=False) as connection:
+                write(connection)
+        else:
+            self.file.put_off((key.authenticator, state.day.number), write)
 
     def give_hostid(self, key: Key) -> int | None:
         """Returns the number of a host, which its client gets with this reply. The host has one if a
@@ -358,6 +362,63 @@ class CallNumbers:
                 "UPDATE host SET jobs_in_hand = ? WHERE authenticator = ? AND host_cpid = ?",
                 (text_of_jobs(jobs), key.authenticator, key.host_cpid),
             )
+
+
+class AnswerWrite:
+    """What is stored of an answer to a host's call."""
+
+    __slots__ = ("_key", "_reply", "_jobs_text", "_state", "_about", "_now", "_seqno")
+
+    def __init__(
+        self,
+        key: Key,
+        reply: Reply,
+        jobs_text: str,
+        state: KeyState,
+        about: str | None,
+        now: int,
+        seqno: int | None,
+    ) -> None:
+        self._key, self._reply, self._jobs_text, self._state = key, reply, jobs_text, state
+        self._about, self._now, self._seqno = about, now, seqno
+
+    def known_host(self) -> KnownHost | None:
+        """Returns the host as it is after the answer, if that is known. Only then the write is put off."""
+        state, account, day = self._state, self._state.account, self._now // DAY
+        if self._seqno is None or state.day is None or account is None:
+            return None
+        credit, of_host = self._reply.user_total_credit, self._reply.host_total_credit
+        of_account = StoredDay(account.day.number, day, credit)
+        after = KeyState(
+            None,
+            self._jobs_text,
+            state.last_number + 1,
+            True,
+            StoredDay(state.day.number, day, of_host),
+            AccountState(account.name, account.team, account.preferences, credit, of_account),
+        )
+        return KnownHost(self._key, self._seqno, None, after)
+
+    def __call__(self, connection: sqlite3.Connection) -> None:
+        """Writes, within a transaction."""
+        key, reply = self._key, self._reply
+        values = (
+            self._jobs_text,
+            reply.user_name,
+            reply.user_total_credit,
+            reply.host_total_credit,
+            self._now,
+            self._about,
+            key.authenticator,
+            key.host_cpid,
+            reply.hostid,
+        )
+        is_stored = connection.execute(ANSWERED, values).rowcount == 1
+        if not is_stored:
+            store_number(connection, key, reply.hostid)
+            is_stored = connection.execute(ANSWERED, values).rowcount == 1
+        if is_stored:  # else the account was deleted just now
+            record_credit(connection, key, reply, self._state, self._now)
 
 
 def store_number(connection: sqlite3.Connection, key: Key, number: int) -> None:

@@ -5,7 +5,9 @@ volunteers are in the language that the request asks for. The client acts on non
 """
 import copy
 import logging
+from collections.abc import Callable
 from dataclasses import dataclass
+from functools import partial
 from xml.etree.ElementTree import Element, SubElement, indent, tostring
 
 from .catalogue import App, Catalogue, MissingFile, StoredFile, Version, Work
@@ -120,6 +122,7 @@ class ReplyWriter:
     def _set_catalogue(self, catalogue: Catalogue) -> None:
         """Writes replies with this catalogue from now on."""
         self.catalogue, self._key = catalogue, without_blanks(catalogue.code_sign_key)
+        self._lines: dict[tuple[str | int, ...], list[str]] = {}
 
     def with_catalogue(self, catalogue: Catalogue) -> "ReplyWriter":
         """Returns a writer of the same project with this catalogue."""
@@ -128,6 +131,17 @@ class ReplyWriter:
         writer = copy.copy(self)
         writer._set_catalogue(catalogue)
         return writer
+
+    def _once(
+        self, xml: XmlLines, key: tuple[str | int, ...], add: Callable[[XmlLines], None], level: int = 1
+    ) -> None:
+        """Adds lines that replies have as long as the catalogue stays the same. They are written once."""
+        lines = self._lines.get(key)
+        if lines is None:
+            written = XmlLines("scheduler_reply", level)
+            add(written)
+            lines = self._lines[key] = written.inner_lines()
+        xml.add_lines(lines)
 
     def _begun(self, delay: int) -> XmlLines:
         """Returns what each reply begins with."""
@@ -192,7 +206,9 @@ class ReplyWriter:
         change of the key.
         """
         if not has:
-            xml.add("code_sign_key", "\n" + self.catalogue.code_sign_key)
+            self._once(
+                xml, ("key",), lambda one: one.add("code_sign_key", "\n" + self.catalogue.code_sign_key)
+            )
         elif has != self._key:
             xml.add_message(language.text(KEY_CHANGED), "notice")
 
@@ -215,9 +231,12 @@ class ReplyWriter:
                 lacks = gettext_lazy("The project lacks a file for the job %(name)s.", name=job.name)
                 xml.add_message(language.text(lacks), "low")
         for app in apps.values():
-            self._add_app(xml, app)
+            self._once(xml, ("app", app.name), partial(self._add_app, app))
         for needed in files.values():
-            self._add_file(xml, needed)
+            if needed.signature is None:  # an input file, of which there may be one for each workunit
+                self._add_file(needed, xml)
+            else:
+                self._once(xml, ("file", needed.file.name), partial(self._add_file, needed))
         for version in versions.values():
             self._add_version(xml, version, request)
         workunits = set()
@@ -249,13 +268,13 @@ class ReplyWriter:
             files.setdefault(file.name, NeededFile(file, None, False))
         return app, work
 
-    def _add_app(self, xml: XmlLines, app: App) -> None:
+    def _add_app(self, app: App, xml: XmlLines) -> None:
         """Adds an application."""
         with xml.inside("app"):
             xml.add("name", app.name)
             xml.add("user_friendly_name", app.title)
 
-    def _add_file(self, xml: XmlLines, needed: NeededFile) -> None:
+    def _add_file(self, needed: NeededFile, xml: XmlLines) -> None:
         """Adds a file that the client downloads."""
         file = needed.file
         with xml.inside("file_info"):
@@ -282,14 +301,19 @@ class ReplyWriter:
             else:
                 xml.add("avg_ncpus", 1)
                 xml.add("flops", request.p_fpops)
-            for item in version.files:
-                with xml.inside("file_ref"):
-                    xml.add("file_name", item.file.name)
-                    if item.open_name is not None:
-                        xml.add("open_name", item.open_name)
-                        xml.add("copy_file", 1)
-                    if item.is_main_program:
-                        xml.add("main_program", 1)
+            key = "version", version.app, version.platform, version.number
+            self._once(xml, key, partial(self._add_version_files, version), level=2)
+
+    def _add_version_files(self, version: Version, xml: XmlLines) -> None:
+        """Adds what a version says of its files."""
+        for item in version.files:
+            with xml.inside("file_ref"):
+                xml.add("file_name", item.file.name)
+                if item.open_name is not None:
+                    xml.add("open_name", item.open_name)
+                    xml.add("copy_file", 1)
+                if item.is_main_program:
+                    xml.add("main_program", 1)
 
     def _add_plan_class(self, xml: XmlLines, one: PlanClass, request: ClientRequest) -> None:
         """Adds what a plan class says about a version on the client's host."""

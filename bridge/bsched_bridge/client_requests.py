@@ -45,6 +45,7 @@ UNUSED = [
     )
 ]
 MOST_NUMBER, NO_NUMBER = 10**18, Decimal("nan")
+MOST_DIGITS = 18  # of a number that is read at once; the others are read as decimals
 MOST_SECONDS = 10**9
 MOST_PLATFORMS = 7
 MOST_COPROCS = 16  # types of coprocessors of a host
@@ -144,8 +145,13 @@ class Fields:
         element = self._elements.get(name)
         if element is None:
             return absent
+        text = (element.text or "").strip()
+        front, _, rest = text.partition(".")
+        if text.isascii() and front.isdigit() and (rest.isdigit() or not rest) and len(front) <= MOST_DIGITS:
+            whole = int(front) + (up and bool(rest.strip("0")))
+            return min(max(whole, least), most)
         try:
-            number = Decimal((element.text or "").strip())
+            number = Decimal(text)
         except InvalidOperation:
             number = NO_NUMBER
         if number.is_nan():
@@ -368,6 +374,6 @@ def read_request(blocks: Iterable[bytes]) -> ClientRequest:
         p_ncpus=max(1, p_ncpus),
         cpu_req_secs=fields.whole("cpu_req_secs", 0, MOST_SECONDS, seconds, up=True),
         coprocs=coprocs,
-        about=described(root, p_ncpus, m_nbytes, d_free, p_fpops, shown),
+        about=described(fields, host, p_ncpus, m_nbytes, d_free, p_fpops, shown),
         preferences_time=preferences_time(root),
     )

@@ -2,7 +2,7 @@
 import json
 from collections.abc import Sequence
 from dataclasses import dataclass, field, fields
-from xml.etree.ElementTree import Element
+from typing import Protocol
 
 MOST_TEXT = 80  # characters of each text
 MOST_COPROCS = 4
@@ -13,6 +13,8 @@ _written = json.JSONEncoder(ensure_ascii=False, separators=(",", ":")).encode
 
 def one_line(text: str) -> str:
     """Returns a text on one line, without what can't be seen, and not longer than it may be."""
+    if len(text) <= MOST_TEXT and "  " not in text and text.isprintable():
+        return text.strip()
     front = text[: 4 * MOST_TEXT]
     if not front.isprintable():
         front = "".join(one if one.isprintable() else " " for one in front)
@@ -45,20 +47,31 @@ def read_description(text: str | None) -> Description:
     return Description(**json.loads(text)) if text else Description()
 
 
+class Texts(Protocol):
+    """Texts by name, such as those of the elements in an element."""
+
+    def text(self, name: str) -> str | None:
+        """Returns a text without blanks around it, or None."""
+
+
 def described(
-    root: Element, processors: int, memory: int, disk: int, speed: int, coprocessors: Sequence[str]
+    request: Texts,
+    host: Texts,
+    processors: int,
+    memory: int,
+    disk: int,
+    speed: int,
+    coprocessors: Sequence[str],
 ) -> str:
-    """Returns what a request says of its computer, for the state file. Some models of processors begin with
-    their vendor.
+    """Returns what a request and its host_info say of the computer, for the state file. Some models of
+    processors begin with their vendor.
     """
-    host = root.find("host_info")
-    texts = {} if host is None else {one.tag: one.text or "" for one in host}
-    vendor, model = one_line(texts.get("p_vendor", "")), one_line(texts.get("p_model", ""))
+    vendor, model = one_line(host.text("p_vendor") or ""), one_line(host.text("p_model") or "")
     return Description(
         model if model.lower().startswith(vendor.lower()) else one_line(f"{vendor} {model}"),
         processors,
-        one_line(f"{texts.get('os_name', '')} {texts.get('os_version', '')}"),
-        one_line(".".join(filter(None, ((root.findtext(tag) or "").strip() for tag in VERSION)))),
+        one_line(f"{host.text('os_name') or ''} {host.text('os_version') or ''}"),
+        one_line(".".join(filter(None, map(request.text, VERSION)))),
         memory,
         disk,
         speed,

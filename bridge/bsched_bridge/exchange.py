@@ -427,7 +427,7 @@ class Exchange:
         if self._is_made_up(key, state):
             return put_off_by(Refusal("bad_account"))
         listed = {*(request.other_results or ()), *names_of(request.results)}
-        in_hand = [job for job in state.jobs_in_hand if job.name not in listed]
+        in_hand = state.jobs_but(listed)
         names, seconds = [job.name for job in in_hand], sum(job.estimate for job in in_hand)
 
         def text(number: int) -> bytes:
@@ -439,11 +439,12 @@ class Exchange:
             call = self._open_call(key, text, last, client, None if is_sure else state)
             if isinstance(call, PutOff):
                 return call
+            seqno = None if is_sure else client.seqno
             is_sure = True  # nobody else changes the state from now on
             answer = self._answer(key, call)
             if isinstance(answer, Reply):
                 jobs = [] if request.other_results is None else answer.results
-                self.numbers.record_answer(key, answer, jobs, state, request.about)
+                self.numbers.record_answer(key, answer, jobs, state, request.about, seqno)
                 self.counted.record(key, request.results, answer.result_ack)
                 return shown(answer, state.account, in_hand)
             refusal = answer

@@ -17,6 +17,7 @@ from collections.abc import Mapping
 from dataclasses import dataclass, field
 from functools import lru_cache
 from pathlib import Path
+from wsgiref.types import WSGIEnvironment
 
 from werkzeug.datastructures import LanguageAccept
 from werkzeug.http import parse_accept_header
@@ -128,7 +129,12 @@ def preferred(header: str) -> Language:
     return ENGLISH
 
 
-def language_of(message: Request) -> Language:
+def asked_language(environ: WSGIEnvironment) -> Language:
     """Returns the language that a message asks for. BOINC's client sends the Manager's, such as `de_DE`."""
-    header = message.environ.get("HTTP_ACCEPT_LANGUAGE", "")
+    header = environ.get("HTTP_ACCEPT_LANGUAGE", "")
     return preferred(header) if len(header) <= MOST_HEADER else ENGLISH
+
+
+def language_of(message: Request) -> Language:
+    """Returns the same for a message as Werkzeug has it."""
+    return asked_language(message.environ)

@@ -3,8 +3,7 @@ import ipaddress
 import threading
 import time
 from collections import OrderedDict
-from collections.abc import Callable, Hashable, Iterator
-from contextlib import contextmanager, nullcontext
+from collections.abc import Callable, Hashable
 
 MOST_KEYS = 100_000
 
@@ -19,16 +18,41 @@ class Places:
     def __init__(self, most: int, of: "Places | None" = None) -> None:
         self._places, self._of = threading.BoundedSemaphore(most), of
 
-    @contextmanager
-    def taken(self, wait_seconds: float = 0) -> Iterator[None]:
+    def taken(self, wait_seconds: float = 0) -> "TakenPlace":
         """Takes a place for the block. If none is free, it waits for this many seconds at most."""
+        return TakenPlace(self, wait_seconds)
+
+    def take(self, wait_seconds: float) -> None:
+        """Takes a place. Raises NoPlace."""
         if not self._places.acquire(timeout=wait_seconds):
             raise NoPlace
         try:
-            with self._of.taken(wait_seconds) if self._of is not None else nullcontext():
-                yield
-        finally:
+            if self._of is not None:
+                self._of.take(wait_seconds)
+        except BaseException:
             self._places.release()
+            raise
+
+    def give_back(self) -> None:
+        """Gives a place back."""
+        if self._of is not None:
+            self._of.give_back()
+        self._places.release()
+
+
+class TakenPlace:
+    """A place that is taken for a block."""
+
+    __slots__ = ("_places", "_wait_seconds")
+
+    def __init__(self, places: Places, wait_seconds: float) -> None:
+        self._places, self._wait_seconds = places, wait_seconds
+
+    def __enter__(self) -> None:
+        self._places.take(self._wait_seconds)
+
+    def __exit__(self, *_fault: object) -> None:
+        self._places.give_back()
 
 
 class RecentCounts:

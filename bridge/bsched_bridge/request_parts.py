@@ -64,8 +64,8 @@ class Parts:
 
     def xml(self) -> Iterator[bytes]:
         """Yields what the parser reads, in pieces. Raises RequestFault if it is too long."""
-        decoder = codecs.getincrementaldecoder("utf-8")("replace")
-        length, errors, is_ascii = 0, 0, True
+        decoder: codecs.IncrementalDecoder | None = None  # from the first byte beyond ASCII on
+        length, errors = 0, 0
         for piece in self._pieces():
             if piece is None:
                 errors += 1
@@ -73,8 +73,8 @@ class Parts:
                     raise RequestFault("the request has too many results")
                 yield self._error()
                 continue
-            is_ascii = is_ascii and piece.isascii()
-            if not is_ascii:  # a character may go on in the next piece
+            if decoder is not None or not piece.isascii():  # a character may go on in the next piece
+                decoder = decoder or codecs.getincrementaldecoder("utf-8")("replace")
                 plain = decoder.decode(piece).replace("\ufffe", "\ufffd").replace("\uffff", "\ufffd")
                 piece = plain.encode()
             text = piece.translate(TO_QUESTION_MARKS)
@@ -111,9 +111,14 @@ class Parts:
                 self._waiting.clear()
                 return
             self._waiting += block
+        yield self._taken(found)
+
+    def _taken(self, found: re.Match[bytes]) -> bytes:
+        """Returns what is before a place that was found, and skips the place."""
         self._found = found[0]
-        yield bytes(self._waiting[: found.start()])
+        front = bytes(self._waiting[: found.start()])
         del self._waiting[: found.end()]
+        return front
 
     def _error(self) -> bytes:
         """Reads a standard error, and returns the element with its output for the parser."""
@@ -129,6 +134,9 @@ class Parts:
 
     def _short(self, pattern: re.Pattern[bytes]) -> bytes:
         """Returns what is before the next place at which a pattern fits."""
+        found = pattern.search(self._waiting, 0, MOST_ERROR)
+        if found is not None:
+            return self._taken(found)
         pieces, length = [], 0
         for piece in self._before(pattern):
             pieces.append(piece)

@@ -2,12 +2,12 @@
 from collections.abc import Callable, Iterable
 from dataclasses import dataclass
 from typing import Any
+from wsgiref.types import WSGIApplication, WSGIEnvironment
 
 from werkzeug.exceptions import NotFound
 from werkzeug.routing import BaseConverter, Map, RequestRedirect, Rule
-from werkzeug.wrappers import Request, Response
 
-Handler = Callable[..., Response]
+Handler = Callable[..., WSGIApplication]  # takes a message, and returns what sends the answer
 READ = ("GET", "HEAD")
 FORMS = ("GET", "HEAD", "POST")
 
@@ -29,6 +29,7 @@ class Route:
     path: str
     handler: Handler
     methods: tuple[str, ...] = READ
+    is_plain: bool = False  # whether it takes a message as the server gives it, and not as Werkzeug's request
 
     def rule(self) -> Rule:
         """Returns the rule. Werkzeug would allow HEAD with each GET, but some of them write."""
@@ -42,9 +43,9 @@ class Routes:
 
     def __init__(self, path: str, routes: Iterable[Route]) -> None:
         found = list(routes)
-        self._path, self._handlers = path, {route.path: route.handler for route in found}
+        self._path, self._routes = path, {route.path: route for route in found}
         self._without_values = {
-            (f"{path}{route.path}", method): route.handler
+            (f"{path}{route.path}", method): route
             for route in found
             if "<" not in route.path
             for method in route.methods
@@ -53,15 +54,15 @@ class Routes:
         urls = Map(rules, converters={"number": Number}, merge_slashes=False, redirect_defaults=False)
         self._urls = urls.bind("bridge")
 
-    def matched(self, message: Request) -> tuple[Handler | None, dict[str, Any]]:
-        """Returns what answers a message, and the values in its path; None for a path of the project that
+    def matched(self, environ: WSGIEnvironment) -> tuple[Route | None, dict[str, Any]]:
+        """Returns the route of a message, and the values in its path; None for a path of the project that
         does not exist. Raises NotFound for a path elsewhere, and MethodNotAllowed.
         """
-        path = message.environ.get("SCRIPT_NAME", "") + message.environ.get("PATH_INFO", "")
-        method = message.environ["REQUEST_METHOD"]
-        handler = self._without_values.get((path, method))
-        if handler is not None:
-            return handler, {}
+        path = environ.get("SCRIPT_NAME", "") + environ.get("PATH_INFO", "")
+        method = environ["REQUEST_METHOD"]
+        route = self._without_values.get((path, method))
+        if route is not None:
+            return route, {}
         if not path.startswith(self._path):
             raise NotFound
         name = path.removeprefix(self._path)
@@ -72,4 +73,4 @@ class Routes:
             endpoint, values = self._urls.match(f"/{name}", method if method.isupper() else "NONE")
         except (NotFound, RequestRedirect):
             return None, {}
-        return self._handlers[endpoint], dict(values)
+        return self._routes[endpoint], dict(values)

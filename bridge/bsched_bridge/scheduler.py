@@ -5,9 +5,8 @@ import json
 import logging
 import threading
 import time
-from collections.abc import Iterator
-from contextlib import contextmanager
 from dataclasses import dataclass, field, fields
+from operator import itemgetter
 from typing import Any, NoReturn
 
 from .scheduler_connection import FaultyAnswer, exchanged, message_of
@@ -23,6 +22,7 @@ SLOW_SECONDS = 1.0  # after which a message has waited for long; an answer takes
 NO_HOST = 2**31 - 1  # no host has this number: there are at most 100,000
 MOST_ANSWER = 16 * 1024 * 1024  # bytes
 
+_read = json.JSONDecoder().decode
 log = logging.getLogger(__name__)
 
 
@@ -77,20 +77,17 @@ class Refusal:
     members: dict[str, Any] = field(default_factory=dict)
 
 
-REPLY_MEMBERS = frozenset(member.name for member in fields(Reply)) - {"team_name", "preferences"}
-JOB_MEMBERS = frozenset(member.name for member in fields(Job))
-
-
-def known_members(response: dict[str, Any], known: frozenset[str]) -> dict[str, Any]:
-    """Returns the members that the bridge knows. A newer bsched may send more of them."""
-    return {name: value for name, value in response.items() if name in known}
+# The members that the bridge knows, in the order of the fields. A newer bsched may send more of them.
+members_of_job = itemgetter(*(member.name for member in fields(Job)))
+members_of_reply = itemgetter(
+    *(member.name for member in fields(Reply) if member.name not in ("team_name", "preferences"))
+)
 
 
 def read_reply(response: dict[str, Any]) -> Reply:
     """Returns the reply in a JSON object. Raises KeyError or TypeError if a member is missing."""
-    jobs = [Job(**known_members(job, JOB_MEMBERS)) for job in response["results"]]
-    members: dict[str, Any] = {**known_members(response, REPLY_MEMBERS), "results": jobs}
-    return Reply(**members)
+    jobs = [Job(*members_of_job(job)) for job in response["results"]]
+    return Reply(*members_of_reply({**response, "results": jobs}))
 
 
 def read_refusal(status: int, body: object) -> Refusal:
@@ -133,9 +130,10 @@ class Scheduler:
         is_old = oldest is not None and time.monotonic() - oldest > SLOW_SECONDS
         return is_old or self.silent_since is not None
 
-    @contextmanager
-    def _waiting(self) -> Iterator[None]:
-        """Counts a message that waits for its answer. Raises Hung if no message is to be sent now."""
+    def _begin_to_wait(self) -> tuple[int, bool]:
+        """Counts a message that waits for its answer. Returns its number, and whether it shows whether bsched
+        answers again. Raises Hung if no message is to be sent now.
+        """
         with self._lock:
             now, is_probe = time.monotonic(), self._hung_until is not None
             if self._hung_until is not None and (self._is_probed or now < self._hung_until):
@@ -143,12 +141,13 @@ class Scheduler:
             self._is_probed = is_probe
             number = max(self._began, default=0) + 1
             self._began[number] = now
-        try:
-            yield
-        finally:
-            with self._lock:
-                del self._began[number]
-                self._is_probed = self._is_probed and not is_probe
+        return number, is_probe
+
+    def _end_to_wait(self, number: int, is_probe: bool) -> None:
+        """Counts a message no more."""
+        with self._lock:
+            del self._began[number]
+            self._is_probed = self._is_probed and not is_probe
 
     def message(
         self, method: str, path: str, body: bytes | None = None, fields: dict[str, str] | None = None
@@ -157,10 +156,13 @@ class Scheduler:
         has none.
         """
         try:
-            with self._waiting():
+            number, is_probe = self._begin_to_wait()
+            try:
                 if not self._is_checked:
                     self._check_key()
                 status, answer = self._exchange(method, path, body, fields or {})
+            finally:
+                self._end_to_wait(number, is_probe)
             if len(answer) > MOST_ANSWER:
                 self._refuse_too_long(method, path)
             if status >= 500:
@@ -226,7 +228,7 @@ class Scheduler:
         """Sends a call once, and returns the answer."""
         status, answer = self.message("POST", "/scheduler", body, {"content-type": "application/json"})
         try:
-            response = json.loads(answer)
+            response = _read(answer.decode())
             if status == 200:
                 return read_reply(response)
         except (ValueError, KeyError, TypeError, AttributeError):

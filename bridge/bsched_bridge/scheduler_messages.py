@@ -3,15 +3,15 @@ import time
 from collections.abc import Callable, Iterable
 
 from werkzeug.exceptions import HTTPException
-from werkzeug.wrappers import Request, Response
+from wsgiref.types import WSGIEnvironment
 
 from .catalogue import Catalogue
 from .client_replies import ReplyWriter
 from .client_requests import MOST_BYTES, ClientRequest, read_request
 from .exchange import HOUR, TOO_BUSY, Exchange, PutOff
-from .http_messages import XML, answer, blocks_of, length_of
+from .http_messages import XmlAnswer, blocks_of, length_of
 from .key_locks import Busy, KeyLocks
-from .languages import gettext_lazy, language_of
+from .languages import asked_language, gettext_lazy
 from .limits import NoPlace, Places
 from .measurements import Calls, End
 from .recent_credit import Recent, RecentCredit
@@ -21,6 +21,7 @@ from .request_parts import RequestFault
 LARGE_BYTES, LARGE_SECONDS = 256 * 1024, 5.0
 # A call that finds no other thread free waits for so long, but not if bsched gives no answer.
 PLACE_SECONDS = 0.5
+LOOK_AGAIN_SECONDS = 0.05  # during which the catalogue that a call began with is good enough for its jobs
 
 
 class RequestReader:
@@ -55,25 +56,25 @@ class SchedulerMessages:
         self.recent, self.places, self.calls = recent, places, calls or Calls()
         self.reader = RequestReader()
 
-    def answer(self, message: Request) -> Response:
+    def answer(self, environ: WSGIEnvironment) -> XmlAnswer:
         """Answers a scheduler_request, and counts it."""
         end, began = End.FAILED, time.perf_counter()
         try:
-            response, end = self._answered(message)
-            return response
+            body, end = self._answered(environ, began)
+            return XmlAnswer(body)
         except HTTPException:
             end = End.UNREADABLE
             raise
         finally:
             self.calls.record(end, time.perf_counter() - began)
 
-    def _answered(self, message: Request) -> tuple[Response, End]:
+    def _answered(self, environ: WSGIEnvironment, began: float) -> tuple[bytes, End]:
         """Returns the answer to a scheduler_request, and how the call ends. The client always gets a
         scheduler_reply. Of a request that is refused the rest is read, too: a proxy may not read the answer
         before.
         """
-        length, language = length_of(message, MOST_BYTES), language_of(message)
-        blocks = blocks_of(message, length)
+        length, language = length_of(environ, MOST_BYTES), asked_language(environ)
+        blocks = blocks_of(environ, length)
         try:
             with self.places.taken(0.0 if self.exchange.scheduler.is_slow else PLACE_SECONDS):
                 asked = self.reader.read(blocks, length)
@@ -89,14 +90,14 @@ class SchedulerMessages:
         for _ in blocks:
             pass
         if isinstance(answered, PutOff):
-            return answer(XML, self.writer.put_off(answered, language)), answered.end
+            return self.writer.put_off(answered, language), answered.end
         reply = answered.reply
         recent = self._recent(request.authenticator, reply.hostid)
-        if reply.results:
+        if reply.results and time.perf_counter() - began > LOOK_AGAIN_SECONDS:
             catalogue = self.catalogue()  # it may have been edited meanwhile
         self.writer = writer = self.writer.with_catalogue(catalogue)
         body = writer.reply(request, reply, answered.hostid, answered.notice, recent, language)
-        return answer(XML, body), End.ANSWERED
+        return body, End.ANSWERED
 
     def _recent(self, authenticator: str, scheduler_hostid: int) -> Recent | None:
         """Returns the recent average credit that a reply has; None if the operator has no file of it."""

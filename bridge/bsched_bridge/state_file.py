@@ -6,11 +6,15 @@ calls, `members` the accounts, `barring` those whose computers are refused, `cre
 
 One bridge has the file: it holds the lock file next to it. Commands of the operator work on the file while
 the bridge serves it; each of their transactions takes a part of a second.
+
+A write can be put off until the next transaction. Until then it is in memory, and a kill undoes it.
 """
 import fcntl
+import logging
 import os
 import sqlite3
 import threading
+from collections.abc import Callable, Hashable
 from pathlib import Path
 
 # the name of the format, in the file's header: "bscb"
@@ -149,9 +153,14 @@ UPGRADES = {
     6: PREFERENCES,
 }
 BUSY_SECONDS = 10.0  # for a transaction of another process
+PUT_OFF_SECONDS = 1.0  # for which a write is put off at most, while WaitingWrites runs
 
 
 SPOILED = 'it is spoiled or no state file: see docs/VOLUNTEERS.md, "The state file"'
+
+Write = Callable[[sqlite3.Connection], None]  # writes, within a transaction
+
+log = logging.getLogger(__name__)
 
 
 class StateFault(Exception):
@@ -189,6 +198,9 @@ class StateFile:
         self._is_synced: bool | None = None  # whether SQLite syncs a commit now; None: as it does by default
         self._look_lock = threading.Lock()
         self._looking: sqlite3.Connection | None = None
+        # the writes that wait for a transaction, and those in the one that runs
+        self._waiting: dict[Hashable, Write] = {}
+        self._written: dict[Hashable, Write] = {}
         try:
             if is_guest:
                 path.stat()
@@ -249,22 +261,61 @@ class StateFile:
                 self._connection.execute(f"PRAGMA synchronous = {'FULL' if is_synced else 'NORMAL'}")
                 self._is_synced = is_synced
             self._connection.execute("BEGIN IMMEDIATE")
+            if self._waiting:
+                self._write_waiting()
         except BaseException:
             self._lock.release()
             raise
         return self._connection
 
+    def _write_waiting(self) -> None:
+        """Does what was put off, in a transaction that has begun. If that fails, it is forgotten."""
+        for key in list(self._waiting):
+            self._written[key] = self._waiting[key]
+            del self._waiting[key]
+        try:
+            for write in self._written.values():
+                write(self._connection)
+        except BaseException:
+            self._written = {}
+            self._connection.execute("ROLLBACK")
+            raise
+
     def end(self, is_good: bool) -> None:
-        """Commits or undoes the transaction."""
+        """Commits or undoes the transaction. What was put off before waits again if it was undone with it."""
         try:
             if is_good:
                 self._connection.execute("COMMIT")
+                self._written = {}
         finally:
             try:
                 if self._connection.in_transaction:
                     self._connection.execute("ROLLBACK")
             finally:
+                for key, write in self._written.items():
+                    self._waiting.setdefault(key, write)
+                self._written = {}
                 self._lock.release()
+
+    def put_off(self, key: Hashable, write: Write) -> None:
+        """Puts the write of a key off until the next transaction, or until somebody reads the file by this
+        connection.
+        """
+        self._waiting[key] = write
+
+    def waiting(self, key: Hashable) -> Write | None:
+        """Returns the write of a key that was put off."""
+        return self._waiting.get(key) or self._written.get(key)
+
+    def write_waiting(self) -> None:
+        """Does what was put off. If it can't be done, a line in the log says so."""
+        if not self._waiting:
+            return
+        try:
+            with self.transaction(is_synced=False):
+                pass
+        except sqlite3.Error as error:
+            log.error("what was put off could not be stored: %s", error)
 
     def row(self, statement: str, *values: object) -> tuple[object, ...] | None:
         """Returns the first row of a query."""
@@ -273,11 +324,13 @@ class StateFile:
 
     def rows(self, statement: str, *values: object) -> list[tuple[object, ...]]:
         """Returns the rows of a query."""
+        self.write_waiting()
         with self._lock:
             return self._connection.execute(statement, values).fetchall()
 
     def looked(self, statement: str, *values: object) -> list[tuple[object, ...]]:
         """Returns the rows of a query for a page. Calls don't wait for it, even if it takes long."""
+        self.write_waiting()
         with self._look_lock:
             if self._looking is None:
                 raise sqlite3.ProgrammingError("the file is closed")
@@ -285,6 +338,7 @@ class StateFile:
 
     def close(self) -> None:
         """Closes the file."""
+        self.write_waiting()
         with self._look_lock:
             if self._looking is not None:
                 self._looking.close()
@@ -302,6 +356,7 @@ class StateFile:
 
     def backup(self, target: Path) -> None:
         """Copies the file as it is at one moment into a new file. Others can go on writing meanwhile."""
+        self.write_waiting()
         with self._lock:
             copy = sqlite3.connect(target, isolation_level=None)
             try:
@@ -309,6 +364,25 @@ class StateFile:
                 copy.execute("PRAGMA journal_mode = DELETE").fetchall()
             finally:
                 copy.close()
+
+
+class WaitingWrites(threading.Thread):
+    """A thread that does what was put off, each second until it is ended."""
+
+    def __init__(self, file: StateFile) -> None:
+        super().__init__(name="waiting writes", daemon=True)
+        self._file, self._ending = file, threading.Event()
+
+    def run(self) -> None:
+        """Writes until it is ended."""
+        while not self._ending.wait(PUT_OFF_SECONDS):
+            self._file.write_waiting()
+
+    def end(self) -> None:
+        """Ends the thread, after what was put off."""
+        self._ending.set()
+        self.join()
+        self._file.write_waiting()
 
 
 class Transaction:

@@ -130,7 +130,7 @@ class Uploads:
         """Answers a message. It never has a status of HTTP from 400 on for what a client sends: the client
         would try again, for 90 days.
         """
-        length, stream = length_of(message), message.environ["wsgi.input"]
+        length, stream = length_of(message.environ), message.environ["wsgi.input"]
         language = language_of(message)
         begin = stream.read(min(length, MOST_HEAD))
         try:

@@ -19,9 +19,9 @@ def escaped(text: str) -> str:
 class XmlLines:
     """An element while it is written."""
 
-    def __init__(self, name: str) -> None:
+    def __init__(self, name: str, level: int = 1) -> None:
         self._lines: list[str] = [f"<{name}>"]
-        self._indent = INDENT
+        self._indent = level * INDENT  # of what is in it
         self._names = [name]  # of the elements that are not ended yet
 
     def add(self, name: str, value: str | int) -> None:

@@ -83,7 +83,10 @@ class Bridge:
         self.members: Any = self.application.members
 
     def restart(self) -> None:
-        """Starts the bridge again from what is on the disk."""
+        """Kills the bridge, which loses the writes that it put off, and starts it again from what is on the
+        disk.
+        """
+        self.file._waiting.clear()
         self.close()
         self.start()
 

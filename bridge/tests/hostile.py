@@ -16,7 +16,7 @@ sys.path[:0] = [str(Path(__file__).resolve().parent.parent)]
 
 from bsched_bridge.calls import call_text  # noqa: E402
 from bsched_bridge.client_requests import MOST_BYTES  # noqa: E402
-from bsched_bridge.http_messages import Message, blocks_of  # noqa: E402
+from bsched_bridge.http_messages import blocks_of  # noqa: E402
 from bsched_bridge.key_locks import Busy  # noqa: E402
 from bsched_bridge.request_parts import RequestFault  # noqa: E402
 from bsched_bridge.scheduler_messages import LARGE_BYTES, RequestReader  # noqa: E402
@@ -109,7 +109,7 @@ def read(reader: RequestReader, shape: str) -> str:
     """Reads a request, and writes its call. Returns what came of it."""
     body = Body(shape)
     try:
-        request = reader.read(blocks_of(Message({"wsgi.input": body}), body.length), body.length)
+        request = reader.read(blocks_of({"wsgi.input": body}, body.length), body.length)
     except (RequestFault, Busy) as fault:
         return type(fault).__name__
     call_text(request, "c", 1, [], 0)

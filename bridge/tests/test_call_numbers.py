@@ -155,6 +155,73 @@ def test_what_a_computer_says_of_itself_stays_if_a_call_is_sent_again(numbers: C
     assert numbers.file.row("SELECT about FROM host") == ('{"processors":2}',)
 
 
+def answered_host(numbers: CallNumbers) -> int:
+    """Makes a host with a number, and returns the number."""
+    numbers.open(KEY, lambda number: b"call")
+    numbers.record_answer(KEY, reply(), [JOB])
+    return numbers.give_hostid(KEY) or 0
+
+
+def answered(numbers: CallNumbers, hostid: int, credit: int, jobs: list[Job], seqno: int) -> None:
+    """Opens the next call of that host, and records its answer, which is put off."""
+    known = numbers.of_number("ann-key", hostid)
+    assert known is not None
+    assert numbers.open_as(KEY, known.state, lambda number: b"call", ClientState(seqno=seqno))
+    answer = replace(reply(), user_total_credit=credit, host_total_credit=credit)
+    numbers.record_answer(KEY, answer, jobs, known.state, "{}", seqno)
+
+
+@pytest.mark.parametrize("credit", [5, 8])
+@pytest.mark.parametrize("jobs", [[], [JOB]])
+def test_an_answer_that_is_put_off(numbers: CallNumbers, today: None, credit: int, jobs: list[Job]) -> None:
+    """The bridge knows the host as it is after the answer, and so do all who read the file."""
+    hostid = answered_host(numbers)
+    for seqno in (1, 2):
+        answered(numbers, hostid, credit, jobs, seqno)
+        known = numbers.of_number("ann-key", hostid)
+        assert known is not None and known.client_seqno == seqno
+        assert numbers.file.waiting(("ann-key", hostid)) is not None
+    numbers.file.write_waiting()
+    assert numbers.file.waiting(("ann-key", hostid)) is None
+    assert numbers.of_number("ann-key", hostid) == known
+    assert CreditDays(numbers.file).of_host(hostid) == [CreditDay(TODAY, credit)]
+    assert numbers.file.row("SELECT credit, about FROM member, host") == (credit, "{}")
+
+
+def test_an_answer_that_is_put_off_is_in_the_next_transaction(numbers: CallNumbers, today: None) -> None:
+    hostid = answered_host(numbers)
+    answered(numbers, hostid, 8, [], 1)
+    assert numbers.open(Key("ann-key", "c2"), lambda number: b"call") == b"call"
+    assert numbers.file.waiting(("ann-key", hostid)) is None
+    assert numbers.state(KEY).open_call is None and not numbers.state(KEY).jobs_in_hand
+
+
+def test_an_answer_that_is_lost_before_it_is_stored(numbers: CallNumbers, today: None) -> None:
+    """Its call is still there, and is sent again."""
+    hostid = answered_host(numbers)
+    answered(numbers, hostid, 8, [], 1)
+    numbers.file._waiting.clear()  # as a kill does
+    assert numbers.next_open(FIRST_KEY) == KEY
+    assert numbers.state(KEY).open_call == b"call"
+
+
+@pytest.mark.parametrize("by_command", [False, True])
+def test_an_answer_that_waits_while_its_account_is_deleted(
+    numbers: CallNumbers, today: None, tmp_path: Path, by_command: bool
+) -> None:
+    """Here, or by a command of the operator."""
+    hostid = answered_host(numbers)
+    answered(numbers, hostid, 8, [], 1)
+    file = StateFile(tmp_path / "state.db", is_guest=True) if by_command else numbers.file
+    Barring(file).delete("ann-key", 1000)
+    if by_command:
+        file.close()
+    numbers.file.write_waiting()
+    for table in ("host", "member_day", "host_day"):
+        assert numbers.file.row(f"SELECT count(*) FROM {table}") == (0,)
+    assert numbers.file.row("SELECT credit FROM member") == (None,)
+
+
 def test_an_answer_after_the_deletion_of_its_account_inserts_nothing(numbers: CallNumbers) -> None:
     numbers.open(KEY, lambda number: b"call")
     state = numbers.state(KEY)

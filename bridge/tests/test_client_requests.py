@@ -1,10 +1,12 @@
 """What the bridge reads from XML, and what it refuses."""
+import math
 import re
 import subprocess
 import sys
 import time
+from decimal import Decimal, InvalidOperation
 from pathlib import Path
-from xml.etree.ElementTree import Element
+from xml.etree.ElementTree import Element, SubElement
 from xml.sax.saxutils import escape
 
 import pytest
@@ -13,7 +15,7 @@ from hypothesis import example, given, strategies as st
 from messages import request
 
 from bsched_bridge import client_requests, request_parts
-from bsched_bridge.client_requests import ClientRequest, Report
+from bsched_bridge.client_requests import ClientRequest, Fields, Report
 from bsched_bridge.request_parts import MOST_XML, Parts, RequestFault, between
 
 RECORDED = Path(__file__).parent / "requests"
@@ -360,6 +362,23 @@ def test_a_document_type_reaches_one_parser_only(text: str) -> None:
     assert client_requests.element_at_once(body.encode()) is None
     with pytest.raises(RequestFault):
         read_request(body.encode())
+
+
+@given(
+    st.from_regex(r"-?[0-9]{0,20}(\.[0-9]{0,4})?(e[0-9]{1,2})?|[0-9]\u0663", fullmatch=True), st.booleans()
+)
+def test_numbers(text: str, up: bool) -> None:
+    """They are read as decimals are, whether at once or not."""
+    element = Element("x")
+    SubElement(element, "n").text = f" {text}\n"
+    try:
+        number = Decimal(text)
+    except InvalidOperation:
+        with pytest.raises(RequestFault):
+            Fields(element).whole("n", 3, 10**9, 0, up)
+        return
+    whole = math.ceil(number) if up else math.floor(number)
+    assert Fields(element).whole("n", 3, 10**9, 0, up) == min(max(whole, 3), 10**9)
 
 
 def test_a_number_of_many_digits() -> None:

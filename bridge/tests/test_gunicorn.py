@@ -4,6 +4,7 @@ import re
 import shlex
 import signal
 import socket
+import sqlite3
 import subprocess
 import sys
 import time
@@ -122,6 +123,28 @@ def test_several_clients_at_once(project: Path, twin: Twin) -> None:
     assert None not in numbers and len(numbers) == 18
 
 
+def test_files_pages_and_long_messages(project: Path, twin: Twin) -> None:
+    """The worker sends a file by the kernel, a page at once, and reads a body of several blocks."""
+    large = bytes(range(256)) * 1000
+    (project / "files" / "two.txt").write_bytes(large)
+    body = request(reports=[("u1_0", "x" * 200_000)], seconds=0)
+    with served(project, twin) as (port, _):
+        path = "/p/download/two.txt"
+        head, _, file = exchanged(port, f"GET {path} {HEAD}\r\n").partition(b"\r\n\r\n")
+        assert head.startswith(b"HTTP/1.1 200") and b"Content-Length: 256000" in head and file == large
+        part = exchanged(port, f"GET {path} {HEAD}Range: bytes=255-1000\r\n\r\n")
+        assert part.startswith(b"HTTP/1.1 206") and part.partition(b"\r\n\r\n")[2] == large[255:1001]
+        head, _, rest = exchanged(port, f"HEAD {path} {HEAD}\r\n").partition(b"\r\n\r\n")
+        assert head.startswith(b"HTTP/1.1 200") and rest == b""
+        for method in ("GET", "HEAD"):
+            head, _, page = exchanged(port, f"{method} /p/ {HEAD}\r\n").partition(b"\r\n\r\n")
+            assert head.startswith(b"HTTP/1.1 200") and (b"Sums" in page) == (method == "GET")
+        answer = exchanged(port, f"POST /p/cgi {HEAD}Content-Length: {len(body)}\r\n\r\n{body}")
+        assert answer.startswith(b"HTTP/1.1 200") and b"<scheduler_reply>" in answer
+        incomplete = exchanged(port, f"POST /p/cgi {HEAD}\r\n")
+        assert incomplete.startswith(b"HTTP/1.1 411") and incomplete.endswith(b"Length Required\n")
+
+
 def test_a_client_that_sends_slowly(project: Path, twin: Twin) -> None:
     with served(project, twin) as (port, _):
         text = call(0, 1).encode()
@@ -147,6 +170,19 @@ def test_a_worker_that_ends_finishes_what_was_begun(project: Path, twin: Twin) -
     assert answer.startswith(b"HTTP/1.1 200")
     with pytest.raises(OSError):
         exchanged(port, text.decode())
+
+
+def test_the_last_answer_is_stored_at_the_end(project: Path, twin: Twin) -> None:
+    """Its write was put off."""
+    with served(project, twin) as (port, process):
+        hostid = value(exchanged(port, call(0, 1)), "hostid")
+        assert hostid is not None
+        assert b"<scheduler_reply>" in exchanged(port, call(int(hostid), 1))
+        process.terminate()
+        assert process.wait(60) == 0
+    connection = sqlite3.connect(project / "bridge.db")
+    assert connection.execute("SELECT open_call, client_seqno IS NULL FROM host").fetchall() == [(None, 0)]
+    connection.close()
 
 
 def test_a_worker_that_is_killed_is_replaced(project: Path, twin: Twin) -> None:

@@ -109,10 +109,11 @@ def test_pages_and_files_are_answered_while_bsched_hangs(
 
 def test_a_message_that_has_just_begun_is_not_slow(twin: Twin, monkeypatch: pytest.MonkeyPatch) -> None:
     asked = Scheduler(twin.address, 1)
-    with asked._waiting():
-        assert not asked.is_slow
-        monkeypatch.setattr("bsched_bridge.scheduler.SLOW_SECONDS", -1.0)
-        assert asked.is_slow
+    message = asked._begin_to_wait()
+    assert not asked.is_slow
+    monkeypatch.setattr("bsched_bridge.scheduler.SLOW_SECONDS", -1.0)
+    assert asked.is_slow
+    asked._end_to_wait(*message)
     assert not asked.is_slow
 
 

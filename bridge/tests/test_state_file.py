@@ -2,7 +2,10 @@
 import os
 import re
 import sqlite3
+import time
+from collections.abc import Callable
 from pathlib import Path
+from typing import cast
 
 import pytest
 
@@ -11,7 +14,7 @@ from bsched_bridge.descriptions import Description
 from bsched_bridge.directory import Directory
 from bsched_bridge.hosts import Hosts, Key
 from bsched_bridge.members import Members
-from bsched_bridge.state_file import SCHEMA_VERSION, StateFault, StateFile
+from bsched_bridge.state_file import SCHEMA_VERSION, StateFault, StateFile, WaitingWrites
 
 # the tables of version 1, as a bridge of 2026-11-27 made them
 VERSION_1 = """
@@ -178,6 +181,92 @@ def test_a_spoiled_file_is_told_at_the_start(tmp_path: Path) -> None:
     assert not any("no other bridge" in one for one in faults)
     path.write_bytes(good)
     StateFile(path).close()
+
+
+def last_hostid(number: int) -> Callable[[sqlite3.Connection], None]:
+    """Returns a write."""
+
+    def write(connection: sqlite3.Connection) -> None:
+        connection.execute("UPDATE numbers SET last_hostid = ?", (number,))
+
+    return write
+
+
+READ = "SELECT last_hostid FROM numbers"
+
+
+def stored(path: Path) -> int:
+    """Returns what such a write has stored, as another process sees it."""
+    file = StateFile(path, is_guest=True)
+    try:
+        return cast(int, file.rows(READ)[0][0])
+    finally:
+        file.close()
+
+
+def test_a_write_that_is_put_off(tmp_path: Path) -> None:
+    """It is done before somebody reads, in the next transaction, or at the end."""
+    path = tmp_path / "state.db"
+    file = StateFile(path)
+    file.put_off("a", last_hostid(1))
+    assert stored(path) == 100_000 and file.waiting("a") is not None
+    assert file.row(READ) == (1,) and file.waiting("a") is None
+    file.put_off("a", last_hostid(2))
+    assert file.looked(READ) == [(2,)]
+    file.put_off("a", last_hostid(3))
+    with file.transaction() as connection:
+        assert connection.execute(READ).fetchone() == (3,) and file.waiting("a") is not None
+    assert stored(path) == 3 and file.waiting("a") is None
+    file.put_off("a", last_hostid(4))
+    file.backup(tmp_path / "copy.db")
+    assert contents(tmp_path / "copy.db") == contents(path)
+    file.put_off("a", last_hostid(5))
+    file.close()
+    assert stored(path) == 5
+
+
+def test_a_write_that_is_put_off_waits_if_its_transaction_is_undone(tmp_path: Path) -> None:
+    file = StateFile(tmp_path / "state.db")
+    file.put_off("a", last_hostid(1))
+    with pytest.raises(ZeroDivisionError), file.transaction():
+        raise ZeroDivisionError
+    assert file.waiting("a") is not None and stored(tmp_path / "state.db") == 100_000
+    assert file.row(READ) == (1,)
+    file.close()
+
+
+def test_a_write_that_is_put_off_and_fails(tmp_path: Path, caplog: pytest.LogCaptureFixture) -> None:
+    """It is forgotten, and the next transaction is as good as ever."""
+    file = StateFile(tmp_path / "state.db")
+    for number, fails in ((1, True), (2, False)):
+        file.put_off("a", last_hostid(number))
+        if fails:
+            file.put_off("b", lambda connection: connection.execute("none"))  # type: ignore[arg-type]
+        assert file.row(READ) == (100_000 if fails else number,)
+        assert file.waiting("a") is file.waiting("b") is None
+    assert [record.getMessage() for record in caplog.records] == [
+        'what was put off could not be stored: near "none": syntax error'
+    ]
+    file.close()
+
+
+def test_a_write_waits_for_a_second_at_most(tmp_path: Path, monkeypatch: pytest.MonkeyPatch) -> None:
+    monkeypatch.setattr("bsched_bridge.state_file.PUT_OFF_SECONDS", 0.01)
+    file = StateFile(tmp_path / "state.db")
+    writing = WaitingWrites(file)
+    writing.start()
+    file.put_off("a", last_hostid(1))
+    for _ in range(1000):
+        if file.waiting("a") is None:
+            break
+        time.sleep(0.01)
+    assert stored(tmp_path / "state.db") == 1
+    monkeypatch.setattr("bsched_bridge.state_file.PUT_OFF_SECONDS", 600.0)
+    time.sleep(0.05)
+    file.put_off("a", last_hostid(2))
+    writing.end()
+    assert stored(tmp_path / "state.db") == 2
+    file.close()
 
 
 def test_only_the_owner_can_read_a_new_file(tmp_path: Path) -> None:

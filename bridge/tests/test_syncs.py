@@ -78,13 +78,21 @@ def test_an_answer_is_not_synced(bridge: Bridge, events: Callable[..., Any]) -> 
     assert not last_commit(seen)[0]
 
 
-def test_a_usual_call_takes_two_transactions(bridge: Bridge, events: Callable[..., Any]) -> None:
-    """Of a host that is known, it reads the row, writes the call, and then the answer."""
+def test_a_usual_call_takes_one_transaction(bridge: Bridge, events: Callable[..., Any]) -> None:
+    """Of a host that is known, it reads the row, and writes the call with the last answer. The answer waits
+    for the next call, or for somebody who reads it.
+    """
     bridge.call(request())
     bridge.call(request(hostid=FIRST, listed=["u1_0"], seconds=0))
+    bridge.file.write_waiting()
     seen = events(bridge)
     bridge.call(request(hostid=FIRST, listed=[], reports=[("u1_0", "42")]))
-    assert kinds(seen) == [*CALL, "BEGIN", "UPDATE", "COMMIT"]
+    assert kinds(seen) == CALL
+    bridge.call(request(hostid=FIRST, listed=[]))
+    assert kinds(seen) == [*CALL, "BEGIN", "UPDATE", "UPDATE", "COMMIT", "SEND"]
+    bridge.got("/p/computers")
+    assert kinds(seen)[-3:] == ["BEGIN", "UPDATE", "COMMIT"]
+    assert not last_commit(seen)[0]
 
 
 def kinds(seen: list[str]) -> list[str]:
@@ -105,6 +113,7 @@ def test_another_credit_takes_three_statements(bridge: Bridge, events: Callable[
             connection.execute(f"UPDATE {table} SET credit = 1")
     seen = events(bridge)
     bridge.call(request(hostid=FIRST))
+    bridge.file.write_waiting()
     assert kinds(seen) == [*CALL, "BEGIN", "UPDATE", "UPDATE", "INSERT", "INSERT", "COMMIT"]
     assert bridge.file.row("SELECT count(*) FROM member_day WHERE credit = 1") == (0,)
 
@@ -117,4 +126,5 @@ def test_the_first_call_of_a_day_forgets_days(bridge: Bridge, events: Callable[.
             connection.execute(f"UPDATE {table} SET day = day - 1")
     seen = events(bridge)
     bridge.call(request(hostid=FIRST))
+    bridge.file.write_waiting()
     assert kinds(seen) == [*CALL, "BEGIN", "UPDATE", *["INSERT", "DELETE"] * 2, "COMMIT"]

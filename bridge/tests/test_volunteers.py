@@ -7,6 +7,7 @@ from pathlib import Path
 from typing import Any, cast
 
 import pytest
+from hypothesis import given, strategies as st
 from bridges import Bridge
 from joining import create
 from messages import FIRST, request
@@ -201,6 +202,12 @@ def test_what_a_computer_says_of_itself(bridge: Bridge) -> None:
         assert secret not in page.text.replace("http://127.0.0.1", "")
     assert "GenuineIntel" in page_of(bridge.got("/p/computers")).text
     assert "GenuineIntel" in page_of(bridge.got("/p/user/1")).text
+
+
+@given(st.text(st.sampled_from("ab \n\x00\u200b\xa0"), max_size=100))
+def test_a_text_on_one_line(text: str) -> None:
+    seen = "".join(one if one.isprintable() else " " for one in text)
+    assert one_line(text) == " ".join(seen.split())[:80].rstrip()
 
 
 def test_a_description_is_short() -> None:
