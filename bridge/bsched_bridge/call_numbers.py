@@ -174,13 +174,15 @@ class CallNumbers:
         self.file = file
 
     def of_number(self, authenticator: str, hostid: int) -> KnownHost | None:
-        """Returns the account's host with a number that a client was told."""
+        """Returns the account's host with a number that a client was told. The account's credit may be that
+        before an answer to another host, which is put off.
+        """
         waiting = self.file.waiting((authenticator, hostid))
         known = waiting.known_host() if isinstance(waiting, AnswerWrite) else None
         if known is not None:
             return known
         day = today()
-        row = self.file.row(OF_NUMBER, day, authenticator, hostid)
+        row = self.file.stored_row(OF_NUMBER, day, authenticator, hostid)
         if row is None:
             return None
         host_cpid, seqno, is_deleted = row[:3]
@@ -286,7 +288,8 @@ class CallNumbers:
             state.last_number,
             state.jobs_text,
         )
-        with self.file.transaction() as connection:
+        hostid = None if state.day is None else state.day.number
+        with self.file.transaction(only=(key.authenticator, hostid)) as connection:
             is_opened = connection.execute(OPENED_AS, values).rowcount == 1
         return call if is_opened else None
 
@@ -324,7 +327,7 @@ class CallNumbers:
         it. Credit that the state has already is not written.
 
         With the client's seqno the call was opened in that state, by open_as. If the bridge knows the
-        account, the write is put off then: it becomes part of the transaction that opens the next call.
+        account, the write is put off then, at most until the host's next call is opened.
         """
         if state is None:
             state = self.state(key)

@@ -153,7 +153,8 @@ UPGRADES = {
     6: PREFERENCES,
 }
 BUSY_SECONDS = 10.0  # for a transaction of another process
-PUT_OFF_SECONDS = 1.0  # for which a write is put off at most, while WaitingWrites runs
+# how long a write is put off at most, while WaitingWrites runs, and how many are
+PUT_OFF_SECONDS, MOST_WAITING = 1.0, 1000
 
 
 SPOILED = 'it is spoiled or no state file: see docs/VOLUNTEERS.md, "The state file"'
@@ -245,15 +246,16 @@ class StateFile:
             os.close(self._held)
             self._held = None
 
-    def transaction(self, is_synced: bool = True) -> "Transaction":
+    def transaction(self, is_synced: bool = True, only: Hashable = None) -> "Transaction":
         """Runs the block of a `with` statement in one transaction. If the block ends without an exception, it
-        is committed; otherwise it is undone.
+        is committed; otherwise it is undone. It begins with what was put off: all of it, or only the write of
+        a key.
 
         If is_synced is false, a power failure may undo it, until a later transaction is synced.
         """
-        return Transaction(self, is_synced)
+        return Transaction(self, is_synced, only)
 
-    def begin(self, is_synced: bool) -> sqlite3.Connection:
+    def begin(self, is_synced: bool, only: Hashable = None) -> sqlite3.Connection:
         """Begins a transaction, for which this thread has the connection from now on."""
         self._lock.acquire()
         try:
@@ -262,17 +264,20 @@ class StateFile:
                 self._is_synced = is_synced
             self._connection.execute("BEGIN IMMEDIATE")
             if self._waiting:
-                self._write_waiting()
+                self._write_waiting(list(self._waiting) if only is None else [only])
         except BaseException:
             self._lock.release()
             raise
         return self._connection
 
-    def _write_waiting(self) -> None:
-        """Does what was put off, in a transaction that has begun. If that fails, it is forgotten."""
-        for key in list(self._waiting):
-            self._written[key] = self._waiting[key]
-            del self._waiting[key]
+    def _write_waiting(self, keys: list[Hashable]) -> None:
+        """Does what was put off for some keys, in a transaction that has begun. If that fails, it is
+        forgotten.
+        """
+        for key in keys:
+            if key in self._waiting:
+                self._written[key] = self._waiting[key]
+                del self._waiting[key]
         try:
             for write in self._written.values():
                 write(self._connection)
@@ -298,10 +303,12 @@ class StateFile:
                 self._lock.release()
 
     def put_off(self, key: Hashable, write: Write) -> None:
-        """Puts the write of a key off until the next transaction, or until somebody reads the file by this
-        connection.
+        """Puts the write of a key off until a transaction begins with it, or until somebody reads the file
+        by this connection.
         """
         self._waiting[key] = write
+        if len(self._waiting) > MOST_WAITING:
+            self.write_waiting()
 
     def waiting(self, key: Hashable) -> Write | None:
         """Returns the write of a key that was put off."""
@@ -320,6 +327,12 @@ class StateFile:
     def row(self, statement: str, *values: object) -> tuple[object, ...] | None:
         """Returns the first row of a query."""
         rows = self.rows(statement, *values)
+        return rows[0] if rows else None
+
+    def stored_row(self, statement: str, *values: object) -> tuple[object, ...] | None:
+        """Returns the first row of a query, without what was put off."""
+        with self._lock:
+            rows = self._connection.execute(statement, values).fetchall()
         return rows[0] if rows else None
 
     def rows(self, statement: str, *values: object) -> list[tuple[object, ...]]:
@@ -388,13 +401,13 @@ class WaitingWrites(threading.Thread):
 class Transaction:
     """A transaction of a block."""
 
-    __slots__ = ("_file", "_is_synced")
+    __slots__ = ("_file", "_is_synced", "_only")
 
-    def __init__(self, file: StateFile, is_synced: bool) -> None:
-        self._file, self._is_synced = file, is_synced
+    def __init__(self, file: StateFile, is_synced: bool, only: Hashable) -> None:
+        self._file, self._is_synced, self._only = file, is_synced, only
 
     def __enter__(self) -> sqlite3.Connection:
-        return self._file.begin(self._is_synced)
+        return self._file.begin(self._is_synced, self._only)
 
     def __exit__(self, kind: object, *_fault: object) -> None:
         self._file.end(kind is None)

@@ -188,6 +188,22 @@ def test_an_answer_that_is_put_off(numbers: CallNumbers, today: None, credit: in
     assert numbers.file.row("SELECT credit, about FROM member, host") == (credit, "{}")
 
 
+def test_a_call_of_another_host_leaves_an_answer_put_off(numbers: CallNumbers, today: None) -> None:
+    """Of the credit of their account the latest answer counts."""
+    other = Key("ann-key", "c2")
+    numbers.open(other, lambda number: b"call")
+    numbers.record_answer(other, replace(reply(2), user_total_credit=4), [])
+    second, first = numbers.give_hostid(other) or 0, answered_host(numbers)
+    answered(numbers, first, 8, [], 1)
+    known = numbers.of_number("ann-key", second)
+    assert known is not None and known.state.account is not None and known.state.account.credit == 5
+    assert numbers.open_as(other, known.state, lambda number: b"call", ClientState(seqno=1))
+    assert numbers.file.waiting(("ann-key", first)) is not None
+    numbers.record_answer(other, replace(reply(2), user_total_credit=9), [], known.state, "{}", 1)
+    assert numbers.file.row("SELECT credit FROM member") == (9,)
+    assert numbers.file.rows("SELECT open_call FROM host") == [(None,), (None,)]
+
+
 def test_an_answer_that_is_put_off_is_in_the_next_transaction(numbers: CallNumbers, today: None) -> None:
     hostid = answered_host(numbers)
     answered(numbers, hostid, 8, [], 1)

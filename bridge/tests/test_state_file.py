@@ -218,11 +218,29 @@ def test_a_write_that_is_put_off(tmp_path: Path) -> None:
         assert connection.execute(READ).fetchone() == (3,) and file.waiting("a") is not None
     assert stored(path) == 3 and file.waiting("a") is None
     file.put_off("a", last_hostid(4))
+    file.put_off("b", last_hostid(5))
+    assert file.stored_row(READ) == (3,)
+    with file.transaction(only="a") as connection:
+        assert connection.execute(READ).fetchone() == (4,)
+    assert file.waiting("a") is None and file.waiting("b") is not None
+    with file.transaction(only="a"):
+        pass
+    assert stored(path) == 4
     file.backup(tmp_path / "copy.db")
     assert contents(tmp_path / "copy.db") == contents(path)
-    file.put_off("a", last_hostid(5))
+    file.put_off("a", last_hostid(6))
     file.close()
-    assert stored(path) == 5
+    assert stored(path) == 6
+
+
+def test_only_so_many_writes_are_put_off(tmp_path: Path, monkeypatch: pytest.MonkeyPatch) -> None:
+    monkeypatch.setattr("bsched_bridge.state_file.MOST_WAITING", 3)
+    file = StateFile(tmp_path / "state.db")
+    for number in range(1, 5):
+        assert file.stored_row(READ) == (100_000,)
+        file.put_off(number, last_hostid(number))
+    assert file.stored_row(READ) == (4,)
+    file.close()
 
 
 def test_a_write_that_is_put_off_waits_if_its_transaction_is_undone(tmp_path: Path) -> None:
