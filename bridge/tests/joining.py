@@ -161,8 +161,8 @@ class Stops:
         class Transaction:
             """A transaction that is stopped before it begins, or after its commit."""
 
-            def __init__(self, is_synced: bool = True) -> None:
-                self.inner = transaction(is_synced)
+            def __init__(self, *args: Any, **more: Any) -> None:
+                self.inner = transaction(*args, **more)
 
             def __enter__(self) -> Any:
                 if stops.is_stopped:
