@@ -65,16 +65,14 @@ fn do_agree(agreement: &Agreement, left: &Ballot, right: &Ballot) -> bool
     }
 }
 
-/// A ballot, once a voter was counted: it has one vote more if the two agree.
-fn with_vote(agreement: &Agreement, voter: &Ballot, ballot: &Ballot) -> Ballot
-    requires { ballot.now.votes ≤ MOST_INSTANCES }
-    ensures { result ≡ voted agreement.now voter.now ballot.now }
+/// Counts a voter for a ballot: it has one vote more if the two agree.
+fn add_vote(agreement: &Agreement, voter: &Ballot, ballot: &mut Ballot)
+    requires { ballot.old.votes ≤ MOST_INSTANCES }
+    ensures { ballot.new ≡ voted agreement.now voter.now ballot.old }
 {
-    let mut ballot = *ballot;
-    if do_agree(agreement, &ballot, voter) {
+    if do_agree(agreement, ballot, voter) {
         ballot.votes += 1;
     }
-    ballot
 }
 
 /// Counts the vote of one report.
@@ -83,7 +81,7 @@ fn count_vote(agreement: &Agreement, voter: &Ballot, ballots: &mut [Ballot])
     ensures { ballots.new ≡ map (voted agreement.now voter.now) ballots.old }
 {
     for ballot in ballots.iter_mut() {
-        *ballot = with_vote(agreement, voter, ballot);
+        add_vote(agreement, voter, ballot);
     }
 }
 
