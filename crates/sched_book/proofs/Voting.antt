@@ -1,17 +1,21 @@
 -- What ballots say of good reports: their votes, and which report leads.
-use Rattle.std.proofs.Common.{◌≡◌, ℕ, ◌+◌, ◌<◌, ◌≤◌, Bool, true, false, cond, List, [], ◌∷◌, length, take, drop, map, get_or, Option, None, Some, sym, refl, ap, ◌∙◌, arith}
-use Rattle.std.specs.Prelude.{◌==◌, ◌||◌, ℤ, pos, ◌-ℤ◌, nat_abs, find, nat_le, option_map, is_some}
+use Rattle.std.proofs.Common.{◌≡◌, ℕ, ◌+◌, ◌<◌, ◌≤◌, Bool, true, false, cond, List, [], ◌∷◌, ◌++◌, length, take, drop, map, get_or, Option, None, Some, sym, refl, ap, ◌∙◌, arith}
+use Rattle.std.specs.Prelude.{◌==◌, ◌||◌, ℤ, pos, ◌-ℤ◌, nat_abs, count_by, fold, find, max, nat_le, option_map, is_some}
+use Rattle.std.specs.Bool.{one_answer}
+use Rattle.std.specs.Int.{from_bool}
 use Rattle.std.specs.List.{All}
 use Rattle.std.specs.Str.{bytes_eq}
-use Rattle.std.proofs.lemmas.List.{get_or-map, length-map, length-take, take_all, take-map}
+use Rattle.std.proofs.lemmas.Bool.{lt-leb}
+use Rattle.std.proofs.lemmas.List.{get_or-append-add, get_or-drop, length-map, length-take, map_more, take_all}
 use Rattle.std.proofs.lemmas.List.Elements.{All-same, All-map}
+use Rattle.std.proofs.lemmas.List.Folds.{fold-map}
+use Rattle.std.proofs.lemmas.List.Sums.{fold_push, sum_by_more, count_by-le-length}
 use Rattle.std.proofs.lemmas.Simd.{map-map}
 use Rattle.std.proofs.lemmas.Int.{ints}
 use Rattle.std.proofs.lemmas.Slice.Eq.{bytes_eq-Decides}
 use borrow.Author.Tests.{le-leb}
-use Rattle.std.proofs.lemmas.List.Sums.{count_by_more_yes, count_by_more_no, count_by-le-length}
 use Rattle.sched_book.specs.Alike.{first_alike}
-use Rattle.sched_book.specs.Ballots.{agree_by, ballot_of, voted, counted_in}
+use Rattle.sched_book.specs.Ballots.{distance_of, number_in, agree_by, agrees_with, ballot_of, voted, ballots_at, most_votes, leader_by}
 use Rattle.sched_book.specs.Count.{agree, output_of, votes, leader, first_leader}
 use Rattle.sched_book.proofs.FirstAlike.{same_first}
 use Rattle.sched_book.proofs.Reports.{leader_from, leader_from-is, leader_from-here, leader_from-later, leader_from-last}
@@ -25,6 +29,10 @@ use Rattle.sched_book.specs.declared.rows.Agreement.TheVariants.{Exact, Within}
 abbrev pub unset : Ballot
 unset = record { number = 0; first = 0; value = None; votes = 0 }
 
+as_cond : (b : Bool) → from_bool b ≡ cond {A = ℕ} b 1 0
+as_cond true = refl
+as_cond false = refl
+
 -- equal numbers are within any distance
 near : (d : ℕ) (m : ℤ) → are_within d (Some m) (Some m) ≡ true
 near d m =
@@ -32,12 +40,12 @@ near d m =
     ap (λ z. nat_le (nat_abs z) d) none ∙ le-leb 0 d (omega arith)
 
 -- texts are compared as the first reports with them
-agree_is : (a : Agreement) (x y : List ℕ) (i j : ℕ) → (i == j) ≡ bytes_eq x y → agree_by a i (whole_number x) j (whole_number y) ≡ agree a x y
+agree_is : (a : Agreement) (x y : List ℕ) (i j : ℕ) → (i == j) ≡ bytes_eq x y → agree_by (distance_of a) i (number_in a x) j (number_in a y) ≡ agree a x y
 agree_is Exact x y i j texts = texts
 agree_is (Within d) x y i j texts = cases (whole_number x) (whole_number y) (bytes_eq x y) refl refl refl
   where
     cases : (m n : Option ℤ) (same : Bool) → whole_number x ≡ m → whole_number y ≡ n → bytes_eq x y ≡ same
-        → agree_by (Within d) i m j n ≡ bytes_eq x y || are_within d m n
+        → agree_by d i m j n ≡ bytes_eq x y || are_within d m n
     cases None n false left right is = texts ∙ is ∙ sym (ap (λ (b : Bool). b || false) is)
     cases None n true left right is = texts ∙ is ∙ sym (ap (λ (b : Bool). b || false) is)
     cases (Some m) None false left right is = texts ∙ is ∙ sym (ap (λ (b : Bool). b || false) is)
@@ -48,86 +56,186 @@ agree_is (Within d) x y i j texts = cases (whole_number x) (whole_number y) (byt
         let both : Some m ≡ Some n = sym left ∙ ap whole_number texts ∙ right in
         ap (λ o. are_within d (Some m) o) (sym both) ∙ near d m ∙ sym (ap (λ (b : Bool). b || are_within d (Some m) (Some n)) is)
 
+-- ---- Agreement is symmetric, and each output agrees with itself
+
+same_texts : (x y : List ℕ) → bytes_eq x y ≡ bytes_eq y x
+same_texts x y =
+    one_answer (bytes_eq x y) (bytes_eq y x) (bytes_eq-Decides x y)
+    (λ same. sym ((bytes_eq-Decides y x).0 same), λ same. (bytes_eq-Decides y x).1 (sym same))
+
+same_distance : (d : ℕ) (m n : Option ℤ) → are_within d m n ≡ are_within d n m
+same_distance d None None = refl
+same_distance d None (Some n) = refl
+same_distance d (Some m) None = refl
+same_distance d (Some m) (Some n) =
+    let apart : nat_abs (m -ℤ n) ≡ nat_abs (n -ℤ m) = omega (arith, ints) in
+    ap (λ z. nat_le z d) apart
+
+agrees_back : (a : Agreement) (x y : List ℕ) → agree a x y ≡ agree a y x
+agrees_back Exact x y = same_texts x y
+agrees_back (Within d) x y =
+    ap (λ (b : Bool). b || are_within d (whole_number x) (whole_number y)) (same_texts x y)
+    ∙ ap (λ (b : Bool). bytes_eq y x || b) (same_distance d (whole_number x) (whole_number y))
+
+agrees_itself : (a : Agreement) (x : List ℕ) → agree a x x ≡ true
+agrees_itself Exact x = (bytes_eq-Decides x x).1 refl
+agrees_itself (Within d) x = ap (λ (b : Bool). b || are_within d (whole_number x) (whole_number x)) ((bytes_eq-Decides x x).1 refl)
+
+-- ---- A loop that counts one vote
+
+-- the most votes, once a ballot was added
+pub most_adds : (ballots : List Ballot) (last : Ballot) (most : ℕ) → most ≡ most_votes ballots → max most last.votes ≡ most_votes (ballots ++ last ∷ [])
+most_adds ballots last most is =
+    ap (λ m. max m last.votes) is ∙ sym (fold_push (λ (m : ℕ) (b : Ballot). max m b.votes) 0 ballots last)
+
+module _ (d : ℕ) (voter : Ballot) (ballots now : List Ballot) (i : ℕ) (within : i < length ballots)
+    (counted : now ≡ map (voted d voter) (take i ballots) ++ drop i ballots) (before : Ballot) (at : before ≡ get_or now i before) where
+  -- the next ballot is as it was
+  untouched : before ≡ get_or ballots i before
+  untouched =
+      let front = map (voted d voter) (take i ballots) in
+      let long : length front ≡ i = length-map (take i ballots) (voted d voter) ∙ omega (arith, length-take i ballots) in
+      let place : i ≡ length front + 0 = omega (arith, long) in
+      let rest : i + 0 ≡ i = omega arith in
+      at
+      ∙ ap (λ l. get_or l i before) counted
+      ∙ ap (λ k. get_or (front ++ drop i ballots) k before) place
+      ∙ get_or-append-add front (drop i ballots) 0 before
+      ∙ get_or-drop i ballots 0 before
+      ∙ ap (λ k. get_or ballots k before) rest
+
+  pub one_more_agrees : (agreed : ℕ) (agree_too : Bool) → agreed ≡ count_by (agrees_with d voter) (take i ballots)
+      → agree_too ≡ agrees_with d voter before → agreed + from_bool agree_too ≡ count_by (agrees_with d voter) (take (i + 1) ballots)
+  one_more_agrees agreed agree_too so_far is =
+      ap (λ n. n + from_bool agree_too) so_far
+      ∙ ap (λ n. count_by (agrees_with d voter) (take i ballots) + n)
+      (as_cond agree_too ∙ ap (λ (b : Bool). cond {A = ℕ} b 1 0) (is ∙ ap (agrees_with d voter) untouched))
+      ∙ sym (sum_by_more (λ b. cond (agrees_with d voter b) 1 0) ballots i before within)
+
+  pub most_so_far : (most : ℕ) (after : Ballot) → most ≡ most_votes (map (voted d voter) (take i ballots)) → after ≡ voted d voter before
+      → max most after.votes ≡ most_votes (map (voted d voter) (take (i + 1) ballots))
+  most_so_far most after so_far is =
+      most_adds (map (voted d voter) (take i ballots)) after most so_far
+      ∙ ap (λ b. most_votes (map (voted d voter) (take i ballots) ++ b ∷ [])) (is ∙ ap (voted d voter) untouched)
+      ∙ ap most_votes (sym (map_more (voted d voter) ballots i before within))
+
+-- ---- One more report joins
+
 -- no report has more votes than there are reports
-pub votes_are_few : (a : Agreement) (xs : List Instance) (n : ℕ) (reports : List ℕ) (most : ℕ) (ballots : List Ballot) → length reports ≤ most
-    → ballots ≡ counted_in a xs n reports → All (λ (b : Ballot). b.votes ≤ most) ballots
-votes_are_few a xs n reports most ballots few counted =
+pub votes_are_few : (a : Agreement) (xs : List Instance) (reports : List ℕ) (n most : ℕ) (ballots : List Ballot) → length reports ≤ most
+    → ballots ≡ ballots_at a xs reports n → All (λ (b : Ballot). b.votes ≤ most) ballots
+votes_are_few a xs reports n most ballots few counted =
+    let front = take n reports in
     let front_length = length-take n reports in
-    All-same (λ (b : Ballot). b.votes ≤ most) ballots (counted_in a xs n reports) counted
-    (All-map (λ (b : Ballot). b.votes ≤ most) (ballot_of xs reports (votes a xs (take n reports))) reports
-    (λ k i within. let counts = count_by-le-length (λ j. agree a (output_of xs (get_or reports k i)) (output_of xs j)) (take n reports) in omega (arith, counts, front_length, few)))
+    All-same (λ (b : Ballot). b.votes ≤ most) ballots (ballots_at a xs reports n) counted
+    (All-map (λ (b : Ballot). b.votes ≤ most) (ballot_of a xs reports (votes a xs front)) front
+    (λ k i within. let counts = count_by-le-length (λ j. agree a (output_of xs (get_or front k i)) (output_of xs j)) front in omega (arith, counts, front_length, few)))
 
--- one more voter
-step : (a : Agreement) (xs : List Instance) (reports : List ℕ) (n : ℕ) → n < length reports → (v : ℕ) → v ≡ get_or reports n 0 → (i : ℕ)
-    → voted a (ballot_of xs reports (votes a xs (take n reports)) v) (ballot_of xs reports (votes a xs (take n reports)) i)
-    ≡ ballot_of xs reports (votes a xs (take (n + 1) reports)) i
-step a xs reports n within v is i = cases (agree a (output_of xs i) (output_of xs v)) refl
-  where
-    agrees : ℕ → Bool
-    agrees j = agree a (output_of xs i) (output_of xs j)
+module _ (a : Agreement) (xs : List Instance) (reports : List ℕ) (n : ℕ) (within : n < length reports) where
+  -- the report that joins, and its ballot with so many votes
+  abbrev joining : ℕ
+  joining = get_or reports n 0
 
-    with_votes : ℕ → Ballot
-    with_votes votes_now = record { number = i; first = first_alike xs reports i; value = whole_number (output_of xs i); votes = votes_now }
+  abbrev pub joining_ballot : ℕ → Ballot
+  joining_ballot votes_now = ballot_of a xs reports (λ i. votes_now) joining
 
-    texts : agree_by a (first_alike xs reports i) (whole_number (output_of xs i)) (first_alike xs reports v) (whole_number (output_of xs v)) ≡ agrees v
-    texts = agree_is a (output_of xs i) (output_of xs v) (first_alike xs reports i) (first_alike xs reports v) (same_first xs reports n i v within is)
+  texts : (i : ℕ)
+      → agree_by (distance_of a) (first_alike xs reports i) (number_in a (output_of xs i)) (first_alike xs reports joining) (number_in a (output_of xs joining))
+      ≡ agree a (output_of xs i) (output_of xs joining)
+  texts i =
+      agree_is a (output_of xs i) (output_of xs joining) (first_alike xs reports i) (first_alike xs reports joining)
+      (same_first xs reports n i joining within refl)
 
-    cases : (b : Bool) → agrees v ≡ b
-        → voted a (ballot_of xs reports (votes a xs (take n reports)) v) (ballot_of xs reports (votes a xs (take n reports)) i)
-        ≡ ballot_of xs reports (votes a xs (take (n + 1) reports)) i
-    cases true agreed =
-        ap (λ (b : Bool). cond b (with_votes (votes a xs (take n reports) i + 1)) (with_votes (votes a xs (take n reports) i))) (texts ∙ agreed)
-        ∙ ap with_votes (sym (count_by_more_yes agrees reports n 0 within (ap agrees (sym is) ∙ agreed)))
-    cases false no_vote =
-        ap (λ (b : Bool). cond b (with_votes (votes a xs (take n reports) i + 1)) (with_votes (votes a xs (take n reports) i))) (texts ∙ no_vote)
-        ∙ ap with_votes (sym (count_by_more_no agrees reports n 0 within (ap agrees (sym is) ∙ no_vote)))
+  -- one more voter
+  step : (own i : ℕ) → voted (distance_of a) (joining_ballot own) (ballot_of a xs reports (votes a xs (take n reports)) i) ≡ ballot_of a xs reports (votes a xs (take (n + 1) reports)) i
+  step own i =
+      ap (λ more. ballot_of a xs reports (λ k. more) i)
+      (ap (λ (b : Bool). votes a xs (take n reports) i + from_bool b) (texts i)
+      ∙ ap (λ more. votes a xs (take n reports) i + more) (as_cond (agree a (output_of xs i) (output_of xs joining)))
+      ∙ sym (sum_by_more (λ j. cond (agree a (output_of xs i) (output_of xs j)) 1 0) reports n 0 within))
 
--- the ballots after one more voter
-pub voters_add : (a : Agreement) (xs : List Instance) (reports : List ℕ) (n : ℕ) (ballots : List Ballot) (voter d : Ballot) → n < length reports
-    → ballots ≡ counted_in a xs n reports → voter ≡ get_or ballots n d → map (voted a voter) ballots ≡ counted_in a xs (n + 1) reports
-voters_add a xs reports n ballots voter d within before is =
-    let v = get_or reports n 0 in
-    let counted = ballot_of xs reports (votes a xs (take n reports)) in
-    let same : voter ≡ counted v = is ∙ ap (λ l. get_or l n d) before ∙ get_or-map counted reports n 0 d within in
-    ap (map (voted a voter)) before
-    ∙ ap (λ w. map (voted a w) (counted_in a xs n reports)) same
-    ∙ map-map (voted a (counted v)) counted reports
-    ∙ ap (λ (f : ℕ → Ballot). map f reports) (λ t i. step a xs reports n within v refl i t)
+  -- the votes of the one that joins
+  own_votes : (own : ℕ)
+      → count_by (agrees_with (distance_of a) (joining_ballot own)) (ballots_at a xs reports n) + 1
+      ≡ votes a xs (take (n + 1) reports) joining
+  own_votes own =
+      ap (λ agreed. agreed + 1)
+      (fold-map _ (ballot_of a xs reports (votes a xs (take n reports))) 0 (take n reports)
+      ∙ ap (λ (p : ℕ → Bool). count_by p (take n reports)) (λ t i. (texts i ∙ agrees_back a (output_of xs i) (output_of xs joining)) t))
+      ∙ ap (λ (b : Bool). votes a xs (take n reports) joining + cond b 1 0) (sym (agrees_itself a (output_of xs joining)))
+      ∙ sym (sum_by_more (λ j. cond (agree a (output_of xs joining) (output_of xs j)) 1 0) reports n 0 within)
 
-pub counted_length : (a : Agreement) (xs : List Instance) (n : ℕ) (reports : List ℕ) → length (counted_in a xs n reports) ≡ length reports
-counted_length a xs n reports = length-map reports (ballot_of xs reports (votes a xs (take n reports)))
+  -- the ballots, once it has joined
+  pub voters_add : (own agreed : ℕ) (ballots after : List Ballot) → ballots ≡ ballots_at a xs reports n
+      → after ≡ map (voted (distance_of a) (joining_ballot own)) ballots → agreed ≡ count_by (agrees_with (distance_of a) (joining_ballot own)) ballots
+      → after ++ joining_ballot (1 + agreed) ∷ [] ≡ ballots_at a xs reports (n + 1)
+  voters_add own agreed ballots after before vote counted =
+      let front = take n reports in
+      let later = ballot_of a xs reports (votes a xs (take (n + 1) reports)) in
+      let others : after ≡ map later front =
+      vote
+      ∙ ap (map (voted (distance_of a) (joining_ballot own))) before
+      ∙ map-map (voted (distance_of a) (joining_ballot own)) (ballot_of a xs reports (votes a xs front)) front
+      ∙ ap (λ (f : ℕ → Ballot). map f front) (λ t i. step own i t) in
+      let count = counted ∙ ap (count_by (agrees_with (distance_of a) (joining_ballot own))) before in
+      let total : 1 + agreed ≡ votes a xs (take (n + 1) reports) joining = omega (arith, count, own_votes own) in
+      ap (λ l. l ++ joining_ballot (1 + agreed) ∷ []) others
+      ∙ ap (λ more. map later front ++ joining_ballot more ∷ []) total
+      ∙ sym (map_more later reports n 0 within)
+
+  -- the same of a ballot whose parts are given
+  pub ballot_joins : (distance first : ℕ) (value : Option ℤ) → distance ≡ distance_of a → first ≡ first_alike xs reports joining → value ≡ number_in a (output_of xs joining)
+      → (agreed : ℕ) (ballots after : List Ballot) → ballots ≡ ballots_at a xs reports n
+      → after ≡ map (voted distance (record { number = joining; first = first; value = value; votes = 1 })) ballots
+      → agreed ≡ count_by (agrees_with distance (record { number = joining; first = first; value = value; votes = 1 })) ballots
+      → after ++ (record { number = joining; first = first; value = value; votes = 1 + agreed }) ∷ [] ≡ ballots_at a xs reports (n + 1)
+  ballot_joins distance first value far same number agreed ballots after before vote counted =
+      let joins : (votes_now : ℕ) → (record { number = joining; first = first; value = value; votes = votes_now }) ≡ joining_ballot votes_now =
+      λ votes_now t. record { number = joining; first = same t; value = number t; votes = votes_now } in
+      ap (λ b. after ++ b ∷ []) (joins (1 + agreed))
+      ∙ voters_add 1 agreed ballots after before
+      (vote ∙ (λ t. map (voted (far t) (joins 1 t)) ballots))
+      (counted ∙ (λ t. count_by (agrees_with (far t) (joins 1 t)) ballots))
+
+-- ---- Which report leads
 
 -- the first ballot with enough votes is that of the leader
-leader_counted : (xs : List Instance) (reports : List ℕ) (votes_of : ℕ → ℕ) (enough : ℕ) (front : List ℕ)
-    → option_map (λ (b : Ballot). b.number) (find (λ (b : Ballot). nat_le enough b.votes) (map (ballot_of xs reports votes_of) front))
-    ≡ find (λ i. nat_le enough (votes_of i)) front
-leader_counted xs reports votes_of enough [] = refl
-leader_counted xs reports votes_of enough (i ∷ rest) = cases (nat_le enough (votes_of i)) (leader_counted xs reports votes_of enough rest)
+leader_counted : (a : Agreement) (xs : List Instance) (reports : List ℕ) (votes_of : ℕ → ℕ) (enough : ℕ) (front : List ℕ)
+    → leader_by enough (map (ballot_of a xs reports votes_of) front) ≡ find (λ i. nat_le enough (votes_of i)) front
+leader_counted a xs reports votes_of enough [] = refl
+leader_counted a xs reports votes_of enough (i ∷ rest) = cases (nat_le enough (votes_of i)) (leader_counted a xs reports votes_of enough rest)
   where
-    found : List ℕ → Option ℕ
-    found front = option_map (λ (b : Ballot). b.number) (find (λ (b : Ballot). nat_le enough b.votes) (map (ballot_of xs reports votes_of) front))
-
-    cases : (b : Bool) → found rest ≡ find (λ i. nat_le enough (votes_of i)) rest
-        → option_map (λ (b : Ballot). b.number) (cond b (Some (ballot_of xs reports votes_of i)) (find (λ (b : Ballot). nat_le enough b.votes) (map (ballot_of xs reports votes_of) rest)))
+    cases : (b : Bool) → leader_by enough (map (ballot_of a xs reports votes_of) rest) ≡ find (λ i. nat_le enough (votes_of i)) rest
+        → option_map (λ (b : Ballot). b.number) (cond b (Some (ballot_of a xs reports votes_of i)) (find (λ (b : Ballot). nat_le enough b.votes) (map (ballot_of a xs reports votes_of) rest)))
         ≡ cond b (Some i) (find (λ i. nat_le enough (votes_of i)) rest)
     cases true same = refl
     cases false same = same
 
-abbrev pub leader_by : ℕ → List Ballot → Option ℕ
-leader_by enough ballots = option_map (λ (b : Ballot). b.number) (find (λ (b : Ballot). nat_le enough b.votes) ballots)
-
 -- the leader of a front, by its ballots
-leader_found : (a : Agreement) (xs : List Instance) (enough front : ℕ) (reports : List ℕ) (ballots : List Ballot) → ballots ≡ counted_in a xs front reports
-    → leader_by enough (take front ballots) ≡ leader a xs enough (take front reports)
+leader_found : (a : Agreement) (xs : List Instance) (enough front : ℕ) (reports : List ℕ) (ballots : List Ballot) → ballots ≡ ballots_at a xs reports front
+    → leader_by enough ballots ≡ leader a xs enough (take front reports)
 leader_found a xs enough front reports ballots counted =
-    ap (λ l. leader_by enough (take front l)) counted
-    ∙ ap (leader_by enough) (take-map (ballot_of xs reports (votes a xs (take front reports))) front reports)
-    ∙ leader_counted xs reports (votes a xs (take front reports)) enough (take front reports)
+    ap (leader_by enough) counted ∙ leader_counted a xs reports (votes a xs (take front reports)) enough (take front reports)
+
+most_at_least : (most : ℕ) (ballots : List Ballot) → most ≤ fold (λ (m : ℕ) (b : Ballot). max m b.votes) most ballots
+most_at_least most [] = omega arith
+most_at_least most (b ∷ rest) = let more = most_at_least (max most b.votes) rest in omega (arith, more)
+
+none_from : (most enough : ℕ) (ballots : List Ballot) → fold (λ (m : ℕ) (b : Ballot). max m b.votes) most ballots < enough → leader_by enough ballots ≡ None
+none_from most enough [] below = refl
+none_from most enough (b ∷ rest) below =
+    let more = most_at_least (max most b.votes) rest in
+    ap (λ (t : Bool). option_map (λ (b : Ballot). b.number) (cond t (Some b) (find (λ (b : Ballot). nat_le enough b.votes) rest))) (lt-leb enough b.votes (omega (arith, more, below)))
+    ∙ none_from (max most b.votes) enough rest below
+
+-- if none has enough votes, none leads
+pub none_leads : (most enough : ℕ) (ballots : List Ballot) → most ≡ most_votes ballots → most < enough → None ≡ leader_by enough ballots
+none_leads most enough ballots is below = sym (none_from 0 enough ballots (omega (arith, is, below)))
 
 -- what a loop over the fronts gives at one that has a leader
 pub front_leads : (a : Agreement) (xs : List Instance) (enough quorum front : ℕ) (reports : List ℕ) (ballots : List Ballot) (found : Option ℕ) → front < length reports
-    → ballots ≡ counted_in a xs front reports → leader_from a xs enough reports quorum ≡ leader_from a xs enough reports front
-    → found ≡ leader_by enough (take front ballots) → is_some found ≡ true → found ≡ first_leader a xs enough (take quorum reports) (drop quorum reports)
+    → ballots ≡ ballots_at a xs reports front → leader_from a xs enough reports quorum ≡ leader_from a xs enough reports front
+    → found ≡ leader_by enough ballots → is_some found ≡ true → found ≡ first_leader a xs enough (take quorum reports) (drop quorum reports)
 front_leads a xs enough quorum front reports ballots found within counted none is some =
     let leads : found ≡ leader a xs enough (take front reports) = is ∙ leader_found a xs enough front reports ballots counted in
     leads
@@ -137,8 +245,8 @@ front_leads a xs enough quorum front reports ballots found within counted none i
 
 -- no front has a leader so far, this one included
 pub no_front_leads : (a : Agreement) (xs : List Instance) (enough quorum front : ℕ) (reports : List ℕ) (ballots : List Ballot) (found : Option ℕ) → front < length reports
-    → ballots ≡ counted_in a xs front reports → leader_from a xs enough reports quorum ≡ leader_from a xs enough reports front
-    → found ≡ leader_by enough (take front ballots) → is_some found ≡ false
+    → ballots ≡ ballots_at a xs reports front → leader_from a xs enough reports quorum ≡ leader_from a xs enough reports front
+    → found ≡ leader_by enough ballots → is_some found ≡ false
     → leader_from a xs enough reports quorum ≡ leader_from a xs enough reports (front + 1)
 no_front_leads a xs enough quorum front reports ballots found within counted none is some =
     let leads : found ≡ leader a xs enough (take front reports) = is ∙ leader_found a xs enough front reports ballots counted in
@@ -153,12 +261,10 @@ below_quorum a xs enough quorum front reports below reached =
 
 -- what the loop gives at its end
 pub all_lead : (a : Agreement) (xs : List Instance) (enough quorum front : ℕ) (reports : List ℕ) (ballots : List Ballot) → front ≡ length reports
-    → ballots ≡ counted_in a xs front reports → leader_from a xs enough reports quorum ≡ leader_from a xs enough reports front
+    → ballots ≡ ballots_at a xs reports front → leader_from a xs enough reports quorum ≡ leader_from a xs enough reports front
     → leader_by enough ballots ≡ first_leader a xs enough (take quorum reports) (drop quorum reports)
 all_lead a xs enough quorum front reports ballots whole counted none =
-    let ballots_length : length ballots ≡ length reports = ap length counted ∙ length-map reports (ballot_of xs reports (votes a xs (take front reports))) in
-    ap (leader_by enough) (sym (take_all front ballots (omega (arith, whole, ballots_length))))
-    ∙ leader_found a xs enough front reports ballots counted
+    leader_found a xs enough front reports ballots counted
     ∙ ap (leader a xs enough) (take_all front reports (omega (arith, whole)))
     ∙ sym (leader_from-last a xs enough reports front (omega (arith, whole)))
     ∙ sym none

@@ -1,97 +1,169 @@
-//! The leader among good reports: the first that agrees with enough of them. Each pair is compared once or twice, by numbers,
-//! however many fronts are looked at.
+//! The leader among good reports: the first that agrees with enough of them. Each pair is compared once, by numbers, and
+//! only until a front has a leader.
 
-ghost use Rattle.std.specs.Prelude.{◌≡◌, ◌≤◌, length, take, drop, map, find, nat_le, option_map};
+ghost use Rattle.std.specs.Prelude.{◌≡◌, ◌<◌, ◌≤◌, ◌+◌, [], length, take, drop, map, count_by};
 ghost use Rattle.std.specs.List.{All};
-ghost use Rattle.sched_book.specs.Ballots.{agree_by, ballot_of, voted};
+ghost use Rattle.sched_book.specs.Ballots.{distance_of, number_in, agrees_with, voted, most_votes, leader_by, IsTallyOf};
 ghost use Rattle.sched_book.specs.Count.{output_of, first_leader};
-ghost use Rattle.sched_book.specs.WholeNumbers.{whole_number};
 
 use crate::alike::Firsts;
 use crate::count::output_at;
 use crate::instance::Instance;
 use crate::limits::MOST_INSTANCES;
 use crate::rows::Agreement;
-use crate::whole_numbers::{are_numbers_within, whole_number_of};
+use crate::whole_numbers::whole_number_of;
 use arrayvec::ArrayVec;
 
 /// A good report, with the votes that it has so far.
 #[derive(Clone, Copy, Default)]
-pub(crate) struct Ballot {
+struct Ballot {
     /// The number of its instance.
-    pub(crate) number: usize,
+    number: usize,
     /// The first report with its output: two outputs are the same exactly if these are.
-    pub(crate) first: usize,
-    /// Its output as a whole number, if it is one.
-    pub(crate) value: Option<i64>,
-    /// How many of the reports that were counted agree with it.
-    pub(crate) votes: usize,
+    first: usize,
+    /// The whole number as which its output is compared, if it is.
+    value: Option<i64>,
+    /// How many of the reports that have joined agree with it.
+    votes: usize,
 }
 
-/// The output of a report as a whole number, if it is one.
-fn value_at(instances: &[Instance], number: usize) -> Option<i64>
-    ensures { result ≡ whole_number (output_of instances.now number) }
+/// How far apart whole numbers that agree may be.
+fn distance_of(agreement: &Agreement) -> u32
+    ensures { result ≡ distance_of agreement.now }
 {
-    whole_number_of(output_at(instances, number).as_bytes())
-}
-
-/// The ballots of these reports, before any vote is counted.
-fn ballots_of(instances: &[Instance], reports: &[usize]) -> ArrayVec<Ballot, MOST_INSTANCES>
-    requires { length reports.now ≤ MOST_INSTANCES }
-    ensures { result.items ≡ map (ballot_of instances.now reports.now (λ i. 0)) reports.now }
-{
-    let mut firsts = Firsts::new();
-    let mut ballots = ArrayVec::new();
-    for index in 0..reports.len() {
-        ballots.push(Ballot {
-            number: reports[index],
-            first: firsts.see(instances, reports, index),
-            value: value_at(instances, reports[index]),
-            votes: 0,
-        });
+    match agreement {
+        Agreement::Exact => 0,
+        Agreement::Within(distance) => *distance,
     }
-    ballots
+}
+
+/// The whole number as which the output of a report is compared, if it is.
+fn value_at(agreement: &Agreement, instances: &[Instance], number: usize) -> Option<i64>
+    ensures { result ≡ number_in agreement.now (output_of instances.now number) }
+{
+    match agreement {
+        Agreement::Exact => None,
+        Agreement::Within(_) => whole_number_of(output_at(instances, number).as_bytes()),
+    }
 }
 
 /// Whether the outputs of two reports agree.
-fn do_agree(agreement: &Agreement, left: &Ballot, right: &Ballot) -> bool
-    ensures { result ≡ agree_by agreement.now left.now.first left.now.value right.now.first right.now.value }
+fn do_agree(distance: u32, voter: &Ballot, ballot: &Ballot) -> bool
+    ensures { result ≡ agrees_with distance voter.now ballot.now }
 {
-    match (agreement, left.value, right.value) {
-        (Agreement::Within(distance), Some(_), Some(_)) => {
-            are_numbers_within(*distance, left.value, right.value)
-        }
-        _ => left.first == right.first,
+    match (ballot.value, voter.value) {
+        (Some(one), Some(other)) => one.abs_diff(other) <= u64::from(distance),
+        _ => ballot.first == voter.first,
     }
 }
 
-/// Counts a voter for a ballot: it has one vote more if the two agree.
-fn add_vote(agreement: &Agreement, voter: &Ballot, ballot: &mut Ballot)
+/// Counts a voter for a ballot: it has one vote more if the two agree. Returns whether they do.
+fn add_vote(distance: u32, voter: &Ballot, ballot: &mut Ballot) -> bool
     requires { ballot.old.votes ≤ MOST_INSTANCES }
-    ensures { ballot.new ≡ voted agreement.now voter.now ballot.old }
+    ensures ballot { ballot.new ≡ voted distance voter.now ballot.old }
+    ensures agreed { result ≡ agrees_with distance voter.now ballot.old }
 {
-    if do_agree(agreement, ballot, voter) {
-        ballot.votes += 1;
-    }
+    let agreed = do_agree(distance, voter, ballot);
+    ballot.votes += usize::from(agreed);
+    agreed
+}
+
+/// What the vote of one report has changed.
+#[derive(Drop)]
+struct Counted {
+    /// How many ballots have one vote more.
+    agreed: usize,
+    /// The most votes that one of the ballots has by now.
+    most_votes: usize,
 }
 
 /// Counts the vote of one report.
-fn count_vote(agreement: &Agreement, voter: &Ballot, ballots: &mut [Ballot])
+fn count_vote(distance: u32, voter: &Ballot, ballots: &mut [Ballot]) -> Counted
     requires { All (λ ballot. ballot.votes ≤ MOST_INSTANCES) ballots.old }
-    ensures { ballots.new ≡ map (voted agreement.now voter.now) ballots.old }
+    ensures ballots { ballots.new ≡ map (voted distance voter.now) ballots.old }
+    ensures agreed { result.agreed ≡ count_by (agrees_with distance voter.now) ballots.old }
+    ensures most { result.most_votes ≡ most_votes ballots.new }
 {
+    let mut agreed = 0;
+    let mut most_votes: usize = 0;
     for ballot in ballots.iter_mut() {
-        add_vote(agreement, voter, ballot);
+        agreed += usize::from(add_vote(distance, voter, ballot));
+        most_votes = most_votes.max(ballot.votes);
     }
+    Counted { agreed, most_votes }
 }
 
 /// The first report with enough votes.
 fn leader_of(ballots: &[Ballot], enough: usize) -> Option<usize>
-    ensures { result ≡ option_map (λ b. b.number) (find (λ b. nat_le enough b.votes) ballots.now) }
+    ensures { result ≡ leader_by enough ballots.now }
 {
     match ballots.iter().find(|ballot| enough <= ballot.votes) {
         None => None,
         Some(ballot) => Some(ballot.number),
+    }
+}
+
+/// The votes among the reports that have joined so far.
+#[derive(Drop)]
+struct Tally {
+    /// The first of them with each output.
+    firsts: Firsts,
+    /// Their ballots, in the order in which they joined.
+    ballots: ArrayVec<Ballot, MOST_INSTANCES>,
+    /// The most votes that one of them has.
+    most_votes: usize,
+}
+
+impl Tally {
+    /// The tally of no report.
+    fn new() -> Tally
+        ensures firsts { result.firsts.numbers.items ≡ [] }
+        ensures ballots { result.ballots.items ≡ [] }
+        ensures most { result.most_votes ≡ 0 }
+    {
+        Tally {
+            firsts: Firsts::new(),
+            ballots: ArrayVec::new(),
+            most_votes: 0,
+        }
+    }
+
+    /// The report at an index joins, once those before it have. It votes for itself, and where it agrees with one
+    /// before it, each votes for the other.
+    fn join(
+        &mut self,
+        agreement: &Agreement,
+        instances: &[Instance],
+        reports: &[usize],
+        index: usize,
+    )
+        requires few { length reports.now ≤ MOST_INSTANCES }
+        requires within { index < length reports.now }
+        requires tally { IsTallyOf agreement.now instances.now reports.now index self.old }
+        ensures { IsTallyOf agreement.now instances.now reports.now (index + 1) self.new }
+    {
+        let mut ballot = Ballot {
+            number: reports[index],
+            first: self.firsts.see(instances, reports, index),
+            value: value_at(agreement, instances, reports[index]),
+            votes: 1,
+        };
+        let counted = count_vote(distance_of(agreement), &ballot, self.ballots.as_mut_slice());
+        ballot.votes += counted.agreed;
+        self.ballots.push(ballot);
+        self.most_votes = counted.most_votes.max(ballot.votes);
+    }
+
+    /// The first report with enough votes. The ballots are searched only if one of them has.
+    fn leader(&self, enough: usize) -> Option<usize>
+        requires { self.now.most_votes ≡ most_votes self.now.ballots.items }
+        ensures { result ≡ leader_by enough self.now.ballots.items }
+    {
+        if self.most_votes < enough {
+            None
+        } else {
+            leader_of(self.ballots.as_slice(), enough)
+        }
     }
 }
 
@@ -107,16 +179,15 @@ pub(crate) fn first_leader_among(
     requires reached { quorum ≤ length reports.now }
     ensures { result ≡ first_leader agreement.now instances.now enough (take quorum reports.now) (drop quorum reports.now) }
 {
-    let mut ballots = ballots_of(instances, reports);
+    let mut tally = Tally::new();
     for front in 0..reports.len() {
         if quorum <= front {
-            let leader = leader_of(&ballots.as_slice()[..front], enough);
+            let leader = tally.leader(enough);
             if leader.is_some() {
                 return leader;
             }
         }
-        let voter = ballots.as_slice()[front];
-        count_vote(agreement, &voter, ballots.as_mut_slice());
+        tally.join(agreement, instances, reports, front);
     }
-    leader_of(ballots.as_slice(), enough)
+    tally.leader(enough)
 }
