@@ -203,7 +203,7 @@ fn status_with(canonical: Option<usize>, unit: &Workunit, instances: &[Instance]
     Status::Open
 }
 
-/// Decides a workunit: its canonical result and its status. Each pair of good reports is compared once or twice.
+/// Decides a workunit: its canonical result and its status. Each pair of good reports is compared at most once.
 pub fn decide(agreement: &Agreement, unit: &Workunit, instances: &[Instance]) -> Decided
     requires { length instances.now ≤ MOST_INSTANCES }
     ensures { result ≡ decided agreement.now unit.now instances.now }

@@ -171,10 +171,9 @@ impl<K: KnownUnits> Offering<'_, K> {
 
     /// Offers the instances of open workunits that were given to nobody, in the order of their places, from this place on.
     /// The offers end when the taker says stop. A candidate that the skip covers or that the taker passes over is not
-    /// offered. Pages are read from the first place on that the skip does not cover. If the
-    /// window that was read last has what waits there, the offers begin on that window. If not, another window is read and
-    /// replaces it. A workunit is read if it is not known. If the tables are unavailable, the offers end early. What the
-    /// connection shows is unchanged.
+    /// offered. Pages are read from the first place on that the skip does not cover. If the window that was read last has
+    /// what waits there, the offers begin on that window. If not, another window is read and replaces it. A workunit is read
+    /// if it is not known. If the tables are unavailable, the offers end early. What the connection shows is unchanged.
     pub fn unsent_from<S: Alter, T: Taker>(
         &self,
         alloc: Global,
