@@ -56,6 +56,7 @@ ANSWERED = (
     "heard_at = ?, about = coalesce(?, about) "
     "WHERE authenticator = ? AND host_cpid = ? AND scheduler_hostid = ?"
 )
+HAS_HOST = "SELECT 1 FROM host WHERE authenticator = ? AND host_cpid = ?"
 NUMBERED = "UPDATE host SET scheduler_hostid = ? WHERE authenticator = ? AND host_cpid = ?"
 JOB_MEMBERS = [member.name for member in fields(Job)]
 values_of_job = attrgetter(*JOB_MEMBERS)
@@ -327,7 +328,8 @@ class CallNumbers:
         it. Credit that the state has already is not written.
 
         With the client's seqno the call was opened in that state, by open_as. If the bridge knows the
-        account, the write is put off then, at most until the host's next call is opened.
+        account, the write is put off then, at most until the host's next call is opened. That of the credit
+        is put off longer: if it gets lost, that call is still open, and its answer has the credit.
         """
         if state is None:
             state = self.state(key)
@@ -336,8 +338,13 @@ class CallNumbers:
         if seqno is None or state.day is None or state.account is None:
             with self.file.transaction(is_synced=False) as connection:
                 write(connection)
-        else:
-            self.file.put_off((key.authenticator, state.day.number), write)
+                CreditWrite(key, reply, state, now)(connection)
+            return
+        self.file.put_off((key.authenticator, state.day.number), write)
+        former = self.file.waiting(key)
+        if isinstance(former, CreditWrite):
+            state = former.state
+        self.file.put_off(key, CreditWrite(key, reply, state, now))
 
     def give_hostid(self, key: Key) -> int | None:
         """Returns the number of a host, which its client gets with this reply. The host has one if a
@@ -416,12 +423,36 @@ class AnswerWrite:
             key.host_cpid,
             reply.hostid,
         )
-        is_stored = connection.execute(ANSWERED, values).rowcount == 1
-        if not is_stored:
+        if connection.execute(ANSWERED, values).rowcount == 0:
             store_number(connection, key, reply.hostid)
-            is_stored = connection.execute(ANSWERED, values).rowcount == 1
-        if is_stored:  # else the account was deleted just now
-            record_credit(connection, key, reply, self._state, self._now)
+            connection.execute(ANSWERED, values)
+
+
+class CreditWrite:
+    """What is stored of the credit in an answer, for the account and by days. What the state has already is
+    not written.
+    """
+
+    __slots__ = ("_key", "_reply", "state", "_now")
+
+    def __init__(self, key: Key, reply: Reply, state: KeyState, now: int) -> None:
+        self._key, self._reply, self.state, self._now = key, reply, state, now
+
+    def __call__(self, connection: sqlite3.Connection) -> None:
+        """Writes, within a transaction, unless the account was deleted just now."""
+        key, account, day = self._key, self.state.account, self._now // DAY
+        if connection.execute(HAS_HOST, (key.authenticator, key.host_cpid)).fetchone() is None:
+            return
+        credit = self._reply.user_total_credit
+        if account is None:
+            number = first_heard(connection, key.authenticator, self._reply.user_name, self._now, credit)
+            MEMBER_TABLE.record(connection, StoredDay(number, day, None), day, credit)
+        else:
+            if account.credit != credit:
+                store_credit(connection, account.day.number, credit)
+            MEMBER_TABLE.record(connection, account.day, day, credit)
+        if self.state.day is not None:
+            HOST_TABLE.record(connection, self.state.day, day, self._reply.host_total_credit)
 
 
 def store_number(connection: sqlite3.Connection, key: Key, number: int) -> None:
@@ -437,19 +468,3 @@ def store_number(connection: sqlite3.Connection, key: Key, number: int) -> None:
             (key.authenticator, number),
         )
         connection.execute(NUMBERED, values)
-
-
-def record_credit(connection: sqlite3.Connection, key: Key, reply: Reply, state: KeyState, now: int) -> None:
-    """Stores the credit in a reply, for the account and by days, within a transaction. What the state has
-    already is not written.
-    """
-    account, credit, day = state.account, reply.user_total_credit, now // DAY
-    if account is None:
-        number = first_heard(connection, key.authenticator, reply.user_name, now, credit)
-        MEMBER_TABLE.record(connection, StoredDay(number, day, None), day, credit)
-    else:
-        if account.credit != credit:
-            store_credit(connection, account.day.number, credit)
-        MEMBER_TABLE.record(connection, account.day, day, credit)
-    if state.day is not None:
-        HOST_TABLE.record(connection, state.day, day, reply.host_total_credit)

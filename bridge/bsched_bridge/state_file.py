@@ -304,8 +304,9 @@ class StateFile:
 
     def put_off(self, key: Hashable, write: Write) -> None:
         """Puts the write of a key off until a transaction begins with it, or until somebody reads the file
-        by this connection.
+        by this connection. It takes the place of an earlier one of the key, and is done after all others.
         """
+        self._waiting.pop(key, None)
         self._waiting[key] = write
         if len(self._waiting) > MOST_WAITING:
             self.write_waiting()

@@ -204,6 +204,25 @@ def test_a_call_of_another_host_leaves_an_answer_put_off(numbers: CallNumbers, t
     assert numbers.file.rows("SELECT open_call FROM host") == [(None,), (None,)]
 
 
+def test_credit_that_is_put_off_is_stored_once(numbers: CallNumbers, today: None) -> None:
+    """Several answers to two hosts of an account come before it is stored."""
+    other = Key("ann-key", "c2")
+    numbers.open(other, lambda number: b"call")
+    numbers.record_answer(other, reply(2), [])
+    second, first = numbers.give_hostid(other) or 0, answered_host(numbers)
+    for seqno, (key, hostid, credit) in enumerate([(KEY, first, 8), (other, second, 9), (KEY, first, 10)]):
+        known = numbers.of_number("ann-key", hostid)
+        assert known is not None
+        assert numbers.open_as(key, known.state, lambda number: b"call", ClientState(seqno=seqno))
+        assert numbers.file.stored_row("SELECT credit FROM member") == (5,)
+        answer = replace(reply(1 if key == KEY else 2), user_total_credit=credit, host_total_credit=credit)
+        numbers.record_answer(key, answer, [], known.state, "{}", seqno)
+    assert numbers.file.row("SELECT credit FROM member") == (10,)
+    days = CreditDays(numbers.file)
+    assert days.of_member(1) == days.of_host(first) == [CreditDay(TODAY, 10)]
+    assert days.of_host(second) == [CreditDay(TODAY, 9)]
+
+
 def test_an_answer_that_is_put_off_is_in_the_next_transaction(numbers: CallNumbers, today: None) -> None:
     hostid = answered_host(numbers)
     answered(numbers, hostid, 8, [], 1)
