@@ -340,11 +340,11 @@ class CallNumbers:
                 write(connection)
                 CreditWrite(key, reply, state, now)(connection)
             return
-        self.file.put_off((key.authenticator, state.day.number), write)
         former = self.file.waiting(key)
-        if isinstance(former, CreditWrite):
-            state = former.state
-        self.file.put_off(key, CreditWrite(key, reply, state, now))
+        stored = former.state if isinstance(former, CreditWrite) else state
+        # the credit comes first: as long as it can get lost, the call or the next one is open
+        self.file.put_off(key, CreditWrite(key, reply, stored, now))
+        self.file.put_off((key.authenticator, state.day.number), write)
 
     def give_hostid(self, key: Key) -> int | None:
         """Returns the number of a host, which its client gets with this reply. The host has one if a

@@ -91,7 +91,7 @@ def test_a_usual_call_takes_one_transaction(bridge: Bridge, events: Callable[...
     bridge.call(request(hostid=FIRST, listed=[]))
     assert kinds(seen) == [*CALL, "BEGIN", "UPDATE", "UPDATE", "COMMIT", "SEND"]
     bridge.got("/p/computers")
-    assert kinds(seen)[-4:] == ["BEGIN", "UPDATE", "SELECT", "COMMIT"]
+    assert kinds(seen)[-4:] == ["BEGIN", "SELECT", "UPDATE", "COMMIT"]
     assert not last_commit(seen)[0]
 
 
@@ -114,7 +114,7 @@ def test_another_credit_takes_three_statements(bridge: Bridge, events: Callable[
     seen = events(bridge)
     bridge.call(request(hostid=FIRST))
     bridge.file.write_waiting()
-    assert kinds(seen) == [*CALL, "BEGIN", "UPDATE", "SELECT", "UPDATE", "INSERT", "INSERT", "COMMIT"]
+    assert kinds(seen) == [*CALL, "BEGIN", "SELECT", "UPDATE", "INSERT", "INSERT", "UPDATE", "COMMIT"]
     assert bridge.file.row("SELECT count(*) FROM member_day WHERE credit = 1") == (0,)
 
 
@@ -127,4 +127,4 @@ def test_the_first_call_of_a_day_forgets_days(bridge: Bridge, events: Callable[.
     seen = events(bridge)
     bridge.call(request(hostid=FIRST))
     bridge.file.write_waiting()
-    assert kinds(seen) == [*CALL, "BEGIN", "UPDATE", "SELECT", *["INSERT", "DELETE"] * 2, "COMMIT"]
+    assert kinds(seen) == [*CALL, "BEGIN", "SELECT", *["INSERT", "DELETE"] * 2, "UPDATE", "COMMIT"]
