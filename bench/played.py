@@ -13,6 +13,7 @@ import signal
 import socket
 import time
 from collections import Counter
+from collections.abc import Sequence
 from dataclasses import dataclass
 from types import FrameType
 from typing import Any, NoReturn
@@ -22,7 +23,7 @@ from serve_life import Answered
 from served import free_port, processor_seconds, started, wants
 
 OPENING = 900  # how many seconds an opening may take
-ANSWER = 120  # how many seconds an answer may take
+ANSWER = 900  # how many seconds an answer may take, also under valgrind
 MOST_COUNT = 1_000_000  # how many connections a server takes
 DEADLINE = re.compile(rb'"report_deadline":(\d+)')
 
@@ -73,11 +74,12 @@ def wait_until_idle(process: Any) -> None:
         time.sleep(0.0001)
 
 
-def begun(program: str, tables: str) -> serve_life.Run:
-    """Starts a program's server over tables and returns it once it takes connections. All servers run on one
-    processor, so other work of the machine there slows all of them."""
+def begun(program: str, tables: str, before: Sequence[str] = ()) -> serve_life.Run:
+    """Starts a program's server over tables, under the command `before` if it is given, and returns it once
+    it takes connections. All servers run on one processor, so other work of the machine there slows all of
+    them."""
     begin, port = time.perf_counter(), free_port()
-    run = serve_life.Run(started(program, tables, port, MOST_COUNT, seconds=OPENING), port, begin)
+    run = serve_life.Run(started(program, tables, port, MOST_COUNT, before, OPENING), port, begin)
     os.sched_setaffinity(run.server.pid, {max(os.sched_getaffinity(0))})
     wait_until_idle(run.server)
     return run

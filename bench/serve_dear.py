@@ -13,8 +13,8 @@ import json
 import os
 import statistics
 import string
-from collections.abc import Iterator
-from dataclasses import dataclass
+from collections.abc import Iterator, Sequence
+from dataclasses import dataclass, field
 from typing import Any
 
 import plain_tables
@@ -65,6 +65,11 @@ class Figures:
         if not is_kept:
             broken.append(what)
 
+    def tell_fresh(self, milliseconds: float) -> None:
+        """Prints what a fresh host's call took, and compares the further messages with it."""
+        self.fresh = milliseconds
+        print(f"dear: a fresh host's call, without a job: {milliseconds:.2f} milliseconds", flush=True)
+
     def tell(self, took: Took) -> None:
         """Prints what a message took."""
         times = took.ours / self.fresh
@@ -99,9 +104,13 @@ class Figures:
         """Prints what a tick took that found late jobs, and checks its goals."""
         self.tell_other(took)
         each = took.ours * 1000 / late
-        print(f"dear: that is {each:.0f} microseconds for each late instance", flush=True)
+        self.tell_each(each)
         goal = f"a tick takes at most {MOST_LATE:.0f} microseconds an instance"
         self.check(goal, took.what, each <= MOST_LATE)
+
+    def tell_each(self, microseconds: float) -> None:
+        """Prints what each late instance of a tick took."""
+        print(f"dear: that is {microseconds:.0f} microseconds for each late instance", flush=True)
 
     def tell_goals(self) -> None:
         """Prints which goals hold."""
@@ -112,9 +121,9 @@ class Figures:
 class Group:
     """Messages to one run of the program over a copy of tables, to the twin, and to SQLite in C."""
 
-    def __init__(self, program: str, tables: str, folder: str) -> None:
+    def __init__(self, program: str, tables: str, folder: str, before: Sequence[str] = ()) -> None:
         ours, theirs, bare = (copied(tables, folder, f"{name}.db") for name in ("ours", "theirs", "bare"))
-        self.both = Twinned(program, ours, theirs, lambda name: DELAY)
+        self.both = Twinned(program, ours, theirs, lambda name: DELAY, before)
         self.both.begin()
         self.recorder = Recorder(self.both.tables)
         self.bare = plain_tables.Tables(bare).connection
@@ -148,18 +157,30 @@ class Group:
         self.both.same_rows(self.both.ours)
 
 
+@dataclass
+class Bench:
+    """The program that is measured, a folder for copies of tables, and the figures."""
+
+    program: str
+    folder: str
+    figures: Figures = field(default_factory=Figures)
+
+    def group(self, tables: str) -> Group:
+        """Begins a group of messages over a copy of tables."""
+        return Group(self.program, tables, self.folder)
+
+
 def report_of(name: str, output: str) -> dict[str, Any]:
     """Returns a report of a success."""
     return {"name": name, "exit_status": 0, "output": output}
 
 
-def large_calls(program: str, large: Large, tables: str, folder: str, figures: Figures) -> None:
+def large_calls(bench: Bench, large: Large, tables: str) -> None:
     """Measures calls about large workunits."""
-    each, jobs = OWN_ROWS + INSTANCES, large.sizes.jobs
-    group = Group(program, tables, folder)
+    figures, each, jobs = bench.figures, OWN_ROWS + INSTANCES, large.sizes.jobs
+    group = bench.group(tables)
     took = [group.fresh(large.hosts + number) for number in range(1, FRESH + 1)]
-    figures.fresh = statistics.median(one.ours for one in took)
-    print(f"dear: a fresh host's call, without a job: {figures.fresh:.2f} milliseconds", flush=True)
+    figures.tell_fresh(statistics.median(one.ours for one in took))
     for shape in large.shapes:
         (name,) = shape.names(1)
         what = f"a report that differs from {INSTANCES - 1} others, {shape.what}"
@@ -168,7 +189,7 @@ def large_calls(program: str, large: Large, tables: str, folder: str, figures: F
         figures.tell_call(one)
     group.end()
     for shape in large.shapes:
-        group, host = Group(program, tables, folder), shape.holder
+        group, host = bench.group(tables), shape.holder
         group.fresh(large.hosts + 1)
         names = shape.names(large.sizes.reports)
         results = [report_of(name, shape.output(host)) for name in names]
@@ -182,27 +203,25 @@ def large_calls(program: str, large: Large, tables: str, folder: str, figures: F
     listed = f"a host lists {len(own + others)} names, {jobs} of them its jobs of such workunits"
     cases = {listed: own + others, f"a host has lost {jobs} jobs of such workunits": list[str]()}
     for what, names in cases.items():
-        group = Group(program, tables, folder)
+        group = bench.group(tables)
         group.fresh(large.hosts + 1)
         one, _ = group.ask(what, each * jobs + 1, shape.holder, shape.holder, other_results=names)
         figures.tell_call(one)
         group.end()
 
 
-def late_tick(
-    program: str, tables: str, folder: str, figures: Figures, late: int, what: str, rows: int
-) -> None:
+def late_tick(bench: Bench, tables: str, late: int, what: str, rows: int) -> None:
     """Measures a tick that finds late jobs."""
-    group = Group(program, tables, folder)
+    group = bench.group(tables)
     took, content = group.send(f"a tick with {late} late jobs of {what}", rows, TICK)
     wants(json.loads(content), {"lapsed": late}, "a tick")
-    figures.tell_tick(took, late)
+    bench.figures.tell_tick(took, late)
     group.end()
 
 
-def small_calls(program: str, small: Small, tables: str, folder: str, figures: Figures) -> None:
+def small_calls(bench: Bench, small: Small, tables: str) -> None:
     """Measures calls about small workunits."""
-    group, each = Group(program, tables, folder), OWN_ROWS + 2
+    figures, group, each = bench.figures, bench.group(tables), OWN_ROWS + 2
     group.fresh(next(small.free_users()))
     host, user = small.many[0], small.user_of(small.many[0])
     for when in ("", ", once more"):
@@ -249,37 +268,38 @@ def import_text(rows: Iterator[str]) -> tuple[str, int]:
     return text + "\n" * (MOST_IMPORT - len(text)), len(lines) - 1
 
 
-def imports(program: str, small: Small, tables: str, folder: str, figures: Figures) -> None:
+def imports(bench: Bench, small: Small, tables: str) -> None:
     """Measures imports, and the first fresh call after each."""
     shortest = (f"{name},d,2,2,0,2,0,1,1,0,0,0" for name in shortest_names())
     usual = (f"further-{number},dock,2,2,3,8,6,{LIMITS}" for number in itertools.count(1))
     users = small.free_users()
     for which, rows in (("usual", usual), ("the shortest", shortest)):
-        group = Group(program, tables, folder)
+        group = bench.group(tables)
         group.fresh(next(users))
         text, count = import_text(rows)
         what = f"an import of {MOST_IMPORT} bytes, {count} {which} workunits with two instances"
         took, content = group.send(what, 0, import_of("workunits", "most", text))
         wants(json.loads(content)["rows"], count, what)
-        figures.tell_import(took)
+        bench.figures.tell_import(took)
         one = group.fresh(next(users))
-        figures.tell_call(Took("the first fresh call after that import", 0, one.ours, one.bare, one.clock))
+        first = "the first fresh call after that import"
+        bench.figures.tell_call(Took(first, 0, one.ours, one.bare, one.clock))
         group.end()
 
 
 # ---- Statements, and bodies
 
 
-def statement(program: str, small: Small, tables: str, folder: str, figures: Figures) -> None:
+def statement(bench: Bench, small: Small, tables: str) -> None:
     """Measures a statement. The twin has none."""
-    run = begun(program, copied(tables, folder, "ours.db"))
+    run = begun(bench.program, copied(tables, bench.folder, "ours.db"))
     message = f"GET /hosts/{small.busy_host} HTTP/1.1\r\nx-operator-key: {serve_life.KEY}\r\n\r\n".encode()
     (answer, start, end), seconds = exchange_timed(run, message)
     lines = answer.partition(b"\r\n\r\n")[2].count(b"\n")
     results = small.sizes.results
     wants(lines, results + 2, "the lines of a statement")
     what, rows = f"a statement of a host with {results} results", results * (OWN_ROWS + 2) + 1
-    figures.tell_other(Took(what, rows, seconds * 1e3, None, (end - start) * 1e3))
+    bench.figures.tell_other(Took(what, rows, seconds * 1e3, None, (end - start) * 1e3))
     ended(run)
 
 
@@ -316,9 +336,10 @@ def bodies() -> dict[str, bytes]:
     }
 
 
-def refused(program: str, tables: str, folder: str, figures: Figures) -> None:
+def refused(bench: Bench, tables: str) -> None:
     """Measures bodies that are refused."""
-    run, blanks = begun(program, copied(tables, folder, "ours.db")), 0.0
+    figures, blanks = bench.figures, 0.0
+    run = begun(bench.program, copied(tables, bench.folder, "ours.db"))
     for what, body in bodies().items():
         wants(len(body), MOST_BODY, f"the bytes of {what}")
         each = []
@@ -337,25 +358,41 @@ def refused(program: str, tables: str, folder: str, figures: Figures) -> None:
     ended(run)
 
 
+# ---- All of them
+
+
+class Tables:
+    """The files for the messages, and what is in them."""
+
+    def __init__(self, program: str, folder: str, sizes: Sizes) -> None:
+        self.large_path, self.late_path, self.small_path = (
+            os.path.join(folder, f"{name}.db") for name in ("large", "late", "small")
+        )
+        self.large, self.small = Large(sizes), Small(sizes)
+        self.large.make(program, self.large_path)
+        self.large.make_late(self.large_path, self.late_path)
+        self.small.make(program, self.small_path)
+
+
+def good_messages(bench: Bench, tables: Tables) -> None:
+    """Measures the messages that change tables."""
+    large, small = tables.large, tables.small
+    large_calls(bench, large, tables.large_path)
+    small_calls(bench, small, tables.small_path)
+    units, late = large.late_units(), len(small.late)
+    rows = units * (OWN_ROWS + INSTANCES) + EACH
+    late_tick(bench, tables.late_path, units * EACH, "large workunits", rows)
+    rows = late * (OWN_ROWS + 2) + len(small.late_hosts)
+    late_tick(bench, tables.small_path, late, "small workunits", rows)
+    imports(bench, small, tables.small_path)
+
+
 def dear(options: Options, folder: str) -> None:
     """Measures the dearest messages."""
     limit_time("dear", 7200)
-    large_path, late_path, small_path = (
-        os.path.join(folder, f"{name}.db") for name in ("large", "late", "small")
-    )
-    program, figures, sizes = options.program, Figures(), Sizes().part(options.part)
-    large, small = Large(sizes), Small(sizes)
-    large.make(program, large_path)
-    large.make_late(large_path, late_path)
-    small.make(program, small_path)
-    large_calls(program, large, large_path, folder, figures)
-    small_calls(program, small, small_path, folder, figures)
-    units, late = large.late_units(), len(small.late)
-    rows = units * (OWN_ROWS + INSTANCES) + EACH
-    late_tick(program, late_path, folder, figures, units * EACH, "large workunits", rows)
-    rows = late * (OWN_ROWS + 2) + len(small.late_hosts)
-    late_tick(program, small_path, folder, figures, late, "small workunits", rows)
-    imports(program, small, small_path, folder, figures)
-    statement(program, small, small_path, folder, figures)
-    refused(program, small_path, folder, figures)
-    figures.tell_goals()
+    bench = Bench(options.program, folder)
+    tables = Tables(options.program, folder, Sizes().part(options.part))
+    good_messages(bench, tables)
+    statement(bench, tables.small, tables.small_path)
+    refused(bench, tables.small_path)
+    bench.figures.tell_goals()

@@ -30,6 +30,7 @@ from typing import Any, Self
 import plain
 import plain_tables
 import project
+from instructions import Instructions
 from plain_formats import KINDS, Refused, record_of, text
 from served import free_port, memory_of, ordered, peak, processor_seconds, started, wants
 
@@ -889,29 +890,6 @@ def under(before: Sequence[str], program: str, path: str, folder: str, bodies: l
     run.send(messages_of(bodies, [0] * len(bodies))).end_by_itself()
 
 
-def counted(found: str) -> tuple[Counter[str], Counter[str], Counter[str]]:
-    """Reads what callgrind wrote. Returns for each function its own instructions, those including what it
-    calls, and how often it was called."""
-    names: dict[str, str] = {}
-    own, whole, calls = Counter[str](), Counter[str](), Counter[str]()
-    function = called = ""
-    with open(found) as file:
-        for line in file:
-            if named := re.match(r"(c?fn)=\((\d+)\)(?: (.*))?", line):
-                if named[3]:
-                    names[named[2]] = re.sub(r"('\d+)?$", "", re.sub(r"::<#\w+>", "", named[3]))
-                if named[1] == "fn":
-                    function = names[named[2]]
-                else:
-                    called = names[named[2]]
-            elif line.startswith("calls="):
-                calls[called] += int(line[6:].split()[0])
-                whole[called] += int(next(file).split()[1])
-            elif function and re.match(r"[\d+*-]", line):
-                own[function] += int(line.split()[1])
-    return own, whole, calls
-
-
 def profile(program: str, folder: str) -> None:
     """Prints the system calls and instructions of a short life, and how many look-ups it runs."""
     path, found = made(program, LEAST), os.path.join(folder, "found")
@@ -936,22 +914,20 @@ def profile(program: str, folder: str) -> None:
             folder,
             some,
         )
-        counts.append(counted(found))
-    own, whole, calls = (after - before for before, after in zip(*counts))
+        counts.append(Instructions.read(found))
+    spent = counts[1].since(counts[0])
+    own, whole = spent.own, spent.whole
     twin = sum(statement.startswith("SELECT") for ran in ran_by(path, folder, bodies) for statement, _ in ran)
-    looked = calls["sqlite::connection::Connection::query_near"]
+    looked = spent.calls["sqlite::connection::Connection::query_near"]
     print(f"profile: the program runs {looked} look-ups in these calls, the twin {twin}")
     print(f"profile: {own.total() // len(bodies)} instructions per call; their percentages:")
-    crates: Counter[str] = Counter()
-    for function, many in own.items():
-        crates[function.split("::")[0] if "::" in function else "libc"] += many
     stages = {"sqlite::connection::Connection::query_near": "look-ups", "table_rows::put::put_each": "puts"}
     stages["sqlite::connection::Connection::commit"] = "the commit"
     stages["message_engine::commits::commit_and_answer"] = "that a commit calls, these two with it"
     stages["call_working_set::by_name::put_all"] = "changes put into a call state, in the step and the commit"
     for what, many in [
         *((f"all {stage}", whole[function]) for function, stage in stages.items()),
-        *((f"the crate {crate}", many) for crate, many in crates.most_common(10)),
+        *((f"the crate {crate}", many) for crate, many in spent.by_crate().most_common(10)),
         *own.most_common(16),
     ]:
         print(f"  {100 * many / own.total():5.1f} {what}")

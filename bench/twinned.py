@@ -9,7 +9,7 @@ import hashlib
 import json
 import sqlite3
 import time
-from collections.abc import Callable
+from collections.abc import Callable, Sequence
 from dataclasses import dataclass
 
 import plain_tables
@@ -106,16 +106,24 @@ class Deadlines:
 
 
 class Twinned:
-    """The program and the twin. `delay_of` returns the delay bound of a job by its name."""
+    """The program, under the command `before` if it is given, and the twin. `delay_of` returns the delay
+    bound of a job by its name."""
 
-    def __init__(self, program: str, ours: str, theirs: str, delay_of: Callable[[str], int]) -> None:
-        self.program, self.ours, self.theirs = program, ours, theirs
+    def __init__(
+        self,
+        program: str,
+        ours: str,
+        theirs: str,
+        delay_of: Callable[[str], int],
+        before: Sequence[str] = (),
+    ) -> None:
+        self.program, self.ours, self.theirs, self.before = program, ours, theirs, before
         self.deadlines, self.digest = Deadlines(delay_of), hashlib.sha256()
         self.made: set[int] = set()  # the hashes of all calls that were made
 
     def begin(self) -> Run:
         """Starts both. Returns the server."""
-        self.run = begun(self.program, self.ours)
+        self.run = begun(self.program, self.ours, self.before)
         self.open_twin()
         return self.run
 
