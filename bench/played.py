@@ -23,7 +23,7 @@ from serve_life import Answered
 from served import free_port, processor_seconds, started, wants
 
 OPENING = 900  # how many seconds an opening may take
-ANSWER = 900  # how many seconds an answer may take, also under valgrind
+ANSWER = 3600  # how many seconds an answer may take, also under valgrind
 MOST_COUNT = 1_000_000  # how many connections a server takes
 DEADLINE = re.compile(rb'"report_deadline":(\d+)')
 

@@ -8,6 +8,7 @@ A goal for a call is a multiple of a fresh host's call, for each hundred rows th
 workunit that it reports, lists, has lost or gets, its mark, all its instances, and the hosts whose credit or
 quota change. It does not count what the program reads to find them.
 """
+import contextlib
 import itertools
 import json
 import os
@@ -22,7 +23,7 @@ import serve_life
 from dear_tables import EACH, INSTANCES, LIMITS, Large, Sizes, Small
 from plain_formats import KINDS
 from played import Options, begun, ended, exchange_timed, limit_time
-from serve_life import CREDIT, DELAY, HOUR, Recorder, copied, request
+from serve_life import CREDIT, DELAY, HOUR, Recorder, Run, copied, request
 from serve_worst import FRESH
 from served import wants
 from twinned import TICK, Message, Twinned, call_of, import_of
@@ -31,6 +32,7 @@ MOST_BODY, MOST_IMPORT, MOST_NAMES = 262_144, 1_048_576, 1024
 OWN_ROWS = 2  # the rows of a workunit besides its instances: itself and its mark
 ASKED = 10  # how many jobs the busy user asks for
 DEEP = 125  # how deep the objects of a refused body are nested, within the body and an array
+FRESH_CALL = "a fresh host's call, without a job"
 TRIES = 5  # how often each refused body is sent; the least time counts
 # the goals: a call compared with a fresh one for each hundred rows, microseconds for an instance of a tick,
 # milliseconds of any message and of an import, and a refused body compared with blanks
@@ -68,7 +70,7 @@ class Figures:
     def tell_fresh(self, milliseconds: float) -> None:
         """Prints what a fresh host's call took, and compares the further messages with it."""
         self.fresh = milliseconds
-        print(f"dear: a fresh host's call, without a job: {milliseconds:.2f} milliseconds", flush=True)
+        print(f"dear: {FRESH_CALL}: {milliseconds:.2f} milliseconds", flush=True)
 
     def tell(self, took: Took) -> None:
         """Prints what a message took."""
@@ -118,12 +120,41 @@ class Figures:
             print(f"dear: {goal}: " + ("holds" if not broken else "does not hold: " + "; ".join(broken)))
 
 
+@dataclass
+class Bench:
+    """The program that is measured, a folder for copies of tables, and the figures."""
+
+    program: str
+    folder: str
+    figures: Figures = field(default_factory=Figures)
+
+    def command(self) -> Sequence[str]:
+        """Returns the command under which the program runs."""
+        return ()
+
+    @contextlib.contextmanager
+    def watched(self, run: Run, what: str) -> Iterator[None]:
+        """Watches the program while it answers a message."""
+        yield
+
+    def group(self, tables: str) -> "Group":
+        """Begins a group of messages over a copy of tables."""
+        return Group(self, tables)
+
+    def begun(self, tables: str) -> Run:
+        """Starts the program alone over a copy of tables."""
+        return begun(self.program, copied(tables, self.folder, "ours.db"), self.command())
+
+
 class Group:
     """Messages to one run of the program over a copy of tables, to the twin, and to SQLite in C."""
 
-    def __init__(self, program: str, tables: str, folder: str, before: Sequence[str] = ()) -> None:
-        ours, theirs, bare = (copied(tables, folder, f"{name}.db") for name in ("ours", "theirs", "bare"))
-        self.both = Twinned(program, ours, theirs, lambda name: DELAY, before)
+    def __init__(self, bench: Bench, tables: str) -> None:
+        ours, theirs, bare = (
+            copied(tables, bench.folder, f"{name}.db") for name in ("ours", "theirs", "bare")
+        )
+        self.bench = bench
+        self.both = Twinned(bench.program, ours, theirs, lambda name: DELAY, bench.command())
         self.both.begin()
         self.recorder = Recorder(self.both.tables)
         self.bare = plain_tables.Tables(bare).connection
@@ -131,7 +162,8 @@ class Group:
 
     def send(self, what: str, rows: int, message: Message) -> tuple[Took, bytes]:
         """Sends a message. Returns what it took, and the body of the answer, which must be good."""
-        heard = self.both.send(message)
+        with self.bench.watched(self.both.run, what):
+            heard = self.both.send(message)
         bare = serve_life.run_bare(self.bare, self.recorder.taken())
         wants(heard.answer[:13], b"HTTP/1.1 200 ", f"the status of the answer to {what}")
         took = Took(what, rows, heard.seconds * 1e3, bare * 1e3, heard.clock_seconds * 1e3)
@@ -146,7 +178,7 @@ class Group:
 
     def fresh(self, user: int) -> Took:
         """Makes the first call of a user's new host, which asks for nothing."""
-        took, _ = self.ask("a fresh host's call, without a job", 0, 10**6 + user, user, work_req_seconds=0)
+        took, _ = self.ask(FRESH_CALL, 0, 10**6 + user, user, work_req_seconds=0)
         return took
 
     def end(self) -> None:
@@ -155,19 +187,6 @@ class Group:
         self.recorder.close()
         ended(self.both.run)
         self.both.same_rows(self.both.ours)
-
-
-@dataclass
-class Bench:
-    """The program that is measured, a folder for copies of tables, and the figures."""
-
-    program: str
-    folder: str
-    figures: Figures = field(default_factory=Figures)
-
-    def group(self, tables: str) -> Group:
-        """Begins a group of messages over a copy of tables."""
-        return Group(self.program, tables, self.folder)
 
 
 def report_of(name: str, output: str) -> dict[str, Any]:
@@ -292,13 +311,14 @@ def imports(bench: Bench, small: Small, tables: str) -> None:
 
 def statement(bench: Bench, small: Small, tables: str) -> None:
     """Measures a statement. The twin has none."""
-    run = begun(bench.program, copied(tables, bench.folder, "ours.db"))
+    run = bench.begun(tables)
     message = f"GET /hosts/{small.busy_host} HTTP/1.1\r\nx-operator-key: {serve_life.KEY}\r\n\r\n".encode()
-    (answer, start, end), seconds = exchange_timed(run, message)
-    lines = answer.partition(b"\r\n\r\n")[2].count(b"\n")
     results = small.sizes.results
-    wants(lines, results + 2, "the lines of a statement")
     what, rows = f"a statement of a host with {results} results", results * (OWN_ROWS + 2) + 1
+    with bench.watched(run, what):
+        (answer, start, end), seconds = exchange_timed(run, message)
+    lines = answer.partition(b"\r\n\r\n")[2].count(b"\n")
+    wants(lines, results + 2, "the lines of a statement")
     bench.figures.tell_other(Took(what, rows, seconds * 1e3, None, (end - start) * 1e3))
     ended(run)
 
@@ -338,8 +358,7 @@ def bodies() -> dict[str, bytes]:
 
 def refused(bench: Bench, tables: str) -> None:
     """Measures bodies that are refused."""
-    figures, blanks = bench.figures, 0.0
-    run = begun(bench.program, copied(tables, bench.folder, "ours.db"))
+    figures, run, blanks = bench.figures, bench.begun(tables), 0.0
     for what, body in bodies().items():
         wants(len(body), MOST_BODY, f"the bytes of {what}")
         each = []
@@ -375,7 +394,7 @@ class Tables:
 
 
 def good_messages(bench: Bench, tables: Tables) -> None:
-    """Measures the messages that change tables."""
+    """Measures the messages that are not refused."""
     large, small = tables.large, tables.small
     large_calls(bench, large, tables.large_path)
     small_calls(bench, small, tables.small_path)
@@ -385,6 +404,7 @@ def good_messages(bench: Bench, tables: Tables) -> None:
     rows = late * (OWN_ROWS + 2) + len(small.late_hosts)
     late_tick(bench, tables.small_path, late, "small workunits", rows)
     imports(bench, small, tables.small_path)
+    statement(bench, small, tables.small_path)
 
 
 def dear(options: Options, folder: str) -> None:
@@ -393,6 +413,5 @@ def dear(options: Options, folder: str) -> None:
     bench = Bench(options.program, folder)
     tables = Tables(options.program, folder, Sizes().part(options.part))
     good_messages(bench, tables)
-    statement(bench, tables.small, tables.small_path)
     refused(bench, tables.small_path)
     bench.figures.tell_goals()

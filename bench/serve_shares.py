@@ -3,21 +3,22 @@
 It sends the messages of the case `dear` to the program under valgrind's callgrind, which counts while a
 message is answered. Instructions are no times: one that waits for memory counts as much as any other.
 """
-import os
+import contextlib
 import shutil
 import subprocess
+from collections.abc import Iterator
 from pathlib import Path
 
 from dear_tables import Sizes
 from instructions import Instructions
 from played import Options, limit_time
-from serve_dear import Bench, Figures, Group, Tables, Took, good_messages
+from serve_dear import FRESH_CALL, Bench, Figures, Tables, Took, good_messages
+from serve_life import Run
 from served import needs, wants
-from twinned import Message
 
 CRATES = Path(__file__).parent.parent / "crates"
 VALGRIND = "valgrind", "-q", "--tool=callgrind", "--instr-atstart=no"
-FIRST = 4  # how many of the project's own crates are named
+FIRST = 4  # how many crates are named of the library, and of the project's own
 # the crates of the libraries that parse a message or write its answer
 FORMATS = {"json", "serde", "serde_json", "csv", "csv_core", "http", "httparse", "matchit"}
 
@@ -41,8 +42,13 @@ class Shares:
                 self.library -= many
             elif caller in own_crates and called in FORMATS:
                 self.formats += many
-        crates = spent.by_crate()
-        self.own = {crate: many for crate, many in crates.most_common() if crate in own_crates}
+        crates = spent.by_crate().most_common()
+        self.own_first = self.first([one for one in crates if one[0] in own_crates])
+        self.library_first = self.first([one for one in crates if is_library(one[0])])
+
+    def first(self, crates: list[tuple[str, int]]) -> str:
+        """Returns the first of these crates, with what each spent by itself."""
+        return ", ".join(f"{crate} {self.percent(many):.0f}" for crate, many in crates[:FIRST])
 
     def percent(self, many: int) -> float:
         """Returns how many of 100 instructions these are."""
@@ -51,47 +57,39 @@ class Shares:
     def line(self) -> str:
         """Returns the line that says it."""
         rest = self.all - self.library - self.formats
-        first = ", ".join(
-            f"{crate} {self.percent(many):.0f}" for crate, many in list(self.own.items())[:FIRST]
-        )
         return (
             f"{self.all / 1e6:.0f} million instructions; of 100 the library takes "
-            f"{self.percent(self.library):.0f}, the formats {self.percent(self.formats):.0f}, and bsched "
-            f"{self.percent(rest):.0f} (by themselves {first})"
+            f"{self.percent(self.library):.0f} (by themselves {self.library_first}), the formats "
+            f"{self.percent(self.formats):.0f}, and bsched {self.percent(rest):.0f} ({self.own_first})"
         )
-
-
-class CountedGroup(Group):
-    """A group of messages to a program whose instructions are counted."""
-
-    def __init__(self, program: str, tables: str, folder: str) -> None:
-        self.found, self.count = os.path.join(folder, "found"), 0
-        super().__init__(program, tables, folder, [*VALGRIND, f"--callgrind-out-file={self.found}"])
-
-    def control(self, *args: str) -> None:
-        """Gives callgrind an order."""
-        pid = str(self.both.run.server.pid)
-        subprocess.run(["callgrind_control", *args, pid], check=True, capture_output=True)
-
-    def send(self, what: str, rows: int, message: Message) -> tuple[Took, bytes]:
-        """Sends a message, and prints who spent its instructions."""
-        self.control("--instr=on")
-        took, content = super().send(what, rows, message)
-        self.control("--instr=off")
-        self.control("--dump")
-        self.count += 1
-        spent = Instructions.read(f"{self.found}.{self.count}")
-        wants(spent.own.total() > 0, True, f"that callgrind counted {what}")
-        print(f"shares: {what}: {Shares(spent).line()}", flush=True)
-        return took, content
 
 
 class CountedBench(Bench):
-    """A program whose instructions are counted."""
+    """A program whose instructions are counted while it answers a message."""
 
-    def group(self, tables: str) -> Group:
-        """Begins a group of messages over a copy of tables."""
-        return CountedGroup(self.program, tables, self.folder)
+    def command(self) -> list[str]:
+        """Returns the command under which the program runs."""
+        return [*VALGRIND, f"--callgrind-out-file={self.folder}/found"]
+
+    @contextlib.contextmanager
+    def watched(self, run: Run, what: str) -> Iterator[None]:
+        """Counts what a message takes, and prints who spent it, unless it is a fresh host's call."""
+        if what == FRESH_CALL:
+            yield
+            return
+        self.control(run, "--instr=on")
+        yield
+        self.control(run, "--instr=off")
+        self.control(run, "--dump")
+        (found,) = Path(self.folder).glob("found.*")
+        spent = Instructions.read(str(found))
+        found.unlink()
+        wants(spent.own.total() > 0, True, f"that callgrind counted {what}")
+        print(f"shares: {what}: {Shares(spent).line()}", flush=True)
+
+    def control(self, run: Run, order: str) -> None:
+        """Gives callgrind an order."""
+        subprocess.run(["callgrind_control", order, str(run.server.pid)], check=True, capture_output=True)
 
 
 class Silent(Figures):
