@@ -1,7 +1,8 @@
 -- A list with one element changed.
-use Rattle.std.proofs.Common.{◌≡◌, ℕ, zero, suc, ◌-◌, ◌<◌, ◌≤◌, ◌≢◌, Bool, cond, List, [], ◌∷◌, length, get_or, set, sym, refl, ap, ◌∙◌, arith, Some, ◌++◌}
-use Rattle.std.specs.Prelude.{slice_get, slice_set}
+use Rattle.std.proofs.Common.{◌≡◌, ℕ, zero, suc, ◌+◌, ◌-◌, ◌<◌, ◌≤◌, ◌≢◌, Bool, cond, List, [], ◌∷◌, length, get_or, set, sym, refl, ap, ◌∙◌, arith, Some, ◌++◌}
+use Rattle.std.specs.Prelude.{slice_get, slice_set, count_by, sum_by}
 use Rattle.std.proofs.lemmas.Bool.{ne_eqb, lt-ltb}
+use Rattle.std.proofs.lemmas.List.Sums.{sum_by-cons}
 use Rattle.std.proofs.lemmas.Option.{slice_get_within, get_or_from_slice_get}
 use Rattle.sched_book.specs.Delta.{set_at}
 use Rattle.sched_book.specs.Reports.{modify_at, modify_nth}
@@ -38,3 +39,17 @@ modify_nth-past f xs n some past =
     ap (λ (b : Bool). cond b xs (modify_at f xs (n - 1))) (ne_eqb n 0 some) ∙ modify_at-past f xs (n - 1) past
 
 pub ruleset changed_nth_steps = (modify_nth-past)
+
+-- a sum if one element changes and counts as much as before
+pub sum_changed_at : {X : Type 0} (g : X → ℕ) (f : X → X) (xs : List X) (i : ℕ) → ((x : X) → slice_get xs i ≡ Some x → g (f x) ≡ g x)
+    → sum_by g (modify_at f xs i) ≡ sum_by g xs
+sum_changed_at g f [] i same = refl
+sum_changed_at g f (x ∷ xs) zero same = sum_by-cons g (f x) xs ∙ ap (λ n. n + sum_by g xs) (same x refl) ∙ sym (sum_by-cons g x xs)
+sum_changed_at g f (x ∷ xs) (suc i) same =
+    sum_by-cons g x (modify_at f xs i) ∙ ap (λ n. g x + n) (sum_changed_at g f xs i same) ∙ sym (sum_by-cons g x xs)
+
+-- a change that does not affect the test does not change how many pass
+pub count_changed : {X : Type 0} (p : X → Bool) (f : X → X) (xs : List X) (n : ℕ) → ((x : X) → slice_get xs n ≡ Some x → p (f x) ≡ p x)
+    → count_by p (modify_at f xs n) ≡ count_by p xs
+count_changed p f xs n same =
+    sum_changed_at (λ y. cond {A = ℕ} (p y) 1 0) f xs n (λ x is. ap (λ (b : Bool). cond {A = ℕ} b 1 0) (same x is))

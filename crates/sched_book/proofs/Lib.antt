@@ -8,6 +8,7 @@ pub mod Numbered
 pub mod ReadInParts
 pub mod Offering
 pub mod Changes
+pub mod Counted
 pub mod PlacesOf
 pub mod UnitChanges
 pub mod Examples

@@ -2,7 +2,7 @@
 -- status and the verdicts on its instances. The limits are those of BOINC's workunits. Counting them exactly, from all
 -- reports each time, is this profile's own. The instances of a workunit are a list, and an instance's number is its
 -- index there.
-use Rattle.std.specs.Prelude.{ℕ, ◌+◌, ◌-◌, ◌/◌, max, Bool, true, false, not, ◌&&◌, ◌||◌, nat_lt, nat_le, if◌then◌else◌, List, [], ◌∷◌, ◌++◌, length, take, drop, fold, find, count_by, insert, Option, Some, None, option_and_then, is_some, is_none, unwrap_or, slice_get}
+use Rattle.std.specs.Prelude.{◌≡◌, ℕ, ◌+◌, ◌-◌, ◌/◌, max, Bool, true, false, not, ◌&&◌, ◌||◌, nat_lt, nat_le, if◌then◌else◌, List, [], ◌∷◌, ◌++◌, length, take, drop, fold, find, count_by, insert, Option, Some, None, option_and_then, is_some, is_none, unwrap_or, slice_get}
 use Rattle.std.specs.List.{prefix_len}
 use Rattle.std.specs.Str.{bytes_eq}
 use Rattle.sched_book.specs.WholeNumbers.{whole_number, are_within}
@@ -55,6 +55,11 @@ is_held x = is_some x.owner && is_none x.report && is_none x.lapse
 -- it may still bring a result: it was not given to a host, or a host holds it
 abbrev pub is_live : Instance → Bool
 is_live x = is_none x.owner || is_held x
+
+-- Two instances count the same: both have the same report, and both or neither may still bring a result. Nothing else of
+-- an instance decides anything of its workunit.
+abbrev pub CountAlike : Instance → Instance → Type 0
+CountAlike x y = (is_live x ≡ is_live y) × (x.report ≡ y.report)
 
 abbrev pub report_of : List Instance → ℕ → Option Outcome
 report_of xs i = option_and_then (λ x. x.report) (slice_get xs i)

@@ -1,7 +1,7 @@
 //! Instances of workunits, and what happened to them.
 
-ghost use Rattle.std.specs.Prelude.{◌≡◌, Some};
-ghost use Rattle.sched_book.specs.Count.{tells_success, tells_error, is_judged, is_held, is_live, is_open, has_failed};
+ghost use Rattle.std.specs.Prelude.{◌≡◌, Some, IsTrue};
+ghost use Rattle.sched_book.specs.Count.{tells_success, tells_error, is_judged, is_held, is_live, CountAlike, is_open, has_failed};
 ghost use Rattle.sched_book.specs.Places.{host_of, is_owned_by, is_held_by, was_sent, is_overdue};
 ghost use Rattle.sched_book.specs.Reports.{awaits_report};
 ghost use Rattle.sched_book.specs.Settle.{fresh};
@@ -19,7 +19,7 @@ pub struct Place {
 }
 
 /// The host to which an instance was given.
-#[derive(Clone, Copy)]
+#[derive(Clone, Copy, PartialEq, Eq)]
 pub struct Owner {
     /// The host's number.
     pub host: u32,
@@ -38,7 +38,7 @@ pub enum Lapse {
 }
 
 /// What was reported of an instance.
-#[derive(Clone, Drop)]
+#[derive(Clone, PartialEq, Eq, Drop)]
 pub struct Outcome {
     /// A success, or else a client error.
     pub success: bool,
@@ -48,7 +48,7 @@ pub struct Outcome {
 }
 
 /// An instance of a workunit: one result that a host is to compute, computes or computed.
-#[derive(Clone, Drop)]
+#[derive(Clone, PartialEq, Eq, Drop)]
 pub struct Instance {
     pub owner: Option<Owner>,
     pub lapse: Option<Lapse>,
@@ -165,6 +165,13 @@ impl Instance {
         ensures { result ≡ is_live self.now }
     {
         self.owner.is_none() || self.is_held()
+    }
+
+    /// Whether it counts like another: both have the same report, and both or neither may still bring a result.
+    pub fn counts_like(&self, other: &Instance) -> bool
+        ensures { IsTrue result → CountAlike self.now other.now }
+    {
+        self.is_live() == other.is_live() && self.report == other.report
     }
 
     /// Whether it was given to the host of this number, which has not reported it yet.

@@ -12,7 +12,7 @@ pub const LAST_MOMENT: u64 = 250_000_000_000;
 pub const DAY: u64 = 86_400;
 
 /// The moment at which a message arrived, in whole seconds since 1970-01-01T00:00:00Z, up to [`LAST_MOMENT`].
-#[derive(Clone, Copy)]
+#[derive(Clone, Copy, PartialEq, Eq)]
 pub struct Moment {
     seconds: u64,
 }

@@ -1,7 +1,6 @@
 -- The rows of a sound world stay sound.
 pub mod Kept
 pub mod Listed
-pub mod Counted
 pub mod Grant
 pub mod Entry
 pub mod Fresh

@@ -29,6 +29,7 @@ use Rattle.sched_book.specs.declared.rows.App.{App}
 use Rattle.sched_book.specs.declared.rows.HostRow.{HostRow}
 use Rattle.sched_book.specs.declared.rows.Workunit.{Workunit}
 use Rattle.sched_book.specs.declared.world.World.{World}
+use Rattle.sched_book.proofs.Changes.{count_changed, sum_changed_at}
 use Rattle.sched_book.proofs.Credits.{sum_same, sum_zero, exchange, of_number, sum_plus}
 use Rattle.sched_book.proofs.PlacesOf.{nth-suc, slice_get-modify_at}
 use Rattle.sched_book.proofs.Recording.{instance_at-with_changed}
@@ -51,7 +52,6 @@ use Rattle.sched_machine.proofs.Decided.Sums.{no_verdict}
 use Rattle.sched_machine.proofs.Decided.Units.{canonical_same, canonical_equal}
 use Rattle.sched_machine.proofs.Decided.Worlds.{world_stays}
 use Rattle.sched_machine.proofs.Rows.Entry.{AccountsStay}
-use Rattle.sched_machine.proofs.Rows.Listed.{count_changed, sum_changed_at}
 use Rattle.sched_machine.proofs.Moves.Moves.{eligible_is_free}
 use Rattle.sched_machine.proofs.Moves.Sound.{settled_sound}
 use Rattle.call_working_set.proofs.Sums.{sum_from, sum_listed}

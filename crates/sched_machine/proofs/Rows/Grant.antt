@@ -18,14 +18,15 @@ use Rattle.sched_book.specs.declared.instance.UnitBook.{UnitBook}
 use Rattle.sched_book.specs.declared.rows.App.{App}
 use Rattle.sched_book.specs.declared.rows.HostRow.{HostRow}
 use Rattle.sched_book.specs.declared.world.World.{World}
+use Rattle.sched_book.proofs.Changes.{count_changed}
+use Rattle.sched_book.proofs.Counted.{need_stays, status_stays}
 use Rattle.sched_book.proofs.PlacesOf.{nth-modify_nth, length-modify_at}
 use Rattle.sched_book.proofs.Rising.{pairs_head, pairs_tail}
 use Rattle.sched_book.proofs.ByPlace.{all_get, all_nth}
 use Rattle.job_choice.proofs.Candidates.{Stood, stood}
 use Rattle.sched_machine.specs.Laws.{GrantKeepsSettled}
 use Rattle.sched_machine.proofs.Rows.Kept.{rows_changed}
-use Rattle.sched_machine.proofs.Rows.Listed.{all_changed, pairs_changed, all_changed_nth, count_changed, any_changed, none_any}
-use Rattle.sched_machine.proofs.Rows.Counted.{need_stays, status_stays}
+use Rattle.sched_machine.proofs.Rows.Listed.{all_changed, pairs_changed, all_changed_nth, any_changed, none_any}
 use Rattle.sched_machine.proofs.Moves.Moves.{free_first}
 
 -- an instance that does not belong to the user went to no host of the user

@@ -1,10 +1,9 @@
 -- Facts about each element of a list and about each two: by the element at each index, and after one element is changed.
 use Rattle.std.proofs.Common.{◌≡◌, ℕ, zero, suc, ◌+◌, ◌-◌, ◌<◌, Bool, true, false, cond, eqb, List, [], ◌∷◌, map, get_or, All, AllPairs, Some, None, slice_get, option_map, sym, refl, ap, ◌∙◌, subst, arith}
-use Rattle.std.specs.Prelude.{◌||◌, count_by, sum_by}
+use Rattle.std.specs.Prelude.{◌||◌}
 use Rattle.std.specs.List.{list_any, position_from}
 use Rattle.std.proofs.lemmas.List.Elements.{All-cons, All-head, All-tail}
 use Rattle.std.proofs.lemmas.List.Kept.{AllPairs-cons}
-use Rattle.std.proofs.lemmas.List.Sums.{sum_by-cons}
 use Rattle.std.proofs.lemmas.Option.{slice_get-get_or, slice_get_within, get_or_from_slice_get, slice_get-map}
 use Rattle.std.proofs.lemmas.Bool.{or_parts}
 use Rattle.sched_book.specs.Places.{nth, place_where}
@@ -81,20 +80,7 @@ pairs_changed_nth {X} R f xs n all keeps = cases (eqb n 0) keeps
     cases true keeps = all
     cases false keeps = pairs_changed R f xs (n - 1) all (λ x is k z there. keeps x is z)
 
--- a sum if one element changes and counts as much as before
-pub sum_changed_at : {X : Type 0} (g : X → ℕ) (f : X → X) (xs : List X) (i : ℕ) → ((x : X) → slice_get xs i ≡ Some x → g (f x) ≡ g x)
-    → sum_by g (modify_at f xs i) ≡ sum_by g xs
-sum_changed_at g f [] i same = refl
-sum_changed_at g f (x ∷ xs) zero same = sum_by-cons g (f x) xs ∙ ap (λ n. n + sum_by g xs) (same x refl) ∙ sym (sum_by-cons g x xs)
-sum_changed_at g f (x ∷ xs) (suc i) same =
-    sum_by-cons g x (modify_at f xs i) ∙ ap (λ n. g x + n) (sum_changed_at g f xs i same) ∙ sym (sum_by-cons g x xs)
-
--- a change that does not affect the test changes neither how many pass nor whether any does
-pub count_changed : {X : Type 0} (p : X → Bool) (f : X → X) (xs : List X) (n : ℕ) → ((x : X) → slice_get xs n ≡ Some x → p (f x) ≡ p x)
-    → count_by p (modify_at f xs n) ≡ count_by p xs
-count_changed p f xs n same =
-    sum_changed_at (λ y. cond {A = ℕ} (p y) 1 0) f xs n (λ x is. ap (λ (b : Bool). cond {A = ℕ} b 1 0) (same x is))
-
+-- a change that does not affect the test does not change whether any passes
 pub any_changed : {X : Type 0} (p : X → Bool) (f : X → X) (xs : List X) (n : ℕ) → ((x : X) → slice_get xs n ≡ Some x → p (f x) ≡ p x)
     → list_any p (modify_at f xs n) ≡ list_any p xs
 any_changed p f [] n same = refl

@@ -5,10 +5,10 @@ use Rattle.std.specs.List.{list_any, enumerate_from}
 use Rattle.std.proofs.lemmas.List.Sums.{sum_by-cons}
 use Rattle.std.proofs.lemmas.Option.{slice_get_within, slice_get-get_or, get_or_from_slice_get, slice_get-map}
 use Rattle.sched_book.specs.Reports.{modify_at}
+use Rattle.sched_book.proofs.Changes.{count_changed}
 use Rattle.sched_book.proofs.Settling.{slice_get-enumerate_from}
 use Rattle.sched_book.proofs.ByPlace.{all_get}
 use Rattle.sched_machine.proofs.OptionParts.{mapped_by}
-use Rattle.sched_machine.proofs.Rows.Listed.{count_changed}
 
 -- each element of the second list is like the one at its index in the first
 abbrev pub Alike : {X : Type 0} → (X → X → Type 0) → List X → List X → Type 0

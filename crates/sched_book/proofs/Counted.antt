@@ -1,16 +1,18 @@
--- What is counted of a workunit's instances after one without report was given to a host.
-use Rattle.std.proofs.Common.{◌≡◌, ℕ, zero, suc, ◌+◌, ◌-◌, Bool, true, false, cond, eqb, eqb-true, List, [], ◌∷◌, ◌++◌, length, take, drop, Option, Some, None, slice_get, option_map, option_and_then, refl, ap, ◌∙◌}
+-- What is decided of a workunit after one of its instances changed into one that counts the same.
+use Rattle.std.proofs.Common.{◌≡◌, ℕ, zero, suc, ◌+◌, ◌-◌, Bool, true, false, cond, eqb, eqb-true, List, [], ◌∷◌, ◌++◌, length, take, drop, Option, Some, None, slice_get, option_map, option_and_then, sym, refl, ap, ◌∙◌}
 use Rattle.std.specs.Prelude.{nat_le, nat_lt, fold, find, count_by, is_some}
 use Rattle.std.proofs.Math.Path.{fun_ext}
-use Rattle.sched_book.specs.Count.{agree, tells_success, tells_error, is_live, report_of, output_of, place_of, reported_output, reported_place, numbers_from, put_by, good, errors, live, leader, first_leader, majority, canonical, want, need, status}
+use Rattle.sched_book.specs.Count.{agree, tells_success, tells_error, is_live, report_of, output_of, place_of, reported_output, reported_place, numbers_from, put_by, good, errors, live, leader, first_leader, majority, canonical, want, need, status, decided, CountAlike}
+use Rattle.sched_book.specs.Delta.{set_at}
 use Rattle.sched_book.specs.Reports.{modify_at}
+use Rattle.sched_book.specs.declared.count.Decided.{Decided}
 use Rattle.sched_book.specs.declared.instance.Instance.{Instance}
 use Rattle.sched_book.specs.declared.instance.Status.{Status}
 use Rattle.sched_book.specs.declared.instance.Status.TheVariants.{Open, Done, FailedErrors, FailedSuccess, FailedTotal}
 use Rattle.sched_book.specs.declared.rows.Agreement.{Agreement}
 use Rattle.sched_book.specs.declared.rows.Workunit.{Workunit}
+use Rattle.sched_book.proofs.Changes.{count_changed, modify_at-put}
 use Rattle.sched_book.proofs.PlacesOf.{slice_get-modify_at, length-modify_at}
-use Rattle.sched_machine.proofs.Rows.Listed.{count_changed}
 
 -- the first leader, if a function gives the outputs
 abbrev leader_by : Agreement → (ℕ → List ℕ) → ℕ → List ℕ → Option ℕ
@@ -86,3 +88,20 @@ module _ (f : Instance → Instance) (xs : List Instance) (n : ℕ)
       ∙ ap (λ reports. status_by u (canonical a u xs) (errors xs) (length reports) (length ys + need u ys)) good_stay
       ∙ ap (λ m. status_by u (canonical a u xs) (errors xs) (length (good xs)) (m + need u ys)) (length-modify_at f xs n)
       ∙ ap (λ m. status_by u (canonical a u xs) (errors xs) (length (good xs)) (length xs + m)) (need_stays u)
+
+  decided_stays : (a : Agreement) (u : Workunit) → decided a u (modify_at f xs n) ≡ decided a u xs
+  decided_stays a u =
+      ap (λ c. record { canonical = c; status = status a u (modify_at f xs n) }) (canonical_stays a u)
+      ∙ ap (λ s. record { canonical = canonical a u xs; status = s }) (status_stays a u)
+
+-- an instance is put in the place of one that counts the same
+pub decided_stays_put : (xs : List Instance) (n : ℕ) (x y : Instance) (a : Agreement) (u : Workunit) → Some x ≡ slice_get xs n → CountAlike x y
+    → decided a u (set_at xs n y) ≡ decided a u xs
+decided_stays_put xs n x y a u stands alike =
+    ap (decided a u) (sym (modify_at-put (λ z. y) xs n x (sym stands)))
+    ∙ decided_stays (λ z. y) xs n
+    (λ z there. sym alike.1 ∙ ap (λ (i : Instance). i.report) (same z there))
+    (λ z there. sym alike.0 ∙ ap is_live (same z there)) a u
+  where
+    same : (z : Instance) → slice_get xs n ≡ Some z → x ≡ z
+    same z there = let both : Some x ≡ Some z = stands ∙ there in cc
