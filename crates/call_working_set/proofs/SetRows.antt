@@ -1,8 +1,10 @@
--- A row put at a place of a list.
-use Rattle.std.proofs.Common.{◌≡◌, ℕ, zero, suc, ◌+◌, ◌-◌, ◌<◌, ◌≤◌, Bool, true, false, cond, eqb, ltb, List, [], ◌∷◌, ◌++◌, length, set, Some, None, sym, refl, ap, ◌∙◌, arith}
+-- A row put at a place of a list, and the row at an index.
+use Rattle.std.proofs.Common.{◌≡◌, ℕ, zero, suc, ◌+◌, ◌-◌, ◌<◌, ◌≤◌, Bool, true, false, cond, eqb, ltb, Bor, List, [], ◌∷◌, ◌++◌, length, set, Option, Some, None, sym, refl, ap, ◌∙◌, arith}
 use Rattle.std.proofs.Math.Dec.{eqb-suc-zero, eqb-zero-suc, eqb-suc-suc}
 use Rattle.std.specs.Prelude.{slice_get, min}
-use Rattle.std.proofs.lemmas.Option.{slice_get_within}
+use Rattle.std.specs.Option.{option_copied}
+use Rattle.std.specs.Slice.{IsItemAt}
+use Rattle.std.proofs.lemmas.Option.{slice_get_within, slice_get_past, slice_get_read}
 use borrow.Author.Tests.{ltb-true, ltb-false}
 use Rattle.sched_book.specs.Places.{nth}
 use Rattle.sched_book.specs.Delta.{set_at, set_nth}
@@ -70,3 +72,11 @@ nth_found xs (suc i) x found =
     let there : slice_get xs i ≡ Some x = sym (nth-suc xs i) ∙ found in
     let within : i < length xs = slice_get_within xs i x there in
     (omega arith, omega arith)
+
+-- the row that a slice returned for an index
+pub row_got : {X : Type 0} (xs ys : List X) (i : ℕ) (r : Option (Bor X)) → IsItemAt xs i r → xs ≡ ys → slice_get ys i ≡ option_copied r
+row_got {X} xs ys i r at same = ap (λ zs. slice_get zs i) (sym same) ∙ cases r at
+  where
+    cases : (o : Option (Bor X)) → IsItemAt xs i o → slice_get xs i ≡ option_copied o
+    cases None at = slice_get_past xs i at.3
+    cases (Some x) at = slice_get_read xs (length xs) i x.now refl at.3.0 at.1

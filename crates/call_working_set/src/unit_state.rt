@@ -1,6 +1,6 @@
 //! One workunit in a call state, with what is decided of it.
 
-ghost use Rattle.std.specs.Prelude.{◌≡◌, ◌≤◌, length, IfOk, OnOk, OnErr};
+ghost use Rattle.std.specs.Prelude.{◌≡◌, ◌≤◌, length, IfOk, IfSome, OnOk, OnErr};
 ghost use Rattle.sched_book.specs.Count as spec;
 ghost use Rattle.sched_book.specs.Classes.{rule_after};
 ghost use Rattle.sched_book.specs.Delta.{set_at};
@@ -24,7 +24,7 @@ pub struct UnitState {
     /// None as long as they are as before.
     changed: Option<Instances>,
     decided_before: Decided,
-    /// None if the instances were changed since they were decided.
+    /// None if the instances were changed since they were decided, so that they may count differently.
     decided_now: Option<Decided>,
 }
 
@@ -154,12 +154,23 @@ impl UnitState {
         self.decided_now = Some(self.decided_now());
     }
 
+    /// What is decided once this instance is at a number, if that is known: as now, if it counts like the one there.
+    fn decided_with(&self, number: u32, row: &Instance) -> Option<Decided>
+        ensures { IfSome result (λ d. d ≡ spec.decided self.now.agreement self.now.unit (set_at self.now.present number row.now)) }
+    {
+        match self.present().get(number as usize) {
+            Some(instance) if instance.counts_like(row) => self.decided_now,
+            _ => None,
+        }
+    }
+
     /// Puts an instance at a number: it replaces the instance there, or follows the others. Refused if there would be
     /// too many or there is no memory; the unit state is then as before.
     pub fn put(&mut self, number: u32, row: Instance) -> Result<(), Unavailable>
         ensures ok { OnOk result (self.new ≡ record self.old { present = set_at self.old.present number row }) }
         ensures err { OnErr result (self.new ≡ self.old) }
     {
+        let decided = self.decided_with(number, &row);
         match &mut self.changed {
             Some(instances) => instances.put(number, row)?,
             None => {
@@ -168,7 +179,7 @@ impl UnitState {
                 self.changed = Some(instances);
             }
         }
-        self.decided_now = None;
+        self.decided_now = decided;
         Ok(())
     }
 
