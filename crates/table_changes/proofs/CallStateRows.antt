@@ -1,15 +1,16 @@
 -- The rows of a call state's world, compared with those of the world at the start of the call.
 use Rattle.std.proofs.Common.{◌≡◌, ℕ, ◌+◌, ◌*◌, ◌≤◌, Bool, true, false, eqb, ◌&&◌, List, [], ◌∷◌, length, Option, Some, None, option_map, option_and_then, refl, sym, ap, subst, ◌∙◌, inl, inr, arith, true≢false}
-use Rattle.std.specs.Prelude.{◌||◌, count_by, sum_by, slice_get, unwrap_or, is_some}
+use Rattle.std.specs.Prelude.{◌||◌, ◌==◌, count_by, sum_by, slice_get, unwrap_or, is_some, is_none}
 use Rattle.std.proofs.lemmas.Bool.{eqb-true, or_cases, or_parts}
 use Rattle.std.proofs.lemmas.Option.{slice_get_past}
 use Rattle.std.specs.BTreeMap.{get}
 use Rattle.std.specs.Ordering.{nat_cmp}
-use Rattle.sched_book.specs.Count.{status, verdict, is_valid}
+use Rattle.sched_book.specs.Count.{status, is_open, verdict, is_valid}
 use Rattle.sched_book.specs.Delta.{edited}
 use Rattle.sched_book.specs.Places.{unit_at, host_at, agreement_by, status_of, held_by, host_credit, is_held_by, is_owned_by, credit_in}
 use Rattle.sched_book.specs.declared.instance.Instance.{Instance as Job}
 use Rattle.sched_book.specs.declared.instance.Status.{Status}
+use Rattle.sched_book.specs.declared.instance.Status.TheVariants.{Open, Done, FailedErrors, FailedSuccess, FailedTotal}
 use Rattle.sched_book.specs.declared.instance.UnitBook.{UnitBook}
 use Rattle.sched_book.specs.declared.rows.Agreement.{Agreement}
 use Rattle.sched_book.specs.declared.rows.App.{App}
@@ -140,12 +141,6 @@ module _ (w v : World) (unit number : ℕ) (k : UnitState) (apps : v.apps ≡ w.
   none_now : slice_get k.present number ≡ None → row_in v (Instance (record { unit = unit; number = number })) ≡ None
   none_now none = now_is ∙ ap (option_map (instance_in v (book_now k) unit number)) none
 
-  row_then : (x : Job) (s : Status) (row : StoredRow) → slice_get k.before number ≡ Some x → s ≡ status k.agreement k.unit k.before
-      → ((u : World) (b : UnitBook) → s ≡ status_of u b → row ≡ stored.Instance (instance_row u b unit number x))
-      → Some row ≡ row_in w (Instance (record { unit = unit; number = number }))
-  row_then x s row stood old is =
-      ap Some (is w (book_before k) (old ∙ sym status_then)) ∙ sym (before_is ∙ ap (option_map (instance_in w (book_before k) unit number)) stood)
-
   row_now : (y : Job) (t : Status) (row : StoredRow) → slice_get k.present number ≡ Some y → t ≡ status k.agreement k.unit k.present
       → ((u : World) (b : UnitBook) → t ≡ status_of u b → row ≡ stored.Instance (instance_row u b unit number y))
       → Some row ≡ row_in v (Instance (record { unit = unit; number = number }))
@@ -159,13 +154,34 @@ instance_gone = none_now
 pub none_is_change : (before after : Option StoredRow) → after ≡ None → IsChange before after None
 none_is_change before after none = inl (refl, inl none)
 
-pub instance_stays : (w v : World) (unit number : ℕ) (k : UnitState) (x y : Job) (s t : Status) (row other : StoredRow) → v.apps ≡ w.apps → IsUnitStateOf w v unit k
+-- a workunit is open by the code of its status
+open_by_code : (q : Status) → is_open q ≡ (status_code q == 0)
+open_by_code Open = refl
+open_by_code Done = refl
+open_by_code FailedErrors = refl
+open_by_code FailedSuccess = refl
+open_by_code FailedTotal = refl
+
+-- an instance that is as before, and is queued if it was
+pub instance_stays : (w v : World) (unit number : ℕ) (k : UnitState) (x y : Job) (s t : Status) → v.apps ≡ w.apps → IsUnitStateOf w v unit k
     → slice_get k.before number ≡ Some x → slice_get k.present number ≡ Some y → s ≡ status k.agreement k.unit k.before → t ≡ status k.agreement k.unit k.present
-    → ((u : World) (b : UnitBook) → t ≡ status_of u b → row ≡ stored.Instance (instance_row u b unit number y))
-    → ((u : World) (b : UnitBook) → s ≡ status_of u b → other ≡ stored.Instance (instance_row u b unit number x)) → row ≡ other
+    → x ≡ y → (is_none y.owner && is_open s) ≡ (is_none y.owner && is_open t)
     → IsChange (row_in w (Instance (record { unit = unit; number = number }))) (row_in v (Instance (record { unit = unit; number = number }))) None
-instance_stays w v unit number k x y s t row other apps unit_state stood stands old new is was same =
-    same_is_change _ _ (sym (row_then w v unit number k apps unit_state x s other stood old was) ∙ ap Some (sym same) ∙ row_now w v unit number k apps unit_state y t row stands new is)
+instance_stays w v unit number k x y s t apps unit_state stood stands old new same queued =
+    same_is_change _ _
+    (before_is w v unit number k apps unit_state
+    ∙ ap (option_map (instance_in w (book_before k) unit number)) (stood ∙ ap Some same)
+    ∙ ap (λ q. Some (row_queued q))
+    (by_code (status_of w (book_before k)) s (status_then w v unit number k apps unit_state ∙ sym old)
+    ∙ queued
+    ∙ sym (by_code (status_of v (book_now k)) t (status_now w v unit number k apps unit_state ∙ sym new)))
+    ∙ sym (now_is w v unit number k apps unit_state ∙ ap (option_map (instance_in v (book_now k) unit number)) stands))
+  where
+    row_queued : Bool → StoredRow
+    row_queued q = stored.Instance (record (instance_row w (book_before k) unit number y) { queued = q })
+
+    by_code : (p q : Status) → p ≡ q → (is_none y.owner && (status_code p == 0)) ≡ (is_none y.owner && is_open q)
+    by_code p q same = ap (λ r. is_none y.owner && (status_code r == 0)) same ∙ ap (λ b. is_none y.owner && b) (sym (open_by_code q))
 
 pub instance_changed : (w v : World) (unit number : ℕ) (k : UnitState) (y : Job) (t : Status) (row : StoredRow) → v.apps ≡ w.apps → IsUnitStateOf w v unit k
     → slice_get k.present number ≡ Some y → t ≡ status k.agreement k.unit k.present

@@ -5,5 +5,6 @@ pub mod ImportRows
 pub mod InTurn
 pub mod Numbers
 pub mod CallStateRows
+pub mod SameInstances
 pub mod ReadableCalls
 pub mod Totals

@@ -1,8 +1,9 @@
 //! The rows of instances that a call changed, or whose workunit it opened or closed.
 
-ghost use Rattle.std.specs.Prelude.{◌≡◌, [], ◌∷◌, IfOk, OnOk};
+ghost use Rattle.std.specs.Prelude.{◌≡◌, ◌&&◌, [], ◌∷◌, is_none, IsTrue, IfOk, OnOk};
 ghost use Rattle.std.specs.Option.{option_copied};
 ghost use Rattle.sched_book.specs.Count as spec;
+ghost use Rattle.sched_book.specs.Count.{is_open};
 ghost use Rattle.sched_book.specs.Delta.{edited};
 ghost use Rattle.sched_book.specs.declared.world.World.{World};
 ghost use Rattle.call_working_set.specs.WorkingSets.{IsUnitStateOf, IsUnitStateAt, IsCallStateOf};
@@ -13,7 +14,7 @@ ghost use Rattle.table_changes.specs.Added.{is_instance_among, AreAdded};
 
 use crate::units::present_status;
 use call_working_set::{CallState, UnitState};
-use sched_book::{Cause, Invariant, Place, Status, Unavailable};
+use sched_book::{Cause, Instance, Invariant, Place, Status, Unavailable};
 use table_meaning::rows::{RowChange, StoredRow};
 use table_worlds::instance_row;
 use texts::Listed;
@@ -23,6 +24,16 @@ use texts::Listed;
 struct Statuses {
     before: Status,
     present: Status,
+}
+
+/// Whether the row of an instance is as before: the instance is, and it was given to a host or its workunit is as open
+/// as before.
+fn has_same_row(before: &Instance, present: &Instance, statuses: Statuses) -> bool
+    ensures instance { IsTrue result → before.now ≡ present.now }
+    ensures queued { IsTrue result → (is_none present.now.owner && is_open statuses.before) ≡ (is_none present.now.owner && is_open statuses.present) }
+{
+    before == present
+        && (present.owner.is_some() || statuses.before.is_open() == statuses.present.is_open())
 }
 
 /// The row of the instance at a place of a unit state, if it is not as before.
@@ -40,14 +51,14 @@ fn changed_instance(
     let Some(instance) = unit_state.present().get(number) else {
         return Ok(None);
     };
-    let row = instance_row(place, instance, statuses.present)?;
     let Some(before) = unit_state.before().get(number) else {
+        let row = instance_row(place, instance, statuses.present)?;
         return Ok(Some(RowChange::insert(StoredRow::Instance(row))));
     };
-    let other = instance_row(place, before, statuses.before)?;
-    if row == other {
+    if has_same_row(before, instance, statuses) {
         return Ok(None);
     }
+    let row = instance_row(place, instance, statuses.present)?;
     Ok(Some(RowChange::update(StoredRow::Instance(row))))
 }
 

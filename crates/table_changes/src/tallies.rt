@@ -48,7 +48,8 @@ fn count_more(
     Ok(())
 }
 
-/// Counts an instance that earned `credit` millicredits, if it was sent to a host.
+/// Counts an instance that earned `credit` millicredits, if it was sent to a host. One that is not held and earned nothing
+/// counts for nobody.
 fn count_instance(
     totals: &mut BTreeMap<u32, Total>,
     instance: &Instance,
@@ -56,9 +57,12 @@ fn count_instance(
 ) -> Result<(), Unavailable>
     ensures { OnOk result ((host : ℕ) → tally totals.new host ≡ with_instance instance.now credit host (tally totals.old host)) }
 {
+    let is_held = instance.is_held();
     match instance.owner_host() {
-        None => Ok(()),
-        Some(host) => count_more(totals, host, u32::from(instance.is_held()), credit),
+        Some(host) if is_held || 0 < credit => {
+            count_more(totals, host, u32::from(is_held), credit)
+        }
+        Some(_) | None => Ok(()),
     }
 }
 
