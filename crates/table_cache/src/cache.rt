@@ -22,11 +22,15 @@ use std::alloc::Global;
 use table_desk::{KnownUnits, QueueWindow, Skip};
 use texts::{Listed, Memory, Text};
 
-/// The most that is remembered of each large kind: workunits, their instances with outputs, and lists of places.
-const MOST_LARGE: usize = 1_000;
+/// The most instances that are remembered, with one more for each workunit: those of all jobs that one call can touch. Each
+/// may have an output of 1,024 bytes.
+const MOST_INSTANCES: usize = 120_000;
 
-/// The most that is remembered of each small kind: rows of hosts and accounts, numbers by texts, and sums.
-const MOST_SMALL: usize = 10_000;
+/// The most places that are remembered, in lists of what hosts hold, with one more for each host.
+const MOST_PLACES: usize = 100_000;
+
+/// The most that is remembered of each other kind: rows, numbers by texts, and sums.
+const MOST_OTHERS: usize = 10_000;
 
 /// A workunit that was read, with its place.
 #[derive(Drop)]
@@ -83,12 +87,12 @@ impl Cache {
         ensures { (w : World) (calls : SlotCalls) → IsCacheOf w calls result }
     {
         Cache {
-            units: UnitsRead::new(alloc, MOST_LARGE, MOST_SMALL),
-            jobs: JobsRead::new(alloc, MOST_LARGE, MOST_SMALL),
-            hosts: HostsRead::new(alloc, MOST_SMALL),
-            held: RowsRead::new(alloc, MOST_LARGE),
-            accounts: RowsRead::new(alloc, MOST_SMALL),
-            keys: RowsRead::new(alloc, MOST_SMALL),
+            units: UnitsRead::new(alloc, MOST_OTHERS),
+            jobs: JobsRead::new(alloc, MOST_INSTANCES, MOST_OTHERS),
+            hosts: HostsRead::new(alloc, MOST_OTHERS),
+            held: RowsRead::new(alloc, MOST_PLACES),
+            accounts: RowsRead::new(alloc, MOST_OTHERS),
+            keys: RowsRead::new(alloc, MOST_OTHERS),
             versions: Vec::new(alloc),
             slot: None,
             window: None,

@@ -56,15 +56,15 @@ pub(crate) struct UnitsRead {
 }
 
 impl UnitsRead {
-    /// Nothing, and room for this number of workunits and of names.
-    pub(crate) fn new(alloc: Global, most_rows: usize, most_names: usize) -> UnitsRead
+    /// Nothing, and room for this number of workunits, and of names.
+    pub(crate) fn new(alloc: Global, most: usize) -> UnitsRead
         ensures rows { (key : ℕ) → get nat_cmp result.rows.rows key ≡ None }
         ensures names { (key : List ℕ) → get (slice_cmp nat_cmp) result.names.rows key ≡ None }
         ensures last { result.last ≡ None }
     {
         UnitsRead {
-            rows: RowsRead::new(alloc, most_rows),
-            names: RowsRead::new(alloc, most_names),
+            rows: RowsRead::new(alloc, most),
+            names: RowsRead::new(alloc, most),
             last: None,
         }
     }

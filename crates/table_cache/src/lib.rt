@@ -11,5 +11,6 @@ mod rows_read;
 mod sent;
 mod skips;
 mod versions;
+mod weights;
 
 pub use cache::{Cache, UnitRead};

@@ -45,14 +45,14 @@ pub(crate) struct JobsRead {
 }
 
 impl JobsRead {
-    /// Nothing, and room for this number of workunits and of hosts.
-    pub(crate) fn new(alloc: Global, most_units: usize, most_hosts: usize) -> JobsRead
+    /// Nothing, and room for instances of this weight, and for this number of hosts.
+    pub(crate) fn new(alloc: Global, most_instances: usize, most_hosts: usize) -> JobsRead
         ensures instances { (key : ℕ) → get nat_cmp result.instances.rows key ≡ None }
         ensures sent { (key : ℕ) → get nat_cmp result.sent.rows key ≡ None }
         ensures last { result.last ≡ None }
     {
         JobsRead {
-            instances: RowsRead::new(alloc, most_units),
+            instances: RowsRead::new(alloc, most_instances),
             sent: RowsRead::new(alloc, most_hosts),
             last: None,
         }
