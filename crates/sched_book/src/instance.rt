@@ -1,6 +1,7 @@
 //! Instances of workunits, and what happened to them.
 
-ghost use Rattle.std.specs.Prelude.{◌≡◌, Some, IsTrue};
+ghost use Rattle.std.specs.Prelude.{◌≡◌, Some};
+ghost use Rattle.std.specs.Bool.{Decides};
 ghost use Rattle.sched_book.specs.Count.{tells_success, tells_error, is_judged, is_held, is_live, CountAlike, is_open, has_failed};
 ghost use Rattle.sched_book.specs.Places.{host_of, is_owned_by, is_held_by, was_sent, is_overdue};
 ghost use Rattle.sched_book.specs.Reports.{awaits_report};
@@ -169,7 +170,7 @@ impl Instance {
 
     /// Whether it counts like another: both have the same report, and both or neither may still bring a result.
     pub fn counts_like(&self, other: &Instance) -> bool
-        ensures { IsTrue result → CountAlike self.now other.now }
+        ensures { Decides result (CountAlike self.now other.now) }
     {
         self.is_live() == other.is_live() && self.report == other.report
     }

@@ -21,5 +21,5 @@ returns-in-Some c =
     ∙ ap (λ (l : UnitState). decided l.agreement l.unit l.present) c.self.view_is
     ∙ sym (decided_stays_put k.present number c.in-Some.instance.now c.args.row.now k.agreement k.unit
     (sym (row_got c.present.result.now k.present number c.get.result c.get.ensures.lookup c.present.ensures.value ∙ ap option_copied c.in-Some.is))
-    (c.counts_like.ensures c.if-counts_like.true)))
+    (c.counts_like.ensures.0 c.if-counts_like.true)))
     c.self.invariant.1
