@@ -27,7 +27,7 @@ use texts::{Listed, Memory, Text};
 const MOST_INSTANCES: usize = 120_000;
 
 /// The most places that are remembered, in lists of what hosts hold, with one more for each host.
-const MOST_PLACES: usize = 100_000;
+const MOST_PLACES: usize = 1_000_000;
 
 /// The most that is remembered of each other kind: rows, numbers by texts, and sums.
 const MOST_OTHERS: usize = 10_000;
