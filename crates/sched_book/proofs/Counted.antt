@@ -5,7 +5,6 @@ use Rattle.std.proofs.Math.Path.{fun_ext}
 use Rattle.sched_book.specs.Count.{agree, tells_success, tells_error, is_live, report_of, output_of, place_of, reported_output, reported_place, numbers_from, put_by, good, errors, live, leader, first_leader, majority, canonical, want, need, status, decided, CountAlike}
 use Rattle.sched_book.specs.Delta.{set_at}
 use Rattle.sched_book.specs.Reports.{modify_at}
-use Rattle.sched_book.specs.declared.count.Decided.{Decided}
 use Rattle.sched_book.specs.declared.instance.Instance.{Instance}
 use Rattle.sched_book.specs.declared.instance.Status.{Status}
 use Rattle.sched_book.specs.declared.instance.Status.TheVariants.{Open, Done, FailedErrors, FailedSuccess, FailedTotal}

@@ -207,6 +207,7 @@ module _ (xs : List Instance) (reports firsts : List ℕ) (n : ℕ) (within : n 
       → IsPartitionPoint (λ j. slice_cmp nat_cmp (output_of xs j) text ≡ Less) (λ j. slice_cmp nat_cmp (output_of xs j) text ≡ Greater) firsts spot)
       → record {
         value : get_or reports n 0 ≡ first_alike xs reports (get_or reports n 0);
+        new : first_with xs (take n reports) (output_of xs (get_or reports n 0)) ≡ None;
         seen : AreFirsts xs (take (n + 1) reports) (insert firsts spot (get_or reports n 0));
       }
   seen_first spot inside parts =
@@ -215,7 +216,9 @@ module _ (xs : List Instance) (reports firsts : List ℕ) (n : ℕ) (within : n 
       subst
       (λ t. IsPartitionPoint (λ j. slice_cmp nat_cmp (output_of xs j) t ≡ Less) (λ j. slice_cmp nat_cmp (output_of xs j) t ≡ Greater) firsts spot) output
       (parts (searchable_from_sorted nat_list_cmp_total (output_of xs) firsts text are.in_order)) in
+      let none = none_first xs (take n reports) firsts are report spot inside parted in
       record {
-        value = sym (first_among xs reports n report within refl ∙ ap (λ o. unwrap_or o report) (none_first xs (take n reports) firsts are report spot inside parted));
+        value = sym (first_among xs reports n report within refl ∙ ap (λ o. unwrap_or o report) none);
+        new = none;
         seen = one_more (insert firsts spot report) (firsts_grow xs (take n reports) firsts are report spot inside parted);
       }

@@ -1,4 +1,7 @@
 pub mod FirstAlike
+pub mod InOrder
+pub mod Apart
+pub mod NearNumbers
 pub mod Voting
 pub mod Reports
 pub mod SplitNames

@@ -7,9 +7,9 @@ use Rattle.std.specs.List.{All}
 use Rattle.std.specs.Str.{bytes_eq}
 use Rattle.std.proofs.lemmas.Bool.{lt-leb}
 use Rattle.std.proofs.lemmas.List.{get_or-append-add, get_or-drop, length-map, length-take, map_more, take_all}
-use Rattle.std.proofs.lemmas.List.Elements.{All-same, All-map}
+use Rattle.std.proofs.lemmas.List.Elements.{All-head, All-tail, All-same, All-map}
 use Rattle.std.proofs.lemmas.List.Folds.{fold-map}
-use Rattle.std.proofs.lemmas.List.Sums.{fold_push, sum_by_more, count_by-le-length}
+use Rattle.std.proofs.lemmas.List.Sums.{fold_push, sum_by-cons, sum_by_more, count_by-le-length}
 use Rattle.std.proofs.lemmas.Simd.{map-map}
 use Rattle.std.proofs.lemmas.Int.{ints}
 use Rattle.std.proofs.lemmas.Slice.Eq.{bytes_eq-Decides}
@@ -196,6 +196,39 @@ module _ (a : Agreement) (xs : List Instance) (reports : List ℕ) (n : ℕ) (wi
       ∙ voters_add 1 agreed ballots after before
       (vote ∙ (λ t. map (voted (far t) (joins 1 t)) ballots))
       (counted ∙ (λ t. count_by (agrees_with (far t) (joins 1 t)) ballots))
+
+  -- if the one that joins agrees with none before it, no ballot agrees with it
+  pub none_agree : (distance first : ℕ) (value : Option ℤ) → distance ≡ distance_of a → first ≡ first_alike xs reports joining → value ≡ number_in a (output_of xs joining)
+      → (ballots : List Ballot) → ballots ≡ ballots_at a xs reports n → All (λ i. agree a (output_of xs i) (output_of xs joining) ≡ false) (take n reports)
+      → All (λ b. agrees_with distance (record { number = joining; first = first; value = value; votes = 1 }) b ≡ false) ballots
+  none_agree distance first value far same number ballots before apart =
+      let voter : Ballot = record { number = joining; first = first; value = value; votes = 1 } in
+      let ballot = ballot_of a xs reports (votes a xs (take n reports)) in
+      let joins : voter ≡ joining_ballot 1 = λ t. record { number = joining; first = same t; value = number t; votes = 1 } in
+      All-same (λ b. agrees_with distance voter b ≡ false) ballots (ballots_at a xs reports n) before
+      (All-map (λ b. agrees_with distance voter b ≡ false) ballot (take n reports)
+      (λ k i inside.
+      (λ t. agrees_with (far t) (joins t) (ballot (get_or (take n reports) k i)))
+      ∙ texts (get_or (take n reports) k i)
+      ∙ apart k i inside))
+
+-- a vote that agrees with no ballot changes none
+pub none_voted : (d : ℕ) (voter : Ballot) (ballots : List Ballot) → All (λ b. agrees_with d voter b ≡ false) ballots → ballots ≡ map (voted d voter) ballots
+none_voted d voter [] apart = refl
+none_voted d voter (b ∷ rest) apart =
+    let same : b.votes ≡ b.votes + from_bool (agrees_with d voter b) =
+    sym (ap (λ t. b.votes + from_bool t) (All-head (λ b. agrees_with d voter b ≡ false) b rest apart) ∙ (let none : b.votes + 0 ≡ b.votes = omega arith in none)) in
+    (λ t. record { number = b.number; first = b.first; value = b.value; votes = same t } ∷ rest)
+    ∙ ap (λ l. voted d voter b ∷ l) (none_voted d voter rest (All-tail (λ b. agrees_with d voter b ≡ false) b rest apart))
+
+pub none_counted : (d : ℕ) (voter : Ballot) (ballots : List Ballot) → All (λ b. agrees_with d voter b ≡ false) ballots → 0 ≡ count_by (agrees_with d voter) ballots
+none_counted d voter [] apart = refl
+none_counted d voter (b ∷ rest) apart =
+    let later = none_counted d voter rest (All-tail (λ b. agrees_with d voter b ≡ false) b rest apart) in
+    later
+    ∙ (let none : count_by (agrees_with d voter) rest ≡ 0 + count_by (agrees_with d voter) rest = omega arith in none)
+    ∙ ap (λ (t : Bool). cond {A = ℕ} t 1 0 + count_by (agrees_with d voter) rest) (sym (All-head (λ b. agrees_with d voter b ≡ false) b rest apart))
+    ∙ sym (sum_by-cons (λ b. cond {A = ℕ} (agrees_with d voter b) 1 0) b rest)
 
 -- ---- Which report leads
 

@@ -1,8 +1,10 @@
 -- Words. Good reports with the votes that they have among the first of them.
 use Rattle.std.specs.Prelude.{◌≡◌, ℕ, ◌+◌, ◌≤◌, ◌==◌, max, Bool, nat_le, List, length, take, map, fold, find, Option, Some, None, option_map, ℤ}
 use Rattle.std.specs.Int.{from_bool}
+use Rattle.std.specs.List.{All, Contains}
 use Rattle.sched_book.specs.Alike.{first_alike, AreFirsts}
 use Rattle.sched_book.specs.Count.{output_of, votes}
+use Rattle.sched_book.specs.Near.{AreRising}
 use Rattle.sched_book.specs.WholeNumbers.{whole_number, are_within}
 use Rattle.sched_book.specs.declared.ballots.Ballot.{Ballot}
 use Rattle.sched_book.specs.declared.ballots.Tally.{Tally}
@@ -53,9 +55,16 @@ most_votes ballots = fold (λ most b. max most b.votes) 0 ballots
 abbrev pub leader_by : ℕ → List Ballot → Option ℕ
 leader_by enough ballots = option_map (λ b. b.number) (find (λ b. nat_le enough b.votes) ballots)
 
+-- numbers in order; among them is each as which the output of one of these reports is compared
+pub record AreNumbersOf (a : Agreement) (xs : List Instance) (reports : List ℕ) (numbers : List ℤ) : Type 0 where
+  pub rising : AreRising numbers
+  pub all : All (λ i. (m : ℤ) → number_in a (output_of xs i) ≡ Some m → Contains numbers m) reports
+
 -- what a tally holds, once the first n of these reports have joined
 pub record IsTallyOf (a : Agreement) (xs : List Instance) (reports : List ℕ) (n : ℕ) (tally : Tally) : Type 0 where
   pub seen : AreFirsts xs (take n reports) tally.firsts.numbers.items
   pub few : length tally.firsts.numbers.items ≤ n
+  pub values : AreNumbersOf a xs (take n reports) tally.values.numbers.items
+  pub few_values : length tally.values.numbers.items ≤ n
   pub ballots : tally.ballots.items ≡ ballots_at a xs reports n
   pub most : tally.most_votes ≡ most_votes tally.ballots.items

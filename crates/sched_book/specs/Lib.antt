@@ -27,5 +27,6 @@ pub mod UnitChanges
 pub mod Laws
 pub mod PlaceLaws
 pub mod Alike
+pub mod Near
 pub mod Ballots
 pub mod Bounds

@@ -1,10 +1,10 @@
 //! Reports with the same output: the first of them stands for all, so that outputs are compared as numbers.
 
-ghost use Rattle.std.specs.Prelude.{◌≡◌, ◌<◌, ◌≤◌, ◌+◌, [], length, take, slice_index};
+ghost use Rattle.std.specs.Prelude.{◌≡◌, ◌<◌, ◌≤◌, ◌+◌, [], true, None, length, take, slice_index};
 ghost use Rattle.std.specs.Cmp.Lexicographic.{slice_cmp};
 ghost use Rattle.std.specs.List.Sorted.{IsBinarySearchResult, IsSearchInRange};
 ghost use Rattle.std.specs.Ordering.{nat_cmp};
-ghost use Rattle.sched_book.specs.Alike.{first_alike, AreFirsts};
+ghost use Rattle.sched_book.specs.Alike.{first_with, first_alike, AreFirsts};
 ghost use Rattle.sched_book.specs.Count.{output_of};
 
 use crate::count::output_at;
@@ -12,6 +12,15 @@ use crate::instance::Instance;
 use crate::limits::MOST_INSTANCES;
 use arrayvec::ArrayVec;
 use std::cmp::Ordering;
+
+/// What is known of a report by those seen before it.
+#[derive(Drop)]
+pub(crate) struct Seen {
+    /// The first report with its output.
+    pub(crate) first: usize,
+    /// Whether none before it has its output.
+    pub(crate) is_new: bool,
+}
 
 /// The first report with each output, of the reports seen so far.
 #[derive(Drop)]
@@ -42,21 +51,28 @@ impl Firsts {
         )
     }
 
-    /// Sees the report at an index, once those before it were seen. Returns the first report with its output.
-    pub(crate) fn see(&mut self, instances: &[Instance], reports: &[usize], index: usize) -> usize
+    /// Sees the report at an index, once those before it were seen.
+    pub(crate) fn see(&mut self, instances: &[Instance], reports: &[usize], index: usize) -> Seen
         requires within { index < length reports.now }
         requires room { (length self.old.numbers.items ≤ index) × (index < MOST_INSTANCES) }
         requires seen { AreFirsts instances.now (take index reports.now) self.old.numbers.items }
-        ensures value { result ≡ first_alike instances.now reports.now (slice_index reports.now index) }
+        ensures value { result.first ≡ first_alike instances.now reports.now (slice_index reports.now index) }
+        ensures new { result.is_new ≡ true → first_with instances.now (take index reports.now) (output_of instances.now (slice_index reports.now index)) ≡ None }
         ensures seen { AreFirsts instances.now (take (index + 1) reports.now) self.new.numbers.items }
         ensures few { length self.new.numbers.items ≤ index + 1 }
     {
         let number = reports[index];
         match self.search(instances, output_at(instances, number)) {
-            Ok(spot) => self.numbers.as_slice()[spot],
+            Ok(spot) => Seen {
+                first: self.numbers.as_slice()[spot],
+                is_new: false,
+            },
             Err(spot) => {
                 self.numbers.insert(spot, number);
-                number
+                Seen {
+                    first: number,
+                    is_new: true,
+                }
             }
         }
     }

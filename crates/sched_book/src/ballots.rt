@@ -1,15 +1,18 @@
-//! The leader among good reports: the first that agrees with enough of them. Each pair is compared once, by numbers, and
-//! only until a front has a leader.
+//! The leader among good reports: the first that agrees with enough of them. Each pair is compared at most once, by
+//! numbers, and only until a front has a leader. A report whose output is new and whose whole number is far from all
+//! before it is compared with none.
 
-ghost use Rattle.std.specs.Prelude.{◌≡◌, ◌<◌, ◌≤◌, ◌+◌, [], length, take, drop, map, count_by};
+ghost use Rattle.std.specs.Prelude.{◌≡◌, ◌<◌, ◌≤◌, ◌+◌, [], true, false, length, take, drop, map, count_by};
 ghost use Rattle.std.specs.List.{All};
 ghost use Rattle.sched_book.specs.Ballots.{distance_of, number_in, agrees_with, voted, most_votes, leader_by, IsTallyOf};
 ghost use Rattle.sched_book.specs.Count.{output_of, first_leader};
+ghost use Rattle.sched_book.specs.Near.{AreRising, NoneNear};
 
 use crate::alike::Firsts;
 use crate::count::output_at;
 use crate::instance::Instance;
 use crate::limits::MOST_INSTANCES;
+use crate::near::Numbers;
 use crate::rows::Agreement;
 use crate::whole_numbers::whole_number_of;
 use arrayvec::ArrayVec;
@@ -72,6 +75,16 @@ fn add_vote(distance: u32, voter: &Ballot, ballot: &mut Ballot) -> bool
     agreed
 }
 
+/// Whether a report agrees with none of those before it: its output is new, and none of their whole numbers is near its
+/// own.
+fn is_apart(distance: u32, is_new: bool, value: Option<i64>, values: &Numbers) -> bool
+    requires { AreRising values.now.numbers.items }
+    ensures new { result ≡ true → is_new ≡ true }
+    ensures far { result ≡ true → NoneNear distance value values.now.numbers.items }
+{
+    is_new && !values.has_near_to(distance, value)
+}
+
 /// What the vote of one report has changed.
 #[derive(Drop)]
 struct Counted {
@@ -97,6 +110,31 @@ fn count_vote(distance: u32, voter: &Ballot, ballots: &mut [Ballot]) -> Counted
     Counted { agreed, most_votes }
 }
 
+/// Counts the vote of one report. If it agrees with none, no ballot changes.
+fn count_for(
+    distance: u32,
+    voter: &Ballot,
+    ballots: &mut [Ballot],
+    most: usize,
+    is_apart: bool,
+) -> Counted
+    requires few { All (λ ballot. ballot.votes ≤ MOST_INSTANCES) ballots.old }
+    requires most { most ≡ most_votes ballots.old }
+    requires apart { is_apart ≡ true → All (λ ballot. agrees_with distance voter.now ballot ≡ false) ballots.old }
+    ensures ballots { ballots.new ≡ map (voted distance voter.now) ballots.old }
+    ensures agreed { result.agreed ≡ count_by (agrees_with distance voter.now) ballots.old }
+    ensures most { result.most_votes ≡ most_votes ballots.new }
+{
+    if is_apart {
+        Counted {
+            agreed: 0,
+            most_votes: most,
+        }
+    } else {
+        count_vote(distance, voter, ballots)
+    }
+}
+
 /// The first report with enough votes.
 fn leader_of(ballots: &[Ballot], enough: usize) -> Option<usize>
     ensures { result ≡ leader_by enough ballots.now }
@@ -112,6 +150,8 @@ fn leader_of(ballots: &[Ballot], enough: usize) -> Option<usize>
 struct Tally {
     /// The first of them with each output.
     firsts: Firsts,
+    /// The whole numbers as which their outputs are compared.
+    values: Numbers,
     /// Their ballots, in the order in which they joined.
     ballots: ArrayVec<Ballot, MOST_INSTANCES>,
     /// The most votes that one of them has.
@@ -122,11 +162,13 @@ impl Tally {
     /// The tally of no report.
     fn new() -> Tally
         ensures firsts { result.firsts.numbers.items ≡ [] }
+        ensures values { result.values.numbers.items ≡ [] }
         ensures ballots { result.ballots.items ≡ [] }
         ensures most { result.most_votes ≡ 0 }
     {
         Tally {
             firsts: Firsts::new(),
+            values: Numbers::new(),
             ballots: ArrayVec::new(),
             most_votes: 0,
         }
@@ -146,14 +188,24 @@ impl Tally {
         requires tally { IsTallyOf agreement.now instances.now reports.now index self.old }
         ensures { IsTallyOf agreement.now instances.now reports.now (index + 1) self.new }
     {
+        let distance = distance_of(agreement);
+        let seen = self.firsts.see(instances, reports, index);
         let mut ballot = Ballot {
             number: reports[index],
-            first: self.firsts.see(instances, reports, index),
+            first: seen.first,
             value: value_at(agreement, instances, reports[index]),
             votes: 1,
         };
-        let counted = count_vote(distance_of(agreement), &ballot, self.ballots.as_mut_slice());
+        let apart = is_apart(distance, seen.is_new, ballot.value, &self.values);
+        let counted = count_for(
+            distance,
+            &ballot,
+            self.ballots.as_mut_slice(),
+            self.most_votes,
+            apart,
+        );
         ballot.votes += counted.agreed;
+        self.values.keep(ballot.value);
         self.ballots.push(ballot);
         self.most_votes = counted.most_votes.max(ballot.votes);
     }

@@ -4,6 +4,7 @@
 
 ghost use Rattle.std.specs.Prelude.{◌≡◌, ◌<◌, ◌≤◌, ◌^◌, ◌+◌, length, take, drop, nat_le};
 ghost use Rattle.std.specs.List.{prefix_len};
+ghost use Rattle.std.specs.List.Sorted.{IsNonDecreasingBy};
 ghost use Rattle.arrayvec.specs.ArrayVec.{array_vec_len};
 ghost use Rattle.sched_book.specs.Count.{agree, output_of, place_of, put_by, good, errors, live, canonical, want, need, status_with, status, decided, verdict_by, verdict, is_valid};
 ghost use Rattle.sched_book.specs.Places.{agreement_by, book_status};
@@ -58,22 +59,28 @@ fn place_at(instances: &[Instance], number: usize) -> u32
     }
 }
 
-/// The index at which a report belongs among these: after those whose places are not greater than its own.
+/// The index at which a report belongs among these, in the order of their places: after those whose places are not
+/// greater than its own.
 fn spot_among(instances: &[Instance], reports: &[usize], number: usize) -> usize
+    requires { IsNonDecreasingBy (place_of instances.now) reports.now }
     ensures value { result ≡ prefix_len (λ j. nat_le (place_of instances.now j) (place_of instances.now number)) reports.now }
     ensures within { result ≤ length reports.now }
 {
-    reports
-        .iter()
-        .take_while(|other| place_at(instances, **other) <= place_at(instances, number))
-        .count()
+    let place = place_at(instances, number);
+    reports.partition_point(
+        |other: &usize| -> bool
+            ensures { result ≡ nat_le (place_of instances.entry.now other.now) place }
+        { place_at(instances, *other) <= place },
+    )
 }
 
-/// Inserts a report where it belongs.
+/// Inserts a report where it belongs among those in the order of their places.
 fn put_report(instances: &[Instance], reports: &mut ArrayVec<usize, MOST_INSTANCES>, number: usize)
-    requires { array_vec_len reports.old < MOST_INSTANCES }
+    requires room { array_vec_len reports.old < MOST_INSTANCES }
+    requires order { IsNonDecreasingBy (place_of instances.now) reports.old.items }
     ensures items { reports.new.items ≡ put_by (place_of instances.now) reports.old.items number }
     ensures len { array_vec_len reports.new ≡ array_vec_len reports.old + 1 }
+    ensures order { IsNonDecreasingBy (place_of instances.now) reports.new.items }
 {
     let index = spot_among(instances, reports.as_slice(), number);
     reports.insert(index, number);

@@ -24,6 +24,7 @@ pub mod list_desk;
 pub mod machine;
 pub mod moment;
 pub mod names;
+mod near;
 mod offers;
 pub mod rows;
 mod selection;

@@ -19,6 +19,12 @@ returns-in-Err-clause-value c =
     (seen_first c.args.instances.now c.args.reports.now c.args.self.now.numbers.items c.args.index c.requires.within c.requires.seen c.output_at.result.now c.output_at.ensures
     c.in-Err.spot c.in-Err.ensures.within c.in-Err.ensures.place).value
 
+pub returns-in-Err-clause-new : goal.returns-in-Err-clause-new
+returns-in-Err-clause-new c =
+    λ is.
+    (seen_first c.args.instances.now c.args.reports.now c.args.self.now.numbers.items c.args.index c.requires.within c.requires.seen c.output_at.result.now c.output_at.ensures
+    c.in-Err.spot c.in-Err.ensures.within c.in-Err.ensures.place).new
+
 pub returns-in-Err-clause-seen : goal.returns-in-Err-clause-seen
 returns-in-Err-clause-seen c =
     subst (AreFirsts c.args.instances.now _) (sym c.insert.ensures.items)
