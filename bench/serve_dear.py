@@ -2,7 +2,8 @@
 
 The tables are those of dear_tables.py. The program starts anew for each group of cases, and answers each
 message once. The twin answers it, too (twinned.py), and the module `sqlite3`, which is SQLite in C, runs the
-twin's statements alone.
+twin's statements alone. A reference, which is another build of the program, also answers each message but the
+refused ones, if it is named.
 
 A goal for a call is a multiple of a fresh host's call, for each hundred rows that its rules make it read: a
 workunit that it reports, lists, has lost or gets, its mark, all its instances, and the hosts whose credit or
@@ -15,14 +16,14 @@ import os
 import statistics
 import string
 from collections.abc import Iterator, Sequence
-from dataclasses import dataclass, field
+from dataclasses import dataclass, field, replace
 from typing import Any
 
 import plain_tables
 import serve_life
 from dear_tables import EACH, INSTANCES, LIMITS, Large, Sizes, Small
 from plain_formats import KINDS
-from played import Options, begun, ended, exchange_timed, limit_time
+from played import DEADLINE, Options, begun, ended, exchange_timed, limit_time
 from serve_life import CREDIT, DELAY, HOUR, Recorder, Run, copied, request
 from serve_worst import FRESH
 from served import wants
@@ -45,13 +46,15 @@ MOST_RATIO, MOST_LATE, MOST_TIME, MOST_IMPORT_TIME, MOST_REFUSED = 3.0, 50.0, 25
 @dataclass(frozen=True)
 class Took:
     """What a message took: processor milliseconds of the program, and of SQLite in C for the statements (None
-    if the twin has none), and the milliseconds for which serving stood still."""
+    if the twin has none), the milliseconds for which serving stood still, and those of the reference (None if
+    there is none)."""
 
     what: str
     rows: int
     ours: float
     bare: float | None
     clock: float
+    reference: float | None = None
 
 
 class Figures:
@@ -81,6 +84,8 @@ class Figures:
         line += f"; serving stands still for {took.clock:.0f}"
         if took.bare is not None:
             line += f"; the statements alone by SQLite in C {took.bare:.1f}"
+        if took.reference is not None:
+            line += f"; the reference {took.reference:.1f}, so {took.ours / took.reference:.2f} times as much"
         print(line, flush=True)
 
     def tell_import(self, took: Took) -> None:
@@ -122,11 +127,12 @@ class Figures:
 
 @dataclass
 class Bench:
-    """The program that is measured, a folder for copies of tables, and the figures."""
+    """The program that is measured, a folder for copies of tables, the figures, and the reference, if any."""
 
     program: str
     folder: str
     figures: Figures = field(default_factory=Figures)
+    reference: str | None = None
 
     def command(self) -> Sequence[str]:
         """Returns the command under which the program runs."""
@@ -145,9 +151,26 @@ class Bench:
         """Starts the program alone over a copy of tables."""
         return begun(self.program, copied(tables, self.folder, "ours.db"), self.command())
 
+    def begun_reference(self, tables: str) -> Run | None:
+        """Starts the reference over a copy of tables, if there is one."""
+        if self.reference is None:
+            return None
+        return begun(self.reference, copied(tables, self.folder, "reference.db"))
+
+
+def reference_took(reference: Run | None, message: bytes, answer: bytes) -> float | None:
+    """Returns the processor milliseconds that the reference, if any, takes for a message. But for the
+    deadlines it must give this answer."""
+    if reference is None:
+        return None
+    (other, _, _), seconds = exchange_timed(reference, message)
+    wants(DEADLINE.sub(b"", other), DEADLINE.sub(b"", answer), "the answer of the reference")
+    return seconds * 1e3
+
 
 class Group:
-    """Messages to one run of the program over a copy of tables, to the twin, and to SQLite in C."""
+    """Messages to one run of the program over a copy of tables, to the twin, to SQLite in C, and to the
+    reference, if there is one."""
 
     def __init__(self, bench: Bench, tables: str) -> None:
         ours, theirs, bare = (
@@ -158,6 +181,7 @@ class Group:
         self.both.begin()
         self.recorder = Recorder(self.both.tables)
         self.bare = plain_tables.Tables(bare).connection
+        self.reference = bench.begun_reference(tables)
         self.numbers: dict[int, int] = {}
 
     def send(self, what: str, rows: int, message: Message) -> tuple[Took, bytes]:
@@ -166,7 +190,8 @@ class Group:
             heard = self.both.send(message)
         bare = serve_life.run_bare(self.bare, self.recorder.taken())
         wants(heard.answer[:13], b"HTTP/1.1 200 ", f"the status of the answer to {what}")
-        took = Took(what, rows, heard.seconds * 1e3, bare * 1e3, heard.clock_seconds * 1e3)
+        reference = reference_took(self.reference, message.raw(), heard.answer)
+        took = Took(what, rows, heard.seconds * 1e3, bare * 1e3, heard.clock_seconds * 1e3, reference)
         return took, heard.content()
 
     def ask(self, what: str, rows: int, host: int, user: int, **fields: Any) -> tuple[Took, Any]:
@@ -185,6 +210,8 @@ class Group:
         """Ends all. The rows of the program and of the twin must be equal then."""
         self.bare.close()
         self.recorder.close()
+        if self.reference is not None:
+            ended(self.reference)
         ended(self.both.run)
         self.both.same_rows(self.both.ours)
 
@@ -302,7 +329,7 @@ def imports(bench: Bench, small: Small, tables: str) -> None:
         bench.figures.tell_import(took)
         one = group.fresh(next(users))
         first = "the first fresh call after that import"
-        bench.figures.tell_call(Took(first, 0, one.ours, one.bare, one.clock))
+        bench.figures.tell_call(replace(one, what=first))
         group.end()
 
 
@@ -311,7 +338,7 @@ def imports(bench: Bench, small: Small, tables: str) -> None:
 
 def statement(bench: Bench, small: Small, tables: str) -> None:
     """Measures a statement. The twin has none."""
-    run = bench.begun(tables)
+    run, reference = bench.begun(tables), bench.begun_reference(tables)
     message = f"GET /hosts/{small.busy_host} HTTP/1.1\r\nx-operator-key: {serve_life.KEY}\r\n\r\n".encode()
     results = small.sizes.results
     what, rows = f"a statement of a host with {results} results", results * (OWN_ROWS + 2) + 1
@@ -319,8 +346,11 @@ def statement(bench: Bench, small: Small, tables: str) -> None:
         (answer, start, end), seconds = exchange_timed(run, message)
     lines = answer.partition(b"\r\n\r\n")[2].count(b"\n")
     wants(lines, results + 2, "the lines of a statement")
-    bench.figures.tell_other(Took(what, rows, seconds * 1e3, None, (end - start) * 1e3))
-    ended(run)
+    other = reference_took(reference, message, answer)
+    bench.figures.tell_other(Took(what, rows, seconds * 1e3, None, (end - start) * 1e3, other))
+    for each in (run, reference):
+        if each is not None:
+            ended(each)
 
 
 def filled_body(begin: bytes, items: Iterator[bytes], end: bytes) -> bytes:
@@ -410,7 +440,7 @@ def good_messages(bench: Bench, tables: Tables) -> None:
 def dear(options: Options, folder: str) -> None:
     """Measures the dearest messages."""
     limit_time("dear", 7200)
-    bench = Bench(options.program, folder)
+    bench = Bench(options.program, folder, reference=options.reference)
     tables = Tables(options.program, folder, Sizes().part(options.part))
     good_messages(bench, tables)
     refused(bench, tables.small_path)
