@@ -73,6 +73,6 @@ board            the same as a page, with forms
 Requests and accounts keep their rows in the state_file, in SQLite. downloads sends files. The other modules
 are settings, host_rules (settings that are read again), limits, operator_files (TOML with the lines of its
 faults), http_messages (by Werkzeug), code_signing, recent_credit, preferences (of users, for their clients),
-operator_orders (the operator's commands on accounts), key_locks and words. gunicorn runs the application by
-gunicorn_worker, and logs by gunicorn_log.
+operator_orders (the operator's commands on accounts), rights (with which root does them), key_locks and
+words. gunicorn runs the application by gunicorn_worker, and logs by gunicorn_log.
 """

@@ -246,9 +246,13 @@ class AccountPages:
         email, password = in_small_letters(sent.text("email")), sent.fields.get("password", "")
         if not is_email(email):
             sent.faults["email"] = Fault.NO_ADDRESS.text
-        if not LEAST_PASSWORD <= len(password) <= MOST_PASSWORD:
+        if len(password) < LEAST_PASSWORD:
             sent.faults["password"] = gettext_lazy(
                 "The password has fewer than %(count)s characters.", count=LEAST_PASSWORD
+            )
+        if len(password) > MOST_PASSWORD:
+            sent.faults["password"] = gettext_lazy(
+                "The password has more than %(count)s characters.", count=MOST_PASSWORD
             )
         if sent.faults:
             return self._password(sent)

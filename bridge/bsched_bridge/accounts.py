@@ -156,7 +156,9 @@ class Accounts:
         self._operator_key = operator_key
         self._locks = KeyLocks(WAIT_SECONDS)
         self._new = RecentCounts(settings.most_from_address, DAY)
-        self._wrong = RecentCounts(MOST_WRONG_PASSWORDS, HOUR)
+        # A wrong key costs nothing, so the counts of somebody's many networks may push out others. Those of
+        # e-mail addresses are apart: each costs a hash, and an hour is too short for MOST_KEYS of them.
+        self._wrong = {who: RecentCounts(MOST_WRONG_PASSWORDS, HOUR) for who in ("client", "email", "key")}
 
     # ---- What clients ask for
 
@@ -276,15 +278,15 @@ class Accounts:
         taken: list[tuple[str, str]] = []
         attempt = Attempt()
         try:
-            for key in keys:
-                if not self._wrong.take(key):
+            for who, name in keys:
+                if not self._wrong[who].take(name):
                     raise AccountFault(Fault.TOO_MANY)
-                taken.append(key)
+                taken.append((who, name))
             yield attempt
         finally:
             if not attempt.is_wrong:
-                for key in taken:
-                    self._wrong.give_back(key)
+                for who, name in taken:
+                    self._wrong[who].give_back(name)
 
     # ---- A new account
 

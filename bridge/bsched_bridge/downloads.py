@@ -42,12 +42,13 @@ class SentFile:
 
 def conditions_of(message: Request, changed: str) -> WSGIEnvironment:
     """Returns a message with the conditions that the bridge takes. A file that is older than the client's is
-    another one, too, so only an equal time counts. Of several parts, or of other ones than bytes, the whole
-    file is sent.
+    another one, too, so only an equal time counts, and Werkzeug reads no other one. Of several parts, or of
+    other ones than bytes, the whole file is sent.
     """
     environ = dict(message.environ)
+    is_same = environ.pop("HTTP_IF_RANGE", changed) == changed
     asked = message.range if len(environ.get("HTTP_RANGE", "")) <= MOST_RANGE else None
-    if asked is None or asked.units != "bytes" or len(asked.ranges) != 1:
+    if not is_same or asked is None or asked.units != "bytes" or len(asked.ranges) != 1:
         environ.pop("HTTP_RANGE", None)
     if environ.get("HTTP_IF_MODIFIED_SINCE") != changed:
         environ.pop("HTTP_IF_MODIFIED_SINCE", None)

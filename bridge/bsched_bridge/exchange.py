@@ -256,7 +256,7 @@ class Exchange:
             return aside
         if unheld:
             log.warning(
-                "account %s: no known host has %s, so its report is not taken (%d results)",
+                "account %s: no known host has %r, so its report is not taken (%d results)",
                 shown_key(request.authenticator),
                 unheld[0],
                 len(unheld),

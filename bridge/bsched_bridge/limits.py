@@ -58,8 +58,9 @@ class TakenPlace:
 class RecentCounts:
     """Counts what each key did within the last seconds, and allows it no more than the limit.
 
-    The counts are in memory, for at most MOST_KEYS keys. A count that is still needed is never forgotten:
-    while there are as many keys, a new one is allowed nothing.
+    The counts are in memory, for at most MOST_KEYS keys. A further key takes the place of the one that did
+    nothing for longest, so nobody is refused for what others do. Who has that many keys is allowed more than
+    the limit of one anyway.
     """
 
     def __init__(self, most: int, seconds: float, clock: Callable[[], float] = time.monotonic) -> None:
@@ -75,8 +76,10 @@ class RecentCounts:
             times = self._times.get(key, [])
             while times and times[0] <= now - self.seconds:
                 times.pop(0)
-            if len(times) >= self.most or (key not in self._times and len(self._times) >= MOST_KEYS):
+            if len(times) >= self.most:
                 return False
+            if key not in self._times and len(self._times) >= MOST_KEYS:
+                self._times.popitem(last=False)
             times.append(now)
             self._times[key] = times
             self._times.move_to_end(key)

@@ -1,25 +1,30 @@
 """The operator's commands on accounts. They work on the state file, while a bridge serves it or not.
 
-Root can use them, too: what SQLite then makes next to the file belongs to the user who has the file.
+Root can use them, too, and then works with the rights of the user who has the file's folder.
 """
 import argparse
 import csv
+import fnmatch
 import json
 import os
+import secrets
+import shutil
 import sys
+import tempfile
 import time
 from collections.abc import Callable, Iterable, Iterator
-from contextlib import suppress
+from contextlib import contextmanager, suppress
 from dataclasses import dataclass
 from datetime import datetime, timezone
 from pathlib import Path
-from typing import TypeVar
+from typing import BinaryIO, TypeVar
 
 from .barring import Barred, Barring
 from .hosts import HeardHost, Hosts
 from .members import Member, Members
+from .rights import own_rights, rights_of_owner
 from .settings import PROJECTS, Settings, read_settings
-from .state_file import StateFile
+from .state_file import StateFile, make_private
 from .teams import MOST_TEAMS, Team, Teams
 from .texts import credits_text, moment_text
 from .words import shown_key
@@ -71,9 +76,8 @@ def config_of(args: argparse.Namespace) -> Path:
     return (Path(name) if "/" in name else PROJECTS / name) / "bridge" / "bridge.toml"
 
 
-def open_state(args: argparse.Namespace) -> State:
-    """Opens the state file of the command line's project."""
-    settings = read_settings(config_of(args))
+def open_state(settings: Settings) -> State:
+    """Opens the state file of a project."""
     if not settings.state.exists():
         raise OrderFault(f"{settings.state}: there is none: the bridge makes it at its first start")
     file = StateFile(settings.state, is_guest=True)
@@ -259,43 +263,79 @@ def delete(state: State, args: argparse.Namespace) -> Iterator[str]:
 
 def copy(state: State, args: argparse.Namespace) -> Iterator[str]:
     """Copies the state file into a new file or a folder, while a bridge serves it."""
-    made = copied(state, args.to)
-    yield f"{made}: {made.stat().st_size} bytes"
-    if args.keep is not None and args.to.is_dir():
-        for old in sorted(args.to.glob(f"bridge-*{COPY_ENDING}"), reverse=True)[args.keep :]:
-            old.unlink()
-            yield f"removed {old}"
+    made, nbytes = copied(state, args.to)
+    yield f"{made}: {nbytes} bytes"
+    if args.keep is not None and made.parent == args.to:
+        yield from (f"removed {old}" for old in remove_older(args.to, args.keep))
 
 
-def copied(state: State, target: Path) -> Path:
-    """Copies a state file, and returns the copy. It has the owner of the state file, and gets its name once
-    it is whole and on the disk.
+def copied(state: State, target: Path) -> tuple[Path, int]:
+    """Copies a state file, and returns the copy with its size. It has the owner of the state file, and gets
+    its name once it is whole and on the disk.
+
+    If root copies, the folder of the copy may belong to another user, who can put links into it. SQLite
+    follows links. So it makes the copy elsewhere, and the bytes go from there into a new file.
     """
-    moment = datetime.now(timezone.utc)
-    name = f"bridge-{moment:%Y%m%dT%H%M%S}.{moment.microsecond // 1000:03}Z{COPY_ENDING}"
-    final = target / name if target.is_dir() else target
-    if final.exists():
-        raise OrderFault(f"{final}: it exists, and a copy is never written over another")
-    work = final.with_name(f".{final.name}.new")
-    try:
-        os.close(os.open(work, os.O_WRONLY | os.O_CREAT | os.O_TRUNC, 0o600))
-        state.file.backup(work)
-        owner = state.settings.state.stat()
-        with suppress(PermissionError):
-            os.chown(work, owner.st_uid, owner.st_gid)
-        sync(work)
-        os.rename(work, final)
-        sync(final.parent)
-    finally:
-        work.unlink(missing_ok=True)
-    return final
+    with own_rights():
+        final = target / copy_name() if target.is_dir() else target
+        if os.path.lexists(final):
+            raise OrderFault(f"{final}: it exists, and a copy is never written over another")
+    owner = state.settings.state.stat()
+    with tempfile.TemporaryDirectory(prefix="bsched-bridge-") as folder:
+        whole = Path(folder) / "copy"
+        make_private(whole)
+        state.file.backup(whole)
+        with whole.open("rb") as source, own_rights():
+            return final, write_copy(source, final, owner)
 
 
-def sync(path: Path) -> None:
-    """Syncs a file or a folder to the disk."""
-    descriptor = os.open(path, os.O_RDONLY)
+def copy_name() -> str:
+    """Returns the name of a copy in a folder of copies, with the moment in UTC."""
+    now = datetime.now(timezone.utc)
+    return f"bridge-{now:%Y%m%dT%H%M%S}.{now.microsecond // 1000:03}Z{COPY_ENDING}"
+
+
+def write_copy(source: BinaryIO, final: Path, owner: os.stat_result) -> int:
+    """Writes the bytes of a copy into a new file, and returns how many there are. No link in the file's
+    folder is followed.
+    """
+    work = f".{final.name}.{secrets.token_hex(8)}.new"
+    with opened_folder(final.parent) as folder:
+        descriptor = os.open(work, os.O_WRONLY | os.O_CREAT | os.O_EXCL | os.O_NOFOLLOW, 0o600, dir_fd=folder)
+        try:
+            with open(descriptor, "wb") as file:
+                shutil.copyfileobj(source, file)
+                with suppress(PermissionError):
+                    os.fchown(descriptor, owner.st_uid, owner.st_gid)
+                file.flush()
+                os.fsync(descriptor)
+                nbytes = file.tell()
+            os.rename(work, final.name, src_dir_fd=folder, dst_dir_fd=folder)
+        except BaseException:
+            with suppress(FileNotFoundError):
+                os.unlink(work, dir_fd=folder)
+            raise
+        os.fsync(folder)
+    return nbytes
+
+
+def remove_older(copies: Path, keep: int) -> list[Path]:
+    """Removes older copies from a folder, so that this many are left. Returns the removed ones."""
+    with own_rights(), opened_folder(copies) as folder:
+        names = sorted(fnmatch.filter(os.listdir(folder), f"bridge-*{COPY_ENDING}"), reverse=True)
+        for name in names[keep:]:
+            os.unlink(name, dir_fd=folder)
+    return [copies / name for name in names[keep:]]
+
+
+@contextmanager
+def opened_folder(path: Path) -> Iterator[int]:
+    """Opens a folder for the block. Its descriptor is that of one folder, even if the path leads elsewhere
+    later.
+    """
+    descriptor = os.open(path, os.O_RDONLY | os.O_DIRECTORY)
     try:
-        os.fsync(descriptor)
+        yield descriptor
     finally:
         os.close(descriptor)
 
@@ -341,9 +381,11 @@ def run_order(args: argparse.Namespace) -> None:
     order, _ = ORDERS[args.order]
     if getattr(args, "keep", None) is not None and args.keep < 1:
         raise OrderFault("--keep is a whole number of at least 1")
-    state = open_state(args)
-    try:
-        for line in order(state, args):
-            print("".join(one if one.isprintable() or one == "\t" else "\ufffd" for one in line))
-    finally:
-        state.file.close()
+    settings = read_settings(config_of(args))
+    with rights_of_owner(settings.state.parent):
+        state = open_state(settings)
+        try:
+            for line in order(state, args):
+                print("".join(one if one.isprintable() or one == "\t" else "\ufffd" for one in line))
+        finally:
+            state.file.close()

@@ -13,6 +13,7 @@ from collections.abc import Callable
 from dataclasses import dataclass, replace
 from functools import cached_property
 
+from .calls import MOST_REPORTS
 from .catalogue import Catalogue
 from .client_requests import UPLOAD_STATUS, ClientRequest, Report, ReportedFile
 from .digest_programs import BadFiles, DigestFault, DigestProgram, compared_files, digest_of
@@ -83,16 +84,17 @@ class ReportChecks:
         return jobs
 
     def check(self, key: Key, request: ClientRequest) -> ClientRequest:
-        """Returns a request of a host with the reports that bsched gets. Those that can't be checked now are
-        listed as results that the client has, so they don't count as lost.
+        """Returns a request of a host with the reports that bsched gets. Those that can't be checked now, and
+        those that are more than a call has room for, are listed as results that the client has, so they don't
+        count as lost.
         """
-        reports, put_off = [], []
+        reports, put_off = [], [report.name for report in request.results[MOST_REPORTS:]]
         ends, statement = time.monotonic() + DIGEST_SECONDS, HostStatement(self, key)
-        for report in request.results:
+        for report in request.results[:MOST_REPORTS]:
             try:
                 reports.append(self._checked(statement, report, ends))
             except (OSError, sqlite3.Error, DigestFault) as fault:
-                log.error("the report of %s is put off: %s", report.name, fault)
+                log.error("the report of %r is put off: %s", report.name, fault)
                 put_off.append(report.name)
         other = None if request.other_results is None else (*request.other_results, *put_off)
         return replace(request, results=tuple(reports), other_results=other)
@@ -150,7 +152,7 @@ class ReportChecks:
         try:
             outcome = Outcome(0, digest_of(program, files))
         except BadFiles as fault:
-            log.warning("the files of %s are bad: %s", job.result, fault)
+            log.warning("the files of %s are bad: %r", job.result, str(fault))
             outcome = Outcome(BAD_FILES_STATUS, str(fault))
         except DigestFault as fault:
             raise DigestFault(f"{program.path}: {fault}") from None

@@ -199,6 +199,7 @@ class StateFile:
         self._is_synced: bool | None = None  # whether SQLite syncs a commit now; None: as it does by default
         self._look_lock = threading.Lock()
         self._looking: sqlite3.Connection | None = None
+        self._waiting_lock = threading.Lock()
         # the writes that wait for a transaction, and those in the one that runs
         self._waiting: dict[Hashable, Write] = {}
         self._written: dict[Hashable, Write] = {}
@@ -264,27 +265,26 @@ class StateFile:
                 self._is_synced = is_synced
             self._connection.execute("BEGIN IMMEDIATE")
             if self._waiting:
-                self._write_waiting(list(self._waiting) if only is None else [only])
+                self._write_waiting(only)
         except BaseException:
-            self._lock.release()
+            self._written = {}
+            try:
+                if self._connection.in_transaction:
+                    self._connection.execute("ROLLBACK")
+            finally:
+                self._lock.release()
             raise
         return self._connection
 
-    def _write_waiting(self, keys: list[Hashable]) -> None:
-        """Does what was put off for some keys, in a transaction that has begun. If that fails, it is
-        forgotten.
+    def _write_waiting(self, only: Hashable) -> None:
+        """Does what was put off, or only the write of a key, in a transaction that has begun. If that fails,
+        it is forgotten.
         """
-        for key in keys:
-            if key in self._waiting:
-                self._written[key] = self._waiting[key]
-                del self._waiting[key]
-        try:
-            for write in self._written.values():
-                write(self._connection)
-        except BaseException:
-            self._written = {}
-            self._connection.execute("ROLLBACK")
-            raise
+        with self._waiting_lock:
+            keys = list(self._waiting) if only is None else [only]
+            self._written = {key: self._waiting.pop(key) for key in keys if key in self._waiting}
+        for write in self._written.values():
+            write(self._connection)
 
     def end(self, is_good: bool) -> None:
         """Commits or undoes the transaction. What was put off before waits again if it was undone with it."""
@@ -297,23 +297,26 @@ class StateFile:
                 if self._connection.in_transaction:
                     self._connection.execute("ROLLBACK")
             finally:
-                for key, write in self._written.items():
-                    self._waiting.setdefault(key, write)
-                self._written = {}
+                with self._waiting_lock:
+                    for key, write in self._written.items():
+                        self._waiting.setdefault(key, write)
+                    self._written = {}
                 self._lock.release()
 
     def put_off(self, key: Hashable, write: Write) -> None:
         """Puts the write of a key off until a transaction begins with it, or until somebody reads the file
         by this connection. It takes the place of an earlier one of the key, and is done after all others.
         """
-        self._waiting.pop(key, None)
-        self._waiting[key] = write
+        with self._waiting_lock:
+            self._waiting.pop(key, None)
+            self._waiting[key] = write
         if len(self._waiting) > MOST_WAITING:
             self.write_waiting()
 
     def waiting(self, key: Hashable) -> Write | None:
         """Returns the write of a key that was put off."""
-        return self._waiting.get(key) or self._written.get(key)
+        with self._waiting_lock:
+            return self._waiting.get(key) or self._written.get(key)
 
     def write_waiting(self) -> None:
         """Does what was put off. If it can't be done, a line in the log says so."""

@@ -4,6 +4,7 @@ from collections.abc import Iterable
 from pathlib import Path
 
 from .operator_files import OperatorFault
+from .rights import rights_of_owner
 from .settings import read_settings
 from .upload_store import UploadStore
 from .upload_sweep import Decisions, sweep
@@ -31,7 +32,7 @@ def decisions_in(paths: Iterable[Path]) -> Decisions:
 
 def run(config: Path, tables: list[Path]) -> str:
     """Sweeps the folder of uploads of a bridge, which may serve meanwhile. Returns a line that says what was
-    deleted.
+    deleted. Root works with the rights of the folder's owner.
     """
     settings = read_settings(config)
     if settings.uploads is None:
@@ -39,14 +40,15 @@ def run(config: Path, tables: list[Path]) -> str:
     if not (settings.uploads.folder / "uploads.db").exists():
         raise OperatorFault(settings.uploads.folder, None, "has no uploads.db, which the bridge makes")
     decisions = decisions_in(tables) if tables else None
-    store = UploadStore(settings.uploads)
-    try:
-        swept = sweep(store, int(time.time()), decisions)
-        used = store.tables.used()
-    finally:
-        store.close()
+    with rights_of_owner(settings.uploads.folder):
+        store = UploadStore(settings.uploads)
+        try:
+            swept = sweep(store, int(time.time()), decisions)
+            used = store.tables.used()
+        finally:
+            store.close()
     return (
         f"swept {settings.uploads.folder}: {swept.uploads} uploads that were not reported, {swept.jobs} jobs "
-        f"that did not come back, {swept.results} results that are not canonical with {swept.contents} "
+        f"that did not come back, {swept.results} results that are not canonical, {swept.contents} stored "
         f"files; {swept.nbytes} bytes are deleted, and {used} are left"
     )

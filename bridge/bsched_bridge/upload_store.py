@@ -14,6 +14,7 @@ no address of the web has them.
 import hashlib
 import logging
 import os
+import sqlite3
 import threading
 import time
 from collections.abc import Iterable, Iterator
@@ -184,17 +185,13 @@ class UploadStore:
     # ---- Reports
 
     def store_files(self, result: str, files: list[tuple[OutputFile, Upload]]) -> None:
-        """Stores the files of a reported result. When it returns, all is on the disk. Raises
-        FileNotFoundError if somebody else removed a file.
+        """Stores the files of a reported result in the place of those of an earlier report, which no longer
+        counts. When it returns, all is on the disk. Raises FileNotFoundError if somebody else removed a file.
         """
         with self.tables.turn():
-            for _, upload in files:
-                stored = self.store / upload.sha256
-                if not stored.exists():
-                    os.link(self.path_of(upload), stored)
-            sync_folder(self.store)
+            self._link([upload for _, upload in files])
             with self.tables.transaction() as connection:
-                connection.execute("DELETE FROM file WHERE result = ?", (result,))
+                former = self.forget_files(connection, result)
                 for place, (file, upload) in enumerate(files):
                     connection.execute(
                         "INSERT OR IGNORE INTO content (sha256, nbytes) VALUES (?, ?)",
@@ -207,8 +204,44 @@ class UploadStore:
                     connection.execute("DELETE FROM upload WHERE name = ?", (upload.name,))
                 moment = int(time.time())
                 connection.execute("UPDATE job SET stored_at = ? WHERE result = ?", (moment, result))
+                self.delete_unused(connection, former)
             for _, upload in files:
                 self.path_of(upload).unlink(missing_ok=True)
+
+    def _link(self, uploads: list[Upload]) -> None:
+        """Gives files their names in store/. If one of them was removed, the others don't stay there: their
+        bytes would not count.
+        """
+        linked: list[Path] = []
+        try:
+            for upload in uploads:
+                stored = self.store / upload.sha256
+                if not stored.exists():
+                    os.link(self.path_of(upload), stored)
+                    linked.append(stored)
+        except OSError:
+            for stored in linked:
+                stored.unlink()
+            raise
+        sync_folder(self.store)
+
+    def forget_files(self, connection: sqlite3.Connection, result: str) -> dict[str, int]:
+        """Deletes the rows of a result's files, within a transaction. Returns the size of each content that
+        they name.
+        """
+        query = "DELETE FROM file WHERE result = ? RETURNING sha256, nbytes"
+        return dict(connection.execute(query, (result,)).fetchall())
+
+    def delete_unused(self, connection: sqlite3.Connection, contents: Iterable[str]) -> list[str]:
+        """Deletes those of some contents that no result has any more, within a transaction, and returns them.
+        The files go first: a stop leaves rows of files that nobody needs.
+        """
+        query = "SELECT 1 FROM file WHERE sha256 = ? LIMIT 1"
+        unused = [one for one in contents if connection.execute(query, (one,)).fetchone() is None]
+        for sha256 in unused:
+            (self.store / sha256).unlink(missing_ok=True)
+            connection.execute("DELETE FROM content WHERE sha256 = ?", (sha256,))
+        return unused
 
     def stored_files(self, result: str) -> dict[str, StoredOutput]:
         """Returns the stored files of a result, by their open_names."""

@@ -5,10 +5,13 @@ files of results that are not canonical. It works in turns with the bridge, a pa
 
 A file in store/ is deleted only if copies of the tables say of each result with this content that its
 workunit is done or has failed, and that it is not the canonical result. It also stays if a canonical output
-names it. A workunit that is done never gets another canonical result, so the copies may be of any age.
+names it. A workunit that is done never gets another canonical result, so the copies may be of any age. A
+result whose job went out once more after its report, and never came back, does not count: bsched has not
+heard of that report.
 """
 import re
-from collections.abc import Iterable
+import sqlite3
+from collections.abc import Iterable, Set
 from dataclasses import dataclass, field
 from typing import TypeVar, cast
 
@@ -48,7 +51,7 @@ class Swept:
     uploads: int = 0  # files that were not reported
     jobs: int = 0  # that never came back
     results: int = 0  # that are not canonical
-    contents: int = 0  # their files
+    contents: int = 0  # files in store/
     nbytes: int = 0  # in all these files
 
 
@@ -62,7 +65,7 @@ def sweep(store: UploadStore, now: int, decisions: Decisions | None) -> Swept:
     """Deletes what is old. Without decisions all reported results keep their files."""
     swept = Swept(uploads=store.delete_left_over())
     sweep_uploads(store, now, swept)
-    sweep_jobs(store, now, swept)
+    sweep_jobs(store, now, decisions.contents if decisions is not None else set(), swept)
     if decisions is not None:
         sweep_results(store, now - store.settings.keep_days * DAY, decisions, swept)
     return swept
@@ -93,16 +96,20 @@ def sweep_uploads(store: UploadStore, now: int, swept: Swept) -> None:
                     swept.nbytes += upload.nbytes
 
 
-def sweep_jobs(store: UploadStore, now: int, swept: Swept) -> None:
-    """Deletes jobs that went out and never came back."""
+def sweep_jobs(store: UploadStore, now: int, kept: Set[str], swept: Swept) -> None:
+    """Deletes jobs that went out and never came back. Such a job may have files: it came back before, and
+    bsched did not hear of it, so the job went out once more.
+    """
     gone = PART
     while gone == PART:
         with store.tables.transaction() as connection:
-            gone = connection.execute(
+            rows = connection.execute(
                 "DELETE FROM job WHERE rowid IN "
-                "(SELECT rowid FROM job WHERE stored_at IS NULL AND deadline < ? LIMIT ?)",
+                "(SELECT rowid FROM job WHERE stored_at IS NULL AND deadline < ? LIMIT ?) RETURNING result",
                 (now - LEFT_DAYS * DAY, PART),
-            ).rowcount
+            ).fetchall()
+            forget_results(store, connection, [str(row[0]) for row in rows], kept, swept)
+        gone = len(rows)
         swept.jobs += gone
 
 
@@ -121,31 +128,22 @@ def sweep_results(store: UploadStore, before: int, decisions: Decisions, swept: 
         last = str(rows[-1][0])
         old = [str(row[0]) for row in rows if decisions.may_go(str(row[0]))]
         for part in parts_of(old, PART):
-            forget_results(store, part, before, decisions, swept)
+            with store.tables.transaction() as connection:
+                query = "DELETE FROM job WHERE result = ? AND stored_at < ?"  # it may have gone out once more
+                gone = [one for one in part if connection.execute(query, (one, before)).rowcount]
+                forget_results(store, connection, gone, decisions.contents, swept)
+                swept.results += len(gone)
 
 
 def forget_results(
-    store: UploadStore, results: list[str], before: int, decisions: Decisions, swept: Swept
+    store: UploadStore, connection: sqlite3.Connection, results: list[str], kept: Set[str], swept: Swept
 ) -> None:
-    """Deletes the rows of results, and the contents that no other result has. The files go first: a stop
-    leaves rows of files that nobody needs, and the next sweep deletes them.
+    """Deletes the files of results whose jobs are gone, and the contents that no other result has, within a
+    transaction. Some contents are kept. After a stop the next sweep does the same.
     """
-    with store.tables.transaction() as connection:
-        contents: dict[str, int] = {}
-        for result in results:
-            if not connection.execute(
-                "DELETE FROM job WHERE result = ? AND stored_at < ?", (result, before)
-            ).rowcount:
-                continue  # it went out once more meanwhile
-            query = "SELECT sha256, nbytes FROM file WHERE result = ?"
-            contents |= dict(connection.execute(query, (result,)).fetchall())
-            connection.execute("DELETE FROM file WHERE result = ?", (result,))
-            swept.results += 1
-        for sha256, nbytes in contents.items():
-            is_used = connection.execute("SELECT 1 FROM file WHERE sha256 = ? LIMIT 1", (sha256,)).fetchone()
-            if sha256 in decisions.contents or is_used:
-                continue
-            (store.store / sha256).unlink(missing_ok=True)
-            connection.execute("DELETE FROM content WHERE sha256 = ?", (sha256,))
-            swept.contents += 1
-            swept.nbytes += nbytes
+    contents: dict[str, int] = {}
+    for result in results:
+        contents |= store.forget_files(connection, result)
+    deleted = store.delete_unused(connection, contents.keys() - kept)
+    swept.contents += len(deleted)
+    swept.nbytes += sum(contents[one] for one in deleted)

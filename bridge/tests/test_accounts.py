@@ -378,10 +378,10 @@ def test_old_counts_and_surplus_keys_are_forgotten(monkeypatch: pytest.MonkeyPat
     now[0] = 60.0
     assert [counts.take("a") for _ in range(2)] == [True, False]
     monkeypatch.setattr("bsched_bridge.limits.MOST_KEYS", 3)
-    assert [counts.take(key) for key in "bcd"] == [True, True, False]  # live counts stay
-    assert list(counts._times) == ["a", "b", "c"]
-    counts.give_back("c")
-    assert counts.take("d")
+    assert [counts.take(key) for key in "bcad"] == [True, True, False, True]
+    assert list(counts._times) == ["b", "c", "d"]  # the one that did nothing for longest is gone
+    counts.give_back("d")
+    assert counts.take("e") and list(counts._times) == ["b", "c", "e"]
     now[0] = 121.0
     assert counts.take("e") and list(counts._times) == ["e"]
     counts.give_back("nobody")
@@ -397,13 +397,16 @@ def test_counts_of_wrong_passwords_are_not_pushed_out(
     for number in range(100):  # of addresses that somebody made up, of a client that is refused
         assert look_up(open_bridge, f"nobody{number}@sums.example") == -183
     assert look_up(open_bridge) == look_up(open_bridge, client="192.0.2.9") == -183
-    # others are refused while the table is full, and have their turn when there is room
+    # others have their turn while there are more clients than counts, and the address stays locked
     for number in range(40):
-        look_up(open_bridge, f"nobody{number}@sums.example", client=f"192.0.2.{number}")
-    assert look_up(open_bridge, "new@sums.example", client="192.0.2.99") == -183
+        assert of_key(open_bridge, "nobody", client=f"192.0.2.{number}") == -155
+    assert of_key(open_bridge, key, client="192.0.2.99") == key
+    assert look_up(open_bridge, "new@sums.example", client="192.0.2.99") == -155
+    assert look_up(open_bridge, client="192.0.2.98") == -183
     counts = open_bridge.application.accounts._wrong
-    assert len(counts._times) <= 30
-    counts.clock = lambda: time.monotonic() + 3601
+    assert {len(one._times) <= 30 for one in counts.values()} == {True}
+    for one in counts.values():
+        one.clock = lambda: time.monotonic() + 3601
     assert look_up(open_bridge) == key
 
 
@@ -577,7 +580,7 @@ def test_what_is_refused_takes_no_hash(
     monkeypatch.setattr("bsched_bridge.passwords.scrypt", lambda *_words: 1 // 0)
     assert create(open_bridge, "bob@sums.example") == -208
     for number in range(10):
-        open_bridge.application.accounts._wrong.take(("client", CLIENT))
+        open_bridge.application.accounts._wrong["client"].take(CLIENT)
     assert create(open_bridge) == look_up(open_bridge) == -183
 
 

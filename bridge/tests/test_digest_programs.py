@@ -232,7 +232,7 @@ def test_a_program_that_fails_puts_the_report_off(
     for _ in range(2):
         assert names(digest_bridge.call(body), "result_ack") == []
         assert digest_bridge.twin.calls()[-1]["other_results"] == ["u1_0"]
-    assert "the report of u1_0 is put off: " in caplog.text and "its status is 2" in caplog.text
+    assert "the report of 'u1_0' is put off: " in caplog.text and "its status is 2" in caplog.text
     replaced(digest_bridge, "echo mended")
     assert reported(digest_bridge, body) == (0, "mended")
     replaced(digest_bridge, "echo another")  # it runs once for each reported result

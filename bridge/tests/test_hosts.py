@@ -1,5 +1,6 @@
 """Whose host a client is: numbers that clients were told, changed host_cpids, copies, and lost state
 files."""
+import sqlite3
 from pathlib import Path
 
 import pytest
@@ -111,7 +112,7 @@ def test_a_lost_state_file_and_a_changed_host_cpid(
         assert names(reply, "result_ack") == [] == names(reply, "result_abort")
         assert value(reply, "hostid") is None
         assert "can't tell which computer got u2_0" in value(reply, "message")
-    assert "no known host has u2_0, so its report is not taken (1 results)" in caplog.text
+    assert "no known host has 'u2_0', so its report is not taken (1 results)" in caplog.text
     assert recorded(twin, "u2_0") is None
     # what is known to be its own is taken, and it gets no job
     two.call(request(cpid="new", seconds=60))
@@ -370,3 +371,22 @@ def test_a_call_for_another_host_asks_for_no_second_of_work(two: Bridge, twin: T
     two.call(request(hostid=77, cpid="x", reports=[("u1_0", "42")]))
     aside = [call for call in twin.calls()[before:] if call["rpc_seqno"] and call["results"]]
     assert [(call["host_info"]["host_cpid"], call["work_req_seconds"]) for call in aside] == [("a", 0)]
+
+
+def test_a_name_of_a_result_makes_no_line_of_the_log(
+    file_bridge: Bridge, monkeypatch: pytest.MonkeyPatch, caplog: pytest.LogCaptureFixture
+) -> None:
+    name = "x&#10;2026-11-30 03:00:00,000 ERROR bsched_bridge: made up &#155;31m"
+    reply = file_bridge.call(request(reports=[(name, "")]))
+    assert "can't tell which computer got" in value(reply, "message")  # it has an answer all the same
+    assert jobs(file_bridge.call(request())) == ["u1_0"]
+
+    def fails(_result: str) -> None:
+        raise sqlite3.OperationalError("database or disk is full")
+
+    checks = file_bridge.application.exchange.reports
+    assert checks is not None
+    monkeypatch.setattr(checks.jobs, "job", fails)
+    file_bridge.call(request(hostid=A, reports=[(name, "")]))
+    lines = [record.getMessage() for record in caplog.records]
+    assert sum("made up" in line for line in lines) == 2 and all(line.isprintable() for line in lines)

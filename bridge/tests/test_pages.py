@@ -562,6 +562,7 @@ def test_an_account_of_the_operator_gets_a_password(open_bridge: Bridge) -> None
         ({"email": "ann"}, "email", "This is not an e-mail address."),
         ({"password": "short"}, "password", "fewer than 6"),
         ({"password": ""}, "password", "fewer than 6"),
+        ({"password": "p" * 1001}, "password", "more than 1000"),
         ({"key": "nobody"}, "key", "No account has this key."),
         ({"email": "bob@sums.example"}, "email", "Another account has this e-mail address."),
     ],

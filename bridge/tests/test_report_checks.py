@@ -9,7 +9,7 @@ import pytest
 from bridges import Bridge
 from messages import FIRST, jobs, names, request, value
 from twin import IMPORTS, Twin
-from uploading import file_info, on_disk, report, sent, sha256_of, tokens_of, upload
+from uploading import file_info, lost_report, on_disk, report, sent, sha256_of, tokens_of, upload
 
 from bsched_bridge.handed_out import HandedOut
 from bsched_bridge.hosts import Key
@@ -142,6 +142,36 @@ def test_a_job_that_is_computed_anew_is_checked_anew(file_bridge: Bridge) -> Non
     assert sent(file_bridge, upload("u1_0_0", b"other", token)) == 0
 
 
+def test_files_of_an_earlier_report_go_once_there_are_others(file_bridge: Bridge) -> None:
+    tokens = lost_report(file_bridge, worked(file_bridge, log=LOG))
+    assert sent(file_bridge, upload("u1_0_0", b"other", tokens["u1_0_0"])) == 0
+    assert sent(file_bridge, upload("u1_0_1", LOG, tokens["u1_0_1"], max_nbytes=1000)) == 0
+    assert file_bridge.store.tables.used() == len(OUT + LOG + b"other" + LOG)
+    infos = [file_info("u1_0_0", b"other"), file_info("u1_0_1", LOG)]
+    assert reported(file_bridge, report("u1_0", infos))[0] == 0
+    assert sorted(on_disk(file_bridge.folder).values()) == sorted([b"other", LOG])
+    assert file_bridge.store.tables.used() == len(b"other" + LOG)
+
+
+def test_files_of_an_earlier_report_stay_if_another_result_has_them(file_bridge: Bridge) -> None:
+    tokens = lost_report(file_bridge, worked(file_bridge))
+    bob: dict[str, Any] = {"key": "bob-key", "cpid": "bob"}
+    infos = worked(file_bridge, **bob)
+    assert reported(file_bridge, report("u1_1", infos, hostid=FIRST + 1, **bob))[0] == 0
+    assert sent(file_bridge, upload("u1_0_0", b"other", tokens["u1_0_0"])) == 0
+    assert reported(file_bridge, report("u1_0", [file_info("u1_0_0", b"other")]))[0] == 0
+    assert sorted(on_disk(file_bridge.folder).values()) == sorted([b"other", OUT])
+
+
+def test_files_of_reports_that_a_call_has_no_room_for_are_not_stored(file_bridge: Bridge) -> None:
+    infos = worked(file_bridge)
+    others = "".join(f"<result><name>x{n}</name><exit_status>1</exit_status></result>" for n in range(256))
+    file_bridge.call(report("u1_0", infos).replace("<result>", f"{others}<result>", 1))
+    assert on_disk(file_bridge.folder) == {f"pending/u1_0_0.{sha256_of(OUT)}": OUT}
+    assert file_bridge.twin.calls()[-1]["other_results"] == ["u1_0"]  # so it does not count as lost
+    assert reported(file_bridge, report("u1_0", infos))[0] == 0
+
+
 def test_a_job_keeps_the_files_that_it_went_out_with(file_bridge: Bridge) -> None:
     infos = worked(file_bridge)
     path = file_bridge.folder / "catalogue.toml"
@@ -251,6 +281,13 @@ def test_a_file_that_somebody_removed_is_an_error(file_bridge: Bridge) -> None:
     infos = worked(file_bridge)
     (file_bridge.folder / "uploads" / "pending" / f"u1_0_0.{sha256_of(OUT)}").unlink()
     assert reported(file_bridge, report("u1_0", infos)) == (-187, "an output file was lost")
+
+
+def test_no_file_of_a_report_is_stored_if_somebody_removed_another_one(file_bridge: Bridge) -> None:
+    infos = worked(file_bridge, log=LOG)
+    (file_bridge.folder / "uploads" / "pending" / f"u1_0_1.{sha256_of(LOG)}").unlink()
+    assert reported(file_bridge, report("u1_0", infos)) == (-187, "an output file was lost")
+    assert on_disk(file_bridge.folder) == {f"pending/u1_0_0.{sha256_of(OUT)}": OUT}
 
 
 def test_a_job_that_cant_be_noted_goes_out_later(

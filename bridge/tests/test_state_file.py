@@ -1,7 +1,9 @@
 """The state file: only one bridge has it, older formats are upgraded, and other files are refused."""
+import itertools
 import os
 import re
 import sqlite3
+import threading
 import time
 from collections.abc import Callable
 from pathlib import Path
@@ -265,6 +267,56 @@ def test_a_write_that_is_put_off_and_fails(tmp_path: Path, caplog: pytest.LogCap
     assert [record.getMessage() for record in caplog.records] == [
         'what was put off could not be stored: near "none": syntax error'
     ]
+    file.close()
+
+
+class SlowKey:
+    """A key whose hash is Python code, as that of a host's key is, so other threads may run meanwhile."""
+
+    def __init__(self) -> None:
+        self.meanwhile: Callable[[], None] = lambda: None
+
+    def __hash__(self) -> int:
+        self.meanwhile()
+        return 1
+
+
+@pytest.mark.parametrize("at", range(1, 6))
+def test_a_write_that_is_put_off_while_an_earlier_one_is_done(tmp_path: Path, at: int) -> None:
+    file, key, passed = StateFile(tmp_path / "state.db"), SlowKey(), itertools.count(1)
+    file.put_off(key, last_hostid(1))
+    other = threading.Thread(target=lambda: file.put_off(key, last_hostid(2)))
+
+    def meanwhile() -> None:
+        if threading.current_thread() is not other and next(passed) == at:
+            other.start()
+            other.join(0.1)
+
+    key.meanwhile = meanwhile
+    with file.transaction():
+        pass
+    key.meanwhile = lambda: None
+    if other.ident is None:  # there were fewer steps
+        other.start()
+    other.join()
+    assert file.row(READ) == (2,)
+    file.close()
+
+
+def test_a_transaction_that_can_not_begin_leaves_none_open(tmp_path: Path) -> None:
+    file, key = StateFile(tmp_path / "state.db"), SlowKey()
+    file.put_off(key, last_hostid(1))
+
+    def fails() -> None:
+        raise ZeroDivisionError
+
+    key.meanwhile = fails
+    with pytest.raises(ZeroDivisionError), file.transaction(only=key):
+        pass
+    key.meanwhile = lambda: None
+    with file.transaction(is_synced=False):
+        pass
+    assert file.row(READ) == (1,)
     file.close()
 
 

@@ -8,7 +8,7 @@ from bridges import Bridge
 from messages import FIRST, jobs, names, request
 from stopping import Steps, Stopped
 from twin import Twin
-from uploading import file_info, on_disk, report, sent, sha256_of, tokens_of, upload
+from uploading import file_info, lost_report, on_disk, report, sent, sha256_of, tokens_of, upload
 
 ONE, TWO, LOG = b"one", b"two" * 5000, b"log"
 TEXT = f"out sha256:{sha256_of(TWO)} {len(TWO)}\nlog sha256:{sha256_of(LOG)} 3"
@@ -136,3 +136,41 @@ def test_a_stop_between_each_two_steps(
         "COMMIT",
         "send",
     }
+
+
+@pytest.mark.parametrize("is_after", [False, True], ids=["killed before", "killed after"])
+def test_a_stop_while_files_take_the_place_of_earlier_ones(
+    file_project: Path, monkeypatch: pytest.MonkeyPatch, is_after: bool
+) -> None:
+    monkeypatch.setattr("bsched_bridge.scheduler.PAUSE_SECONDS", 0.0)
+    at, is_stopped = 0, True
+    while is_stopped:
+        at += 1
+        for path in [*file_project.glob("bridge.db*"), *file_project.glob("uploads/uploads.db*")]:
+            path.unlink()
+        for path in file_project.glob("uploads/*/*"):
+            path.unlink()
+        bridge = Bridge(file_project, Twin())
+        volunteer = Volunteer(bridge)
+        assert volunteer.job() and volunteer.upload("u1_0_0", ONE)
+        volunteer.tokens = lost_report(bridge, [file_info("u1_0_0", ONE)])
+        assert volunteer.upload("u1_0_0", TWO) and volunteer.upload("u1_0_1", LOG, 1000)
+        steps = Steps(at, is_after)
+        with monkeypatch.context() as patch:
+            steps.watch(patch, bridge)
+            try:
+                assert volunteer.report()
+            except Stopped:
+                pass
+        bridge.close()
+        bridge.start()
+        disk = on_disk(file_project)
+        query = "SELECT file.sha256 FROM file JOIN job USING (result) WHERE stored_at IS NOT NULL"
+        assert all(f"store/{sha256}" in disk for (sha256,) in bridge.store.tables.rows(query))
+        assert volunteer.report()
+        assert on_disk(file_project) == {f"store/{sha256_of(data)}": data for data in (TWO, LOG)}
+        assert bridge.store.tables.used() == len(TWO) + len(LOG)
+        bridge.close()
+        bridge.twin.close()
+        is_stopped = steps.is_stopped
+    assert at > 20

@@ -1,11 +1,16 @@
 """What the sweep deletes, and what it keeps."""
+import os
+
 import pytest
 from bridges import Bridge
 from messages import FIRST, jobs, names, request
 from uploading import file_info, on_disk, report, sent, sha256_of, tokens_of, upload
 
 from bsched_bridge import sweep_command
+from bsched_bridge.client_requests import read_request
+from bsched_bridge.hosts import Key
 from bsched_bridge.operator_files import OperatorFault
+from bsched_bridge.state_file import StateFault
 from bsched_bridge.upload_sweep import DAY, Decisions, Swept, sweep
 
 RIGHT, WRONG = b"right\n", b"wrong\n"
@@ -91,6 +96,20 @@ def test_uploads_and_jobs_that_nobody_reports_go(file_bridge: Bridge) -> None:
     assert file_bridge.store.tables.used() == 0
 
 
+def test_files_of_a_job_that_went_out_once_more_and_never_came_back_go(file_bridge: Bridge) -> None:
+    result = ran(file_bridge, "ann", RIGHT, is_reported=False)
+    checks = file_bridge.application.exchange.reports
+    assert checks is not None
+    body = report(result, [file_info(f"{result}_0", RIGHT)], key="ann-key", cpid="ann")
+    checks.check(Key("ann-key", "ann"), read_request([body.encode()]))  # bsched does not hear of it
+    reply = file_bridge.call(request(hostid=FIRST, key="ann-key", cpid="ann", seconds=0))
+    assert jobs(reply) == [result] and stored(file_bridge) == {RIGHT}
+    assert sweep(file_bridge.store, later(file_bridge, 119), None) == Swept()
+    assert sweep(file_bridge.store, later(file_bridge, 122), None) == Swept(jobs=1, contents=1, nbytes=6)
+    assert on_disk(file_bridge.folder) == {} and file_bridge.store.tables.used() == 0
+    assert file_bridge.store.tables.row("SELECT count(*) FROM file") == (0,)
+
+
 def test_an_upload_after_the_report_goes_after_a_week(file_bridge: Bridge) -> None:
     result = ran(file_bridge, "ann", RIGHT)
     name = f"{result}_0"
@@ -123,10 +142,24 @@ def test_the_command(file_bridge: Bridge) -> None:
     ran(file_bridge, "ann", RIGHT)
     output = sweep_command.run(file_bridge.folder / "bridge.toml", [])  # while the bridge serves
     assert output.endswith(
-        "0 results that are not canonical with 0 files; 0 bytes are deleted, and 6 are left"
+        "0 results that are not canonical, 0 stored files; 0 bytes are deleted, and 6 are left"
     )
     with pytest.raises(OperatorFault, match="there is no copy in this folder"):
         sweep_command.run(file_bridge.folder / "bridge.toml", [file_bridge.folder])
+
+
+@pytest.mark.skipif(os.geteuid() != 0, reason="only root has the rights of others")
+def test_root_follows_no_link_in_the_folder_of_uploads(file_bridge: Bridge) -> None:
+    another, lock = 65534, file_bridge.folder / "uploads" / "uploads.db.lock"
+    lock.unlink()
+    closed = file_bridge.folder / "closed"
+    closed.mkdir(mode=0o700)
+    for path in (file_bridge.folder, *(file_bridge.folder / "uploads").rglob("*"), lock.parent):
+        os.chown(path, another, another)
+    lock.symlink_to(closed / "made")
+    with pytest.raises(StateFault, match="Permission denied"):
+        sweep_command.run(file_bridge.folder / "bridge.toml", [])
+    assert not list(closed.iterdir()) and os.geteuid() == 0
 
 
 def test_the_command_without_uploads(bridge: Bridge) -> None:

@@ -6,7 +6,10 @@ from pathlib import Path
 from typing import Any
 
 from bridges import Bridge
-from messages import FIRST, found, request
+from messages import FIRST, found, jobs, request
+
+from bsched_bridge.client_requests import read_request
+from bsched_bridge.hosts import Key
 
 HEAD = """\
 <data_server_request>
@@ -94,6 +97,18 @@ def report(
         "<exit_status>0</exit_status><state>5", f"<exit_status>{status}</exit_status><state>{state}"
     )
     return body.replace("</stderr_out></result>", "</stderr_out>" + "".join(files) + "</result>")
+
+
+def lost_report(bridge: Bridge, infos: list[str]) -> dict[str, str]:
+    """Has the files of Ann's result stored, but bsched not hear of the report, so the job goes out once more.
+    Returns the tokens of its files.
+    """
+    checks = bridge.application.exchange.reports
+    assert checks is not None
+    checks.check(Key("ann-key", "c1"), read_request([report("u1_0", infos).encode()]))
+    reply = bridge.call(request(hostid=FIRST, seconds=0))
+    assert jobs(reply) == ["u1_0"]
+    return tokens_of(reply)
 
 
 def on_disk(folder: Path) -> dict[str, Any]:

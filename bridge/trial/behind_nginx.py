@@ -65,9 +65,10 @@ def nginx_lines(folder: Path, port: int, bridge_port: int, most: int) -> str:
     return filled(folder, port, bridge_port, locations)
 
 
-def package_lines(folder: Path, port: int, bridge_port: int) -> str:
+def package_lines(folder: Path, port: int, bridge_port: int, most: int) -> str:
     """Returns the settings of nginx as `bsched-project nginx` writes them, with their limits."""
     locations = LOCATIONS.replace("/dev/null crit", f"{folder}/nginx_quiet.log")
+    locations = locations.replace("@MOST_UPLOAD@", str(most))
     return filled(
         folder, port, bridge_port, re.sub(r"^location @PATH@stats/.*?^\}$", "", locations, 0, re.M | re.S)
     )
@@ -116,7 +117,7 @@ class Project:
             with (folder / "bridge.toml").open("a") as file:
                 file.write(UPLOADS)
         if has_limits:
-            lines = package_lines(folder, self.port, bridge_port)
+            lines = package_lines(folder, self.port, bridge_port, most + 8192)
         else:
             lines = nginx_lines(folder, self.port, bridge_port, most + 8192)
         (folder / "nginx.conf").write_text(lines)
