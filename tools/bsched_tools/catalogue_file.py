@@ -14,7 +14,7 @@ from typing import Any
 import tomlkit
 
 from .faults import Fault
-from .files import sync
+from .files import new_file, sync
 from .projects import Project, toml_of
 from .volunteers import command_of_bridge
 
@@ -154,7 +154,7 @@ def entry_text(members: dict[str, Any]) -> str:
 def write_file(project: Project, path: Path, data: bytes) -> None:
     """Writes a file that the bridge may read, whole or not at all. It is on the disk then."""
     new = path.with_name(f".{path.name}.part")
-    with open(os.open(new, os.O_WRONLY | os.O_CREAT | os.O_TRUNC | os.O_NOFOLLOW, 0o640), "wb") as file:
+    with new_file(new, 0o640) as file:
         give_to_group(project, file.fileno())
         file.write(data)
         file.flush()

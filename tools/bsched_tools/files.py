@@ -2,7 +2,9 @@
 import gzip
 import os
 from collections.abc import Iterable
+from contextlib import suppress
 from pathlib import Path
+from typing import BinaryIO
 
 from .faults import Fault
 
@@ -16,12 +18,19 @@ def sync(path: Path) -> None:
         os.close(descriptor)
 
 
+def new_file(path: Path, mode: int) -> BinaryIO:
+    """Opens a new file. What has its name is removed first: the file of a run that was killed, or a link of
+    somebody who may write into the folder."""
+    path.unlink(missing_ok=True)
+    return open(os.open(path, os.O_WRONLY | os.O_CREAT | os.O_EXCL, mode), "wb")
+
+
 def replace_file(path: Path, parts: Iterable[bytes], packed_at: int | None = None, mode: int = 0o644) -> None:
     """Writes a file and puts it in its place, by one rename. If packed_at is given, it is compressed, with
     that moment in it."""
     new = path.with_name(f".{path.name}.new")
     try:
-        with open(os.open(new, os.O_WRONLY | os.O_CREAT | os.O_TRUNC, mode), "wb") as file:
+        with new_file(new, mode) as file:
             if packed_at is None:
                 file.writelines(parts)
             else:
@@ -31,9 +40,12 @@ def replace_file(path: Path, parts: Iterable[bytes], packed_at: int | None = Non
             os.fsync(file.fileno())
         os.replace(new, path)
         sync(path.parent)
-    except OSError as error:
-        new.unlink(missing_ok=True)
-        raise Fault(f"{path}: {error.strerror}") from None
+    except BaseException as error:
+        with suppress(OSError):
+            new.unlink()
+        if isinstance(error, OSError):
+            raise Fault(f"{path}: {error.strerror}") from None
+        raise
 
 
 def append_line(path: Path, line: bytes) -> None:

@@ -23,10 +23,11 @@ from .catalogue_file import (
     CatalogueFile,
     give_to_group,
     made_for_group,
+    write_file,
 )
 from .counts import MOST
 from .faults import Fault
-from .files import replace_file
+from .files import new_file
 from .import_files import KINDS, ImportFile, Row
 from .imports import Batch, Sender, batches_of, refusal_text
 from .inputs import Input, digest_of
@@ -258,10 +259,9 @@ def stage(project: Project, one: Input, place: Path) -> None:
         except OSError:
             pass
     new = place.with_name(f".{place.name}.part")
-    flags = os.O_WRONLY | os.O_CREAT | os.O_TRUNC | os.O_NOFOLLOW
     try:
         data = f"{one.shown}\n".encode() if one.path is None else one.path.read_bytes()
-        with open(os.open(new, flags, 0o640), "wb") as file:
+        with new_file(new, 0o640) as file:
             give_to_group(project, file.fileno())
             file.write(data)
         os.rename(new, place)
@@ -284,12 +284,10 @@ def write_record(project: Project, plan: Plan) -> None:
     if path.exists():
         return
     folder = made_for_group(project, path.parent)
-    replace_file(folder / path.name, [json.dumps(plan.record).encode()], mode=0o640)
-    descriptor = os.open(path, os.O_RDONLY | os.O_NOFOLLOW)
     try:
-        give_to_group(project, descriptor)
-    finally:
-        os.close(descriptor)
+        write_file(project, folder / path.name, json.dumps(plan.record).encode())
+    except OSError as error:
+        raise Fault(f"{path}: {error.strerror}") from None
 
 
 def stage_all(project: Project, plan: Plan, left: list[tuple[Input, Path]]) -> None:

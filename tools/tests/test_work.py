@@ -356,6 +356,27 @@ def test_amounts_that_are_none(work: WorkProject, option: str, value: str) -> No
     assert (status, output) == (64, "") and f"argument {option}: {value!r} is no" in fault
 
 
+def test_links_that_a_member_of_the_group_made(work: WorkProject, tmp_path: Path) -> None:
+    """`submit`, which root may run, overwrites no file by a link, and gives none to the group."""
+    work.make_inputs(2)
+    (work.inputs / "part_00001.txt").chmod(0o600)  # so it is copied
+    victim, other = tmp_path / "victim", tmp_path / "other"
+    for path in (victim, other):
+        path.write_text("precious")
+        path.chmod(0o600)
+    (work.folder / "submitted").mkdir(exist_ok=True)
+    for folder, name in ((work.folder / "submitted", "run.json"), (work.files, "run_part_00001.txt.in")):
+        for ending in ("new", "part"):
+            (folder / f".{name}.{ending}").symlink_to(victim)
+    os.link(other, work.folder / "submitted" / ".other.json.part")
+    for batch in ("run", "other"):
+        assert work.submit(work.inputs, batch=batch)[0] == 0
+    for path in (victim, other):
+        assert path.read_text() == "precious" and path.stat().st_mode & 0o777 == 0o600
+    record = work.folder / "submitted" / "run.json"
+    assert record.stat().st_mode & 0o777 == 0o640 and not record.is_symlink()
+
+
 def test_a_batch_name_that_was_used(work: WorkProject) -> None:
     work.make_inputs(3)
     assert work.submit(work.inputs)[0] == 0
