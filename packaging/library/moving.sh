@@ -36,6 +36,28 @@ paths_outside() {
   grep -HnE '^[^#]*"/' "$1"/bridge/*.toml "$1"/units.toml 2> /dev/null | grep -vF "\"$1/" | sed "s|^$1/|  |"
 }
 
+# Copies the tables of uploads of a bridge that may serve. They come before the files, so that each row has its file.
+copy_upload_tables() {
+  local path
+  find "$1" -name uploads.db -type f -printf '%P\n' | while IFS= read -r path; do
+    mkdir -p "$2/${path%/*}" && python3 -c '
+import sqlite3, sys
+with sqlite3.connect(sys.argv[2]) as copy:
+    sqlite3.connect(sys.argv[1]).backup(copy)' "$1/$path" "$2/$path" || return 1
+  done
+}
+
+# Copies the files of a project, without those that a running program writes and the tools copy.
+copy_files() {
+  local statuses most=1
+  tar -C "$1" --exclude=./project.db* --exclude=./before-* --exclude=./bridge/bridge.db* \
+    --exclude=uploads.db{,-wal,-shm,.lock} -cf - . | tar -C "$2" -xf -
+  statuses=("${PIPESTATUS[@]}")
+  # 1 says that a file changed or vanished meanwhile. In a project that runs uploads do so
+  [ -z "$3" ] || most=0
+  [ "${statuses[0]}" -le "$most" ] && [ "${statuses[1]}" -eq 0 ]
+}
+
 # Writes a project into one file. With --stop its units are stopped before, and stay so.
 export_project() {
   local project=$1 target=$2 is_stopped=$3 folder=$PROJECTS/$1 outside
@@ -48,9 +70,8 @@ export_project() {
   [ -z "$is_stopped" ] || stop_units "$project"
   bsched-tools copy --tables "$folder/project.db" --to "$made/$project/project.db" > /dev/null ||
     fail "the tables can't be copied"
-  # what a running program writes is copied by the tools alone
-  tar -C "$folder" --exclude=./project.db* --exclude=./before-* --exclude=./bridge/bridge.db* -cf - . |
-    tar -C "$made/$project" -xf - || fail "the files can't be copied"
+  copy_upload_tables "$folder" "$made/$project" || fail "the tables of uploads can't be copied"
+  copy_files "$folder" "$made/$project" "$is_stopped" || fail "the files can't be copied"
   if [ -e "$folder/bridge/bridge.db" ]; then
     bsched-bridge copy --config "$folder/bridge/bridge.toml" --to "$made/$project/bridge/bridge.db" > /dev/null ||
       fail "the state of the bridge can't be copied"
@@ -78,15 +99,20 @@ print_exported() {
   [ -z "$4" ] || printf '\n%s\n%s\n' "Not in the file are what these lines name outside of its folder, and nginx's files:" "$4"
 }
 
-# Gives the files of a project to those who have them in a new one.
+# Gives the files of a project to those who have them in a new one. A link stays as it is, since it may lead anywhere.
 hand_over_project() {
   local folder=$1 path
-  hand_over "$folder" && chown "$USER_NAME:" "$folder" || return 1
+  [ ! -L "$folder/bridge" ] && hand_over "$folder" || return 1
   for path in project.db units bridge/uploads bridge/bridge.db bridge/uploads.db; do
-    [ ! -e "$folder/$path" ] || { chown -R "$USER_NAME:" "$folder/$path" && chmod -R u=rwX,go= "$folder/$path"; } || return 1
+    if [ -e "$folder/$path" ] && [ ! -L "$folder/$path" ]; then
+      chown -R "$USER_NAME:" "$folder/$path" && chmod -R u=rwX,go= "$folder/$path" || return 1
+    fi
   done
+  path=$folder/bridge/code_sign_private
+  [ -L "$path" ] || [ ! -e "$path" ] || chmod 600 "$path" || return 1
+  # the folders come last: their owner can change what is in them
   [ ! -d "$folder/bridge" ] || chown "$USER_NAME:" "$folder/bridge" || return 1
-  [ ! -e "$folder/bridge/code_sign_private" ] || chmod 600 "$folder/bridge/code_sign_private"
+  chown "$USER_NAME:" "$folder"
 }
 
 # Gives a project other ports if its own are taken here.
@@ -120,7 +146,8 @@ import_project() {
   hand_over_project "$made" || fail "the files can't be given to $USER_NAME"
   bsched-tools doctor --tables "$made/project.db" --settings "$made/settings.toml" ||
     fail "the tables in $source are not good"
-  units=$(cat "$made/enabled-units" 2> /dev/null)
+  # the user bsched may have written other names into this file
+  units=$(units_of "$project" | grep -xF -f "$made/enabled-units" 2> /dev/null)
   rm -f "$made/enabled-units"
   mv -T "$made" "$PROJECTS/$project" || fail "$PROJECTS/$project can't be made"
   made=
@@ -141,5 +168,5 @@ start_units() {
   else
     echo "Start its units: systemctl enable --now $units"
   fi
-  [ ! -d "$PROJECTS/$project/nginx" ] || echo "For nginx: bsched-project nginx $project"
+  [ ! -d "$PROJECTS/$project/bridge" ] || echo "For nginx: bsched-project nginx $project"
 }

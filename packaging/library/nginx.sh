@@ -1,17 +1,36 @@
 # The files for nginx of a project. bsched-project reads this file.
 # shellcheck shell=bash
 
+DEFAULT_RESULT_BYTES=1000000000 # most_result_bytes of a bridge.toml without this key
+MOST_HEAD=8192                  # bytes of an upload before those of its file
+NO_UPLOADS=16777216             # bytes of an upload if the bridge takes none
+
 # Prints the value of a key of the settings of a project's bridge.
 bridge_value() {
   sed -nE "s/^$2[[:space:]]*=[[:space:]]*\"([^\"]*)\".*/\1/p" "$PROJECTS/$1/bridge/bridge.toml"
 }
 
+# Prints how many bytes an upload may have. The bridge takes no larger one, for any catalogue.
+most_upload() {
+  local settings=$PROJECTS/$1/bridge/bridge.toml nbytes
+  grep -q '^[[:space:]]*\[[[:space:]]*uploads[[:space:]]*\]' "$settings" || { echo "$NO_UPLOADS" && return; }
+  nbytes=$(sed -nE 's/^[[:space:]]*most_result_bytes[[:space:]]*=[[:space:]]*([^[:space:]#]*).*/\1/p' "$settings")
+  nbytes=${nbytes:-$DEFAULT_RESULT_BYTES}
+  [[ $nbytes =~ ^[1-9][0-9_]*$ ]] && echo $((${nbytes//_/} + MOST_HEAD))
+}
+
+# Prints a location that nginx answers by itself. A URL may have a key, so nothing is logged.
+answered_location() {
+  printf '    %s\n' "location $1 {" "    return $2;" "    access_log off;" "    error_log /dev/null crit;" "}"
+}
+
 # Prints the lines that lead from the name of the server to the project, unless the project is there already.
 redirects() {
-  [ "$2" = / ] || printf '%s\n' '' "    # the name alone leads to the project" \
-    "    location = / {" "        return 301 $1;" "    }" \
-    "    location = /get_project_config.php {" "        return 301 ${1}get_project_config.php;" "    }" \
-    "    location / {" "        return 404;" "    }"
+  [ "$2" != / ] || return 0
+  printf '%s\n' '' "    # the name alone leads to the project, and nothing is logged: a URL may have a key"
+  answered_location "= /" "301 $1"
+  answered_location "= /get_project_config.php" "301 ${1}get_project_config.php"
+  answered_location "/" 404
 }
 
 # Prints a template of nginx for a project.
@@ -29,13 +48,15 @@ filled() {
     line=${line//@HOST@/$host}
     line=${line//@PATH@/$path}
     line=${line//@TLS_PORT@/$port}
+    line=${line//@MOST_UPLOAD@/$5}
     printf '%s\n' "${line//@BRIDGE_PORT@/$4}"
   done < "$template"
 }
 
-# Writes the files for nginx into the folder of a project.
+# Writes the files for nginx of a project. They are not in its own folder: that is the user bsched's, who could put
+# other lines or a link there before root installs them.
 write_nginx() {
-  local project=$1 url listen file
+  local project=$1 folder=$PROJECTS-nginx/$1 url listen most file
   [ -e "$PROJECTS/$project/bridge/bridge.toml" ] || fail "there is no bridge in $PROJECTS/$project"
   [ -d "$TEMPLATES/nginx" ] || fail "the bridge is not installed: apt install bsched-tools"
   url=$(bridge_value "$project" url)
@@ -43,10 +64,11 @@ write_nginx() {
   [[ $url = https://* ]] || fail "the url in $PROJECTS/$project/bridge/bridge.toml is $url: these files are for https"
   listen=$(sed -n 's/^BRIDGE_PORT=//p' "$PROJECTS/$project/environment")
   [[ $listen =~ ^[0-9]+$ ]] || fail "$PROJECTS/$project/environment has no valid BRIDGE_PORT"
-  mkdir -p "$PROJECTS/$project/nginx" || fail "$PROJECTS/$project/nginx can't be made"
+  most=$(most_upload "$project") || fail "$PROJECTS/$project/bridge/bridge.toml has no valid most_result_bytes"
+  mkdir -p "$folder" || fail "$folder can't be made"
   for file in limits locations site; do
-    filled "$TEMPLATES/nginx/$file.conf" "$project" "$url" "$listen" > "$PROJECTS/$project/nginx/$file.conf" ||
-      fail "$PROJECTS/$project/nginx/$file.conf can't be written"
+    filled "$TEMPLATES/nginx/$file.conf" "$project" "$url" "$listen" "$most" > "$folder/$file.conf" ||
+      fail "$folder/$file.conf can't be written"
   done
   print_nginx "$project" "$url"
 }
@@ -54,10 +76,10 @@ write_nginx() {
 print_nginx() {
   local host=${2#*://}
   cat << END
-$PROJECTS/$1/nginx has the lines for nginx. With the certificate of ${host%%/*} in
+$PROJECTS-nginx/$1 has the lines for nginx. With the certificate of ${host%%/*} in
 /etc/letsencrypt/live/${host%%[:/]*}, put them in their places:
 
-  cd $PROJECTS/$1/nginx
+  cd $PROJECTS-nginx/$1
   install -m 644 limits.conf /etc/nginx/conf.d/bsched-limits.conf
   install -m 644 locations.conf /etc/nginx/snippets/bsched-$1.conf
   install -m 644 site.conf /etc/nginx/conf.d/bsched-$1.conf

@@ -3,9 +3,11 @@ The twin stands for bsched."""
 import os
 import re
 import shutil
+import sqlite3
 import subprocess
 import sys
 import tarfile
+from contextlib import closing
 from pathlib import Path
 
 import pytest
@@ -91,6 +93,81 @@ def test_an_export_that_stops_the_project(machines: tuple[Machine, Machine], tmp
     asked = (first.folder / "systemctl").read_text().splitlines()
     stopped = [line for line in asked if line.startswith("disable")]
     assert stopped == ["disable --now bsched-tick@sums.timer", "disable --now bsched@sums"]
+
+
+# tar ends with 1 if a file changed or vanished, and with 2 if it can't read one
+@pytest.mark.parametrize(
+    "status, options, is_good",
+    [(1, [], True), (1, ["--stop"], False), (2, [], False), (2, ["--stop"], False)],
+)
+def test_files_that_are_not_copied_whole(
+    machines: tuple[Machine, Machine], tmp_path: Path, status: int, options: list[str], is_good: bool
+) -> None:
+    first, _ = machines
+    file = tmp_path / "x.tar.gz"
+    stub = f'tar() {{ command tar "$@" || return; [[ "$*" != *" -cf - ."* ]] || return {status}; }}\n'
+    completed = first.make("export", *options, "sums", str(file), stubs=MORE_STUBS + stub)
+    assert (completed.returncode == 0) == file.exists() == is_good
+    assert is_good or "the files can't be copied" in completed.stderr
+    assert not list(tmp_path.glob(".bsched-export-*"))
+
+
+def test_a_file_that_cannot_be_read(machines: tuple[Machine, Machine], tmp_path: Path) -> None:
+    first, _ = machines
+    (first.projects / "sums" / "bridge" / "files" / "sum_1").chmod(0)
+    # without these capabilities root reads only what the modes allow
+    limit = "command setpriv --bounding-set=-dac_override,-dac_read_search" if os.getuid() == 0 else "command"
+    stub = f'tar() {{ {limit} tar "$@"; }}\n'
+    completed = first.make("export", "sums", str(tmp_path / "x.tar.gz"), stubs=MORE_STUBS + stub)
+    assert completed.returncode == 1 and "sum_1" in completed.stderr
+    assert not (tmp_path / "x.tar.gz").exists()
+
+
+def test_the_tables_of_uploads_while_the_bridge_serves(
+    machines: tuple[Machine, Machine], tmp_path: Path
+) -> None:
+    """A row that is in the log alone moves, too, and the log itself does not."""
+    first, second = machines
+    uploads = first.projects / "sums" / "bridge" / "uploads"
+    uploads.mkdir()
+    (uploads / "secret").write_bytes(b"s" * 32)
+    with closing(sqlite3.connect(uploads / "uploads.db", isolation_level=None)) as tables:
+        tables.execute("PRAGMA journal_mode = WAL")
+        tables.execute("CREATE TABLE upload (name TEXT)")
+        tables.execute("INSERT INTO upload VALUES ('a')")
+        assert run(first, "export", "sums", str(tmp_path / "x.tar.gz")).returncode == 0
+    completed = run(second, "import", str(tmp_path / "x.tar.gz"))
+    assert (completed.returncode, completed.stderr) == (0, "")
+    moved = second.projects / "sums" / "bridge" / "uploads"
+    assert sorted(os.listdir(moved)) == ["secret", "uploads.db"]
+    with closing(sqlite3.connect(moved / "uploads.db")) as tables:
+        assert tables.execute("SELECT name FROM upload").fetchall() == [("a",)]
+
+
+def test_what_the_user_of_the_units_put_there(machines: tuple[Machine, Machine], tmp_path: Path) -> None:
+    """An import, which root runs, follows no link, and enables only units of the project."""
+    first, second = machines
+    folder, outside = first.projects / "sums", tmp_path / "outside"
+    outside.mkdir(mode=0o755)
+    (outside / "file").write_text("precious")
+    (folder / "units").symlink_to(outside)
+    (folder / "enabled-units").write_text(f"bsched@sums\n{folder}/own.service\nbsched@others\n")
+    assert run(first, "export", "sums", str(tmp_path / "x.tar.gz")).returncode == 0
+    completed = run(second, "import", str(tmp_path / "x.tar.gz"))
+    assert completed.returncode == 0 and "own.service" not in completed.stdout
+    assert "bsched@sums" in completed.stdout and "bsched@others" not in completed.stdout
+    assert outside.stat().st_mode & 0o777 == 0o755 and (outside / "file").stat().st_mode & 0o044
+
+
+def test_a_bridge_elsewhere_is_not_imported(machines: tuple[Machine, Machine], tmp_path: Path) -> None:
+    first, second = machines
+    bridge = first.projects / "sums" / "bridge"
+    bridge.rename(tmp_path / "bridge")
+    bridge.symlink_to(tmp_path / "bridge")
+    (tmp_path / "bridge" / "bridge.db").unlink()
+    assert run(first, "export", "sums", str(tmp_path / "x.tar.gz")).returncode == 0
+    assert "can't be given to" in run(second, "import", str(tmp_path / "x.tar.gz")).stderr
+    assert list(second.projects.iterdir()) == []
 
 
 def test_ports_that_are_taken(machines: tuple[Machine, Machine], tmp_path: Path) -> None:

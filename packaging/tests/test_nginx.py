@@ -32,7 +32,7 @@ def written(machine: Machine, name: str, url: str) -> Path:
     assert machine.make("--url", url, name).returncode == 0
     completed = machine.make("nginx", name)
     assert (completed.returncode, completed.stderr) == (0, "")
-    return machine.projects / name / "nginx"
+    return machine.folder / "projects-nginx" / name
 
 
 @pytest.mark.parametrize("url, port", [(URL, 443), ("https://sums.example:8443/", 8443)])
@@ -56,6 +56,17 @@ def test_what_has_no_files(machine: Machine) -> None:
     assert machine.make("nginx", "../sums").returncode == 64
     (machine.projects / "sums" / "bridge" / "bridge.toml").write_text("name = 1\n")
     assert "has no url" in machine.make("nginx", "sums").stderr
+
+
+def test_the_files_are_not_in_the_folder_of_the_bridges_user(machine: Machine, tmp_path: Path) -> None:
+    """That user could put a link there, and root would follow it."""
+    assert machine.make("--url", URL, "sums").returncode == 0
+    victim = tmp_path / "victim"
+    victim.mkdir()
+    (machine.projects / "sums" / "nginx").symlink_to(victim)
+    completed = machine.make("nginx", "sums")
+    assert completed.returncode == 0 and list(victim.iterdir()) == []
+    assert f"  cd {machine.projects}-nginx/sums\n" in completed.stdout
 
 
 # ---- With nginx
@@ -108,7 +119,7 @@ def served(folder: Path, files: list[Path], ports: dict[int, int]) -> Iterator[N
         text = text.replace("/var/lib/nginx", str(folder))
         for old, new in ports.items():
             text = re.sub(rf"(listen |127\.0\.0\.1:){old}\b", rf"\g<1>{new}", text)
-        project = path.parent.parent.name
+        project = path.parent.name
         place = {"limits.conf": "conf.d/limits.conf", "site.conf": f"conf.d/{number}.conf"}.get(path.name)
         (folder / (place or f"snippets/bsched-{project}.conf")).write_text(text)
     main = f"daemon off; user root; pid {folder}/pid; error_log {folder}/log/error; events {{}}\n"
@@ -116,7 +127,7 @@ def served(folder: Path, files: list[Path], ports: dict[int, int]) -> Iterator[N
         f"{kind}_temp_path {folder}/log/{kind};\n"
         for kind in ("client_body", "proxy", "fastcgi", "uwsgi", "scgi")
     )
-    main += f"http {{\naccess_log off;\n{temporary}include conf.d/*.conf;\n}}\n"
+    main += f"http {{\naccess_log {folder}/log/access;\n{temporary}include conf.d/*.conf;\n}}\n"
     (folder / "nginx.conf").write_text(main)
     process = subprocess.Popen([NGINX or "", "-p", str(folder), "-c", str(folder / "nginx.conf")])
     try:
@@ -172,6 +183,48 @@ def test_two_projects_by_nginx(machine: Machine, tmp_path: Path) -> None:
             for path in ("board", "metrics", "%62oard", "../operator/board"):  # the operator's, for nobody
                 assert asked(tls, "sums.example", f"/project/operator/{path}")[0] == 404
                 assert asked(tls, "others.example", f"/operator/{path}")[0] == 404
+
+
+# what a log must not have
+ADDRESS, HASH, KEY = "olga@sums.example", "0123456789abcdef0123456789abcdef", "olgas-key"
+QUERY = f"email_addr={ADDRESS}&passwd_hash={HASH}&account_key={KEY}"
+NAMES = ["create_account", "lookup_account", "account_finish", "get_passwd", "delete_account", "am_get_info"]
+SCRIPTS = [f"{name}.php" for name in NAMES]
+INSIDE = ["", "account", "download/sum_1", "file_upload_handler", "operator/board", "stats/user.gz"]
+
+
+@pytest.mark.skipif(NGINX is None, reason="nginx is not installed")
+def test_no_log_has_an_address_a_hash_or_a_key(machine: Machine, tmp_path: Path) -> None:
+    """No bridge runs, so that nginx has errors to log, too."""
+    sums, others = written(machine, "sums", URL), written(machine, "others", "https://others.example/")
+    folder, port, tls_port, nowhere = tmp_path / "nginx", free_port(), free_port(), free_port()
+    folder.mkdir()
+    files = [sums / "limits.conf", sums / "locations.conf", sums / "site.conf"]
+    files += [others / "locations.conf", others / "site.conf"]
+    scripts = [f"project/{name}" for name in SCRIPTS]
+    outside = ["", "get_project_config.php", "other", *SCRIPTS]
+    with served(folder, files, {80: port, 443: tls_port, 8081: nowhere, 8083: nowhere}):
+        plain = http.client.HTTPConnection("127.0.0.1", port, timeout=30)
+        for path in [*outside, ".well-known/acme-challenge/other", *scripts]:
+            asked(plain, "sums.example", f"/{path}?{QUERY}")
+            asked(plain, "others.example", f"/{path}?{QUERY}")
+        asked(plain, "a b", f"/project/create_account.php?{QUERY}")  # no name of a host: status 400
+        context = ssl.create_default_context()
+        context.check_hostname, context.verify_mode = False, ssl.CERT_NONE
+        tls = http.client.HTTPSConnection("127.0.0.1", tls_port, context=context, timeout=30)
+        for path in [*outside, *scripts]:
+            asked(tls, "sums.example", f"/{path}?{QUERY}")
+        for path in SCRIPTS:
+            asked(tls, "others.example", f"/{path}?{QUERY}")
+        secrets = {"Cookie": f"key={KEY}", "Authorization": f"Basic {HASH}"}
+        for path in INSIDE:
+            tls.request("POST", f"/project/{path}", QUERY, {"Host": "sums.example", **secrets})
+            tls.getresponse().read()
+            tls.close()
+    access, errors = (folder / "log" / "access").read_text(), (folder / "log" / "error").read_text()
+    assert '"POST /project/account HTTP/1.1" 502' in access and "POST /project/account HTTP/1.1" in errors
+    for secret in (ADDRESS, HASH, KEY):
+        assert secret not in access and secret not in errors
 
 
 def with_board(locations: Path, passwords: Path) -> None:

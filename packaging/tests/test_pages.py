@@ -1,5 +1,6 @@
 """Tests packaging/pages: what it does with links, and the whole site if its generator is installed."""
 import importlib.util
+import re
 import subprocess
 from importlib.machinery import SourceFileLoader
 from pathlib import Path
@@ -67,6 +68,16 @@ def test_styles_that_a_server_would_have(pages: ModuleType, tmp_path: Path) -> N
     assert list(pages.faults_of(tmp_path)) == ["x.css: /y.css is fetched from elsewhere, or is not there"]
 
 
+def files_of_the_copyright() -> set[str]:
+    """Returns the files of the site that debian/copyright names."""
+    text = (TOP / "debian" / "copyright").read_text()
+    names = [
+        name for field in re.findall(r"^Files: (.+(?:\n .+)*)", text, re.MULTILINE) for name in field.split()
+    ]
+    folder = "usr/share/doc/bsched/html/"
+    return {name.removeprefix(folder) for name in names if name.startswith(folder)}
+
+
 def test_the_site(tmp_path: Path) -> None:
     pytest.importorskip("furo")
     pytest.importorskip("myst_parser")
@@ -74,6 +85,8 @@ def test_the_site(tmp_path: Path) -> None:
     completed = subprocess.run(command, capture_output=True, text=True, timeout=300)
     assert (completed.returncode, completed.stderr) == (0, "")
     assert "Restore a copy" in (tmp_path / "site" / "docs" / "WHEN_WRONG.html").read_text()
+    static = [path for path in (tmp_path / "site" / "_static").rglob("*.*") if path.parent.name != "licences"]
+    assert {str(path.relative_to(tmp_path / "site")) for path in static} == files_of_the_copyright()
     (tmp_path / "other").mkdir()
     refused = subprocess.run(
         [*command[:2], str(tmp_path / "other")], capture_output=True, text=True, timeout=60

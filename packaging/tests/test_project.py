@@ -274,7 +274,11 @@ def test_a_real_project_has_no_accounts(machine: Machine) -> None:
         "plots": "../units/plots",
         "health": "../units/findings.json",
         "accounts": {"most_a_day": 100, "address_field": "X-Real-IP"},
-        "uploads": {"folder": "uploads", "most_bytes": 50_000_000_000},
+        "uploads": {
+            "folder": "uploads",
+            "most_bytes": 50_000_000_000,
+            "most_result_bytes": 100_000_000,
+        },
     }
 
 
@@ -299,6 +303,16 @@ def test_questions_on_a_terminal(machine: Machine) -> None:
 def test_no_question_if_the_options_say_all(machine: Machine) -> None:
     args = ("--job-time", "1d", "--processors", "8", "--url", "http://sums.example/p/", "sums")
     assert machine.answered("", *args)[0] == 0
+
+
+def test_the_example_asks_nothing(machine: Machine) -> None:
+    end = "\x04"  # of the terminal: a question would fail
+    status, shown = machine.answered(end, "--example", "trial")
+    assert status == 0 and "?" not in shown and "trial is made; its scheduler" in shown
+    bridge = tomllib.loads((machine.projects / "trial" / "bridge" / "bridge.toml").read_text())
+    assert bridge["url"] == f"http://{bridge['listen']}/"
+    status, shown = machine.answered(end, "--example", "trial")
+    assert status == 1 and "exists already" in shown
 
 
 def test_the_fault_in_a_file_of_settings_is_named(machine: Machine) -> None:

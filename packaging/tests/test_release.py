@@ -1,6 +1,7 @@
 """Tests that a release agrees with itself: versions, man pages, command lines, program and sources."""
 import os
 import re
+import shutil
 import subprocess
 import sys
 import tomllib
@@ -29,6 +30,13 @@ def test_each_place_has_the_version() -> None:
     assert re.fullmatch(r"\d+\.\d+\.\d+", VERSION)
     assert (TOP / "debian" / "changelog").read_text().startswith(f"bsched ({VERSION}) ")
     assert f"\n## [{VERSION}] - " in (TOP / "CHANGELOG.md").read_text()
+
+
+def test_the_copyright_has_the_text_of_each_licence() -> None:
+    paragraphs = (TOP / "debian" / "copyright").read_text().split("\n\n")
+    texts = [re.match(r"License: (.+)\n .", paragraph) for paragraph in paragraphs]
+    fields = re.findall(r"^License: (.+)$", "\n".join(paragraphs), re.MULTILINE)
+    assert {name for field in fields for name in field.split(" and ")} == {text[1] for text in texts if text}
 
 
 def test_the_man_page_has_each_command_of_the_profile() -> None:
@@ -293,6 +301,34 @@ def test_no_program_if_the_proof_fails(clone: Clone) -> None:
     (clone.tools / "rt").write_text("#!/bin/sh\nexit 1\n")
     assert clone.run("packaging/program").returncode == 1
     assert "nothing says from which sources" in clone.build()
+
+
+@pytest.mark.skipif(shutil.which("make") is None, reason="make is not installed")
+def test_no_package_whose_commit_is_unknown(clone: Clone) -> None:
+    clone.write("debian/rules", (TOP / "debian" / "rules").read_text())
+    noted = clone.folder / "debian" / "PROGRAM"
+
+    def note(*environment: str) -> str:
+        """Writes the file PROGRAM, and returns its first line, or the error."""
+        noted.unlink(missing_ok=True)
+        completed = clone.run(
+            "env", *environment, "make", "-f", "debian/rules", "execute_before_dh_installdocs"
+        )
+        assert (completed.returncode == 0) == noted.exists()
+        return noted.read_text().splitlines()[0] if noted.exists() else completed.stderr
+
+    head = clone.run("git", "rev-parse", "HEAD").stdout.strip()
+    assert note() == f"commit {head}, not compared with it"
+    assert note("COMMIT=abc") == "commit abc"
+    without_git = clone.tools / "without_git"
+    without_git.mkdir()
+    for tool in ("make", "sha256sum", "cut"):
+        (without_git / tool).symlink_to(shutil.which(tool) or "")
+    assert "no commit is known" in note(f"PATH={without_git}")
+    assert note(f"PATH={without_git}", "COMMIT=abc") == "commit abc"
+    shutil.rmtree(clone.folder / ".git")
+    assert "no commit is known" in note()
+    assert note("COMMIT=abc") == "commit abc"
 
 
 def test_the_manual_has_the_defaults_of_the_units() -> None:
