@@ -15,6 +15,7 @@ BUILT = os.path.join(
     os.path.dirname(os.path.dirname(os.path.abspath(__file__))), "crates", "bsched", "out", "bsched"
 )
 USAGE = 64  # the status of a script that lacks what it needs
+RETURNED: set[int] = set()  # the ports that were chosen so far
 
 
 def needs(script: str, what: str) -> NoReturn:
@@ -34,13 +35,16 @@ def program_at(script: str, path: str) -> str:
 
 
 def free_port(first: int = 10_000, count: int = 22_000) -> int:
-    """Returns a port on which nothing listens, chosen from some ports. They are below those that the system
-    gives to clients: from one of these a client that waits for a server could connect to itself."""
+    """Returns a port on which nothing listens, at no address, chosen from some ports. They are below those that
+    the system gives to clients: from one of these a client that waits for a server could connect to itself. No
+    port is returned twice."""
     while True:
         port = random.randrange(first, first + count)
         with socket.socket() as listener, contextlib.suppress(OSError):
-            listener.bind(("127.0.0.1", port))
-            return port
+            listener.bind(("", port))
+            if port not in RETURNED:
+                RETURNED.add(port)
+                return port
 
 
 def listens(port: int) -> bool:

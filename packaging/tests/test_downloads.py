@@ -9,7 +9,7 @@ from pathlib import Path
 
 import pytest
 from served import free_port
-from test_nginx import NGINX, URL, served, written
+from test_nginx import NGINX, URL, bridge_port, served, written
 from test_project import Machine
 
 CHANGED = "Sun, 29 Nov 2026 12:00:00 GMT"
@@ -60,7 +60,8 @@ def file_server() -> Iterator[FileServer]:
 
 @pytest.mark.skipif(NGINX is None, reason="nginx is not installed")
 def test_nginx_keeps_a_file(tmp_path: Path) -> None:
-    made = written(Machine(tmp_path), "sums", URL)
+    machine = Machine(tmp_path)
+    made = written(machine, "sums", URL)
     folder, port, tls_port = tmp_path / "nginx", free_port(), free_port()
     folder.mkdir()
     files = [made / "limits.conf", made / "locations.conf", made / "site.conf"]
@@ -68,7 +69,7 @@ def test_nginx_keeps_a_file(tmp_path: Path) -> None:
     context.check_hostname, context.verify_mode = False, ssl.CERT_NONE
 
     def got(name: str, **fields: str) -> tuple[int, bytes]:
-        connection = http.client.HTTPSConnection("127.0.0.1", tls_port, context=context, timeout=30)
+        connection = http.client.HTTPSConnection("127.0.0.1", tls_port, context=context, timeout=120)
         connection.request("GET", f"/project/download/{name}", headers={"Host": "sums.example", **fields})
         response = connection.getresponse()
         answer = response.status, response.read()
@@ -76,7 +77,8 @@ def test_nginx_keeps_a_file(tmp_path: Path) -> None:
         return answer
 
     with file_server() as server:
-        with served(folder, files, {80: port, 443: tls_port, 8081: server.server_port}):
+        own = bridge_port(machine, "sums")
+        with served(folder, files, {80: port, 443: tls_port, own: server.server_port}):
             assert got("program_1") == got("program_1") == (200, b"0123456789")
             assert got("program_1", Range="bytes=4-") == (206, b"456789")  # a client resumes a download
             assert got("program_1?a=b") == (200, b"0123456789")

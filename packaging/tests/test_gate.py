@@ -34,7 +34,7 @@ def outcome(folder: Path, *args: str) -> tuple[int, list[str]]:
         [str(folder / "test"), *args],
         env=path,
         text=True,
-        timeout=60,
+        timeout=600,
         stdout=subprocess.PIPE,
         stderr=subprocess.STDOUT,
     )

@@ -2,7 +2,6 @@
 import http.client
 import re
 import shutil
-import socket
 import ssl
 import subprocess
 import threading
@@ -14,7 +13,7 @@ from http.server import BaseHTTPRequestHandler, ThreadingHTTPServer
 from pathlib import Path
 
 import pytest
-from served import free_port
+from served import free_port, listens
 from test_project import Machine
 
 NGINX = shutil.which("nginx", path="/usr/sbin:/usr/bin")
@@ -35,6 +34,12 @@ def written(machine: Machine, name: str, url: str) -> Path:
     return machine.folder / "projects-nginx" / name
 
 
+def bridge_port(machine: Machine, name: str) -> int:
+    """Returns the port of a project's bridge: a machine may have other programs at the first ports."""
+    lines = (machine.projects / name / "environment").read_text().splitlines()
+    return next(int(line.removeprefix("BRIDGE_PORT=")) for line in lines if line.startswith("BRIDGE_PORT="))
+
+
 @pytest.mark.parametrize("url, port", [(URL, 443), ("https://sums.example:8443/", 8443)])
 def test_the_files_of_a_project(machine: Machine, url: str, port: int) -> None:
     folder = written(machine, "sums", url)
@@ -44,7 +49,10 @@ def test_the_files_of_a_project(machine: Machine, url: str, port: int) -> None:
     has_redirect = "location = / {" in site and f"return 301 {url}get_project_config.php;" in site
     assert has_redirect == (url == URL)
     path = "/project/" if url == URL else "/"
-    assert f"location {path} {{" in locations and "http://127.0.0.1:8081;" in locations
+    assert (
+        f"location {path} {{" in locations
+        and f"http://127.0.0.1:{bridge_port(machine, 'sums')};" in locations
+    )
     assert re.findall("@[A-Z_]+@", site + locations) == []
 
 
@@ -113,10 +121,11 @@ def served(folder: Path, files: list[Path], ports: dict[int, int]) -> Iterator[N
         where = folder / "live" / host
         command = ["openssl", "req", "-x509", "-newkey", "rsa:2048", "-nodes", "-subj", f"/CN={host}"]
         command += ["-keyout", str(where / "privkey.pem"), "-out", str(where / "fullchain.pem")]
-        subprocess.run(command, check=True, capture_output=True, timeout=60)
+        subprocess.run(command, check=True, capture_output=True, timeout=600)
     for number, path in enumerate(files):
         text = re.sub(r" *listen \[::\].*\n", "", path.read_text()).replace("/etc/letsencrypt", str(folder))
         text = text.replace("/var/lib/nginx", str(folder))
+        text = text.replace(" min_free=2g ", " ")  # the disk of a test may be smaller
         for old, new in ports.items():
             text = re.sub(rf"(listen |127\.0\.0\.1:){old}\b", rf"\g<1>{new}", text)
         project = path.parent.name
@@ -130,17 +139,16 @@ def served(folder: Path, files: list[Path], ports: dict[int, int]) -> Iterator[N
     main += f"http {{\naccess_log {folder}/log/access;\n{temporary}include conf.d/*.conf;\n}}\n"
     (folder / "nginx.conf").write_text(main)
     process = subprocess.Popen([NGINX or "", "-p", str(folder), "-c", str(folder / "nginx.conf")])
+    ends = time.monotonic() + 60
     try:
-        for _ in range(300):
-            with socket.socket() as tried:
-                if tried.connect_ex(("127.0.0.1", ports[80])) == 0:
-                    break
+        while not (listens(ports[80]) and listens(ports[443])):
             assert process.poll() is None, "nginx refuses the files"
-            time.sleep(0.1)
+            assert time.monotonic() < ends, "nginx does not start"
+            time.sleep(0.05)
         yield
     finally:
         process.terminate()
-        process.wait(30)
+        process.wait(60)
 
 
 def asked(
@@ -161,9 +169,10 @@ def test_two_projects_by_nginx(machine: Machine, tmp_path: Path) -> None:
     folder.mkdir()
     files = [sums / "limits.conf", sums / "locations.conf", sums / "site.conf"]
     files += [others / "locations.conf", others / "site.conf"]
+    one, other = bridge_port(machine, "sums"), bridge_port(machine, "others")
     with bridge() as first, bridge() as second:
-        with served(folder, files, {80: port, 443: tls_port, 8081: first, 8083: second}):
-            plain = http.client.HTTPConnection("127.0.0.1", port, timeout=30)
+        with served(folder, files, {80: port, 443: tls_port, one: first, other: second}):
+            plain = http.client.HTTPConnection("127.0.0.1", port, timeout=120)
             # what the Manager asks if the URL was typed without a scheme, and the name alone
             assert asked(plain, "sums.example", "/project/get_project_config.php") == (
                 301,
@@ -172,7 +181,7 @@ def test_two_projects_by_nginx(machine: Machine, tmp_path: Path) -> None:
             assert asked(plain, "sums.example", "/") == (301, "https://sums.example/")
             context = ssl.create_default_context()
             context.check_hostname, context.verify_mode = False, ssl.CERT_NONE
-            tls = http.client.HTTPSConnection("127.0.0.1", tls_port, context=context, timeout=30)
+            tls = http.client.HTTPSConnection("127.0.0.1", tls_port, context=context, timeout=120)
             assert asked(tls, "sums.example", "/") == (301, URL)
             config = asked(tls, "sums.example", "/get_project_config.php")
             assert config == (301, f"{URL}get_project_config.php")
@@ -203,15 +212,16 @@ def test_no_log_has_an_address_a_hash_or_a_key(machine: Machine, tmp_path: Path)
     files += [others / "locations.conf", others / "site.conf"]
     scripts = [f"project/{name}" for name in SCRIPTS]
     outside = ["", "get_project_config.php", "other", *SCRIPTS]
-    with served(folder, files, {80: port, 443: tls_port, 8081: nowhere, 8083: nowhere}):
-        plain = http.client.HTTPConnection("127.0.0.1", port, timeout=30)
+    one, other = bridge_port(machine, "sums"), bridge_port(machine, "others")
+    with served(folder, files, {80: port, 443: tls_port, one: nowhere, other: nowhere}):
+        plain = http.client.HTTPConnection("127.0.0.1", port, timeout=120)
         for path in [*outside, ".well-known/acme-challenge/other", *scripts]:
             asked(plain, "sums.example", f"/{path}?{QUERY}")
             asked(plain, "others.example", f"/{path}?{QUERY}")
         asked(plain, "a b", f"/project/create_account.php?{QUERY}")  # no name of a host: status 400
         context = ssl.create_default_context()
         context.check_hostname, context.verify_mode = False, ssl.CERT_NONE
-        tls = http.client.HTTPSConnection("127.0.0.1", tls_port, context=context, timeout=30)
+        tls = http.client.HTTPSConnection("127.0.0.1", tls_port, context=context, timeout=120)
         for path in [*outside, *scripts]:
             asked(tls, "sums.example", f"/{path}?{QUERY}")
         for path in SCRIPTS:
@@ -246,10 +256,11 @@ def test_the_operators_board_with_a_password(machine: Machine, tmp_path: Path) -
     with_board(sums / "locations.conf", folder / "passwords")
     (folder / "passwords").write_text("olga:{PLAIN}secret\n")
     files = [sums / "limits.conf", sums / "locations.conf", sums / "site.conf"]
-    with bridge() as first, served(folder, files, {80: port, 443: tls_port, 8081: first}):
+    own = bridge_port(machine, "sums")
+    with bridge() as first, served(folder, files, {80: port, 443: tls_port, own: first}):
         context = ssl.create_default_context()
         context.check_hostname, context.verify_mode = False, ssl.CERT_NONE
-        tls = http.client.HTTPSConnection("127.0.0.1", tls_port, context=context, timeout=30)
+        tls = http.client.HTTPSConnection("127.0.0.1", tls_port, context=context, timeout=120)
         path = "/project/operator/board"
         assert asked(tls, "sums.example", path)[0] == 401
         wrong = {"Authorization": f"Basic {b64encode(b'olga:wrong').decode()}"}

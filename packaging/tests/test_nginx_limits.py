@@ -2,6 +2,7 @@
 import http.client
 import ipaddress
 import ssl
+import threading
 import time
 from collections import Counter
 from collections.abc import Iterator
@@ -12,7 +13,7 @@ from pathlib import Path
 
 import pytest
 from served import free_port
-from test_nginx import NGINX, URL, served, written
+from test_nginx import NGINX, URL, bridge_port, served, written
 from test_project import Machine
 
 PASSED, REFUSED, TOO_LARGE, NO_ANSWER = 502, 503, 413, 0
@@ -71,7 +72,7 @@ class Site:
         """Returns a new connection."""
         context = ssl.create_default_context()
         context.check_hostname, context.verify_mode = False, ssl.CERT_NONE
-        return http.client.HTTPSConnection("127.0.0.1", self.port, context=context, timeout=30)
+        return http.client.HTTPSConnection("127.0.0.1", self.port, context=context, timeout=120)
 
     def asked(self, addresses: list[str]) -> Counter[int]:
         """Asks for a page from each address, one after the other. Returns how often each status came."""
@@ -87,8 +88,8 @@ class Site:
         connection.close()
         return statuses
 
-    def upload(self, address: str, length: int, body: bytes) -> tuple[int, http.client.HTTPSConnection]:
-        """Sends an upload, maybe only a part of it. Returns the status, and the connection, which stays."""
+    def begun(self, address: str, length: int, body: bytes) -> http.client.HTTPSConnection:
+        """Sends an upload, maybe only a part of it. Returns the connection."""
         connection = self.connection()
         connection.putrequest("POST", "/project/file_upload_handler", skip_host=True)
         for name, value in (
@@ -98,11 +99,24 @@ class Site:
         ):
             connection.putheader(name, value)
         connection.endheaders(body)
-        connection.sock.settimeout(4)
+        return connection
+
+    def upload(self, address: str, length: int, body: bytes, seconds: float = 60) -> int:
+        """Sends an upload, and returns its status within so many seconds."""
+        connection = self.begun(address, length, body)
         try:
-            return connection.getresponse().status, connection
-        except TimeoutError:
-            return NO_ANSWER, connection
+            return status_of(connection, seconds)
+        finally:
+            connection.close()
+
+
+def status_of(connection: http.client.HTTPSConnection, seconds: float) -> int:
+    """Returns the status of an answer that comes within so many seconds. One that comes later is not lost."""
+    connection.sock.settimeout(seconds)
+    try:
+        return connection.getresponse().status
+    except TimeoutError:
+        return NO_ANSWER
 
 
 @pytest.fixture(scope="module")
@@ -110,12 +124,13 @@ def site(tmp_path_factory: pytest.TempPathFactory) -> Iterator[Site]:
     """Runs nginx with the files of a project."""
     if NGINX is None:
         pytest.skip("nginx is not installed")
-    files = written(Machine(tmp_path_factory.mktemp("projects")), "sums", URL)
+    machine = Machine(tmp_path_factory.mktemp("projects"))
+    files = written(machine, "sums", URL)
     folder, port, tls_port = tmp_path_factory.mktemp("nginx"), free_port(), free_port()
     with (files / "limits.conf").open("a") as limits:
         limits.write("set_real_ip_from 127.0.0.1;\nreal_ip_header X-Address;\n")
     paths = [files / "limits.conf", files / "locations.conf", files / "site.conf"]
-    with served(folder, paths, {80: port, 443: tls_port, 8081: free_port()}):
+    with served(folder, paths, {80: port, 443: tls_port, bridge_port(machine, "sums"): free_port()}):
         yield Site(tls_port)
 
 
@@ -145,14 +160,30 @@ def test_whom_an_address_counts_as(site: Site, addresses: list[str], is_one: boo
 
 
 @contextmanager
-def uploads_of(site: Site, addresses: list[str]) -> Iterator[Counter[int]]:
-    """Begins an upload from each address. Yields how many have which status; the connections stay open."""
+def uploads_of(site: Site, addresses: list[str], refused: int) -> Iterator[Counter[int]]:
+    """Begins an upload from each address. Yields how many have which status, a second after so many have an
+    answer, which may take long on a busy machine. The connections stay open.
+    """
+    answered: list[int] = []
+    is_over = threading.Event()
 
     def begin(address: str) -> tuple[int, http.client.HTTPSConnection]:
-        return site.upload(address, 1_000_000, bytes(100_000))
+        connection = site.begun(address, 1_000_000, bytes(100_000))
+        status = NO_ANSWER
+        while status == NO_ANSWER and not is_over.is_set():
+            status = status_of(connection, 0.2)
+        if status != NO_ANSWER:
+            answered.append(status)
+        return status, connection
 
     with ThreadPoolExecutor(len(addresses)) as pool:
-        begun = list(pool.map(begin, addresses))
+        uploads = [pool.submit(begin, address) for address in addresses]
+        ends = time.monotonic() + 20  # nginx waits for a minute for the rest of a body
+        while len(answered) < refused and time.monotonic() < ends:
+            time.sleep(0.05)
+        time.sleep(1)
+        is_over.set()
+    begun = [upload.result() for upload in uploads]
     try:
         yield Counter(status for status, _ in begun)
     finally:
@@ -163,9 +194,10 @@ def uploads_of(site: Site, addresses: list[str]) -> Iterator[Counter[int]]:
 def test_uploads_at_once(site: Site) -> None:
     """What nginx writes to the disk at a time is bounded, for one address and for all."""
     others = MOST_OF_ALL - MOST_OF_ADDRESS
-    with uploads_of(site, addresses_of(NETWORK, MOST_OF_ADDRESS + 4)) as statuses:
+    with uploads_of(site, addresses_of(NETWORK, MOST_OF_ADDRESS + 4), 4) as statuses:
         assert statuses == {NO_ANSWER: MOST_OF_ADDRESS, REFUSED: 4}
-        with uploads_of(site, [f"198.51.100.{number % 8}" for number in range(MOST_OF_ALL)]) as statuses:
+        several = [f"198.51.100.{number % 8}" for number in range(MOST_OF_ALL)]
+        with uploads_of(site, several, MOST_OF_ALL - others) as statuses:
             assert statuses == {NO_ANSWER: others, REFUSED: MOST_OF_ALL - others}
             assert site.asked(["198.51.100.0"]) == {PASSED: 1}  # other messages have limits of their own
     for address in ("198.51.100.0", str(NETWORK[1])):
@@ -174,17 +206,14 @@ def test_uploads_at_once(site: Site) -> None:
 
 def status_in_the_end(site: Site, address: str) -> int:
     """Returns the status of an upload from an address, once nginx has noticed that others broke off."""
-    ends = time.monotonic() + 10
+    ends = time.monotonic() + 60
     while True:
-        status, connection = site.upload(address, 20, bytes(20))
-        connection.close()
+        status = site.upload(address, 20, bytes(20))
         if status != REFUSED or time.monotonic() > ends:
             return status
         time.sleep(0.05)
 
 
 def test_an_upload_that_is_too_large(site: Site) -> None:
-    for length, expected in ((100_008_192, NO_ANSWER), (100_008_193, TOO_LARGE)):
-        status, connection = site.upload("192.0.2.1", length, b"")
-        connection.close()
-        assert status == expected
+    assert site.upload("192.0.2.1", 100_008_193, b"") == TOO_LARGE
+    assert site.upload("192.0.2.1", 100_008_192, b"", seconds=4) == NO_ANSWER

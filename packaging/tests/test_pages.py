@@ -82,13 +82,13 @@ def test_the_site(tmp_path: Path) -> None:
     pytest.importorskip("furo")
     pytest.importorskip("myst_parser")
     command = ["/usr/bin/python3", str(SCRIPT), str(tmp_path / "site")]
-    completed = subprocess.run(command, capture_output=True, text=True, timeout=300)
+    completed = subprocess.run(command, capture_output=True, text=True, timeout=1800)
     assert (completed.returncode, completed.stderr) == (0, "")
     assert "Restore a copy" in (tmp_path / "site" / "docs" / "WHEN_WRONG.html").read_text()
     static = [path for path in (tmp_path / "site" / "_static").rglob("*.*") if path.parent.name != "licences"]
     assert {str(path.relative_to(tmp_path / "site")) for path in static} == files_of_the_copyright()
     (tmp_path / "other").mkdir()
     refused = subprocess.run(
-        [*command[:2], str(tmp_path / "other")], capture_output=True, text=True, timeout=60
+        [*command[:2], str(tmp_path / "other")], capture_output=True, text=True, timeout=600
     )
     assert refused.returncode == 2 and "is no site of packaging/pages" in refused.stderr

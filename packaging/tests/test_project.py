@@ -54,7 +54,7 @@ class Machine:
     def make(self, *args: str, stubs: str = "") -> "subprocess.CompletedProcess[str]":
         """Runs bsched-project without a terminal."""
         command = self.command(*args, stubs=stubs)
-        return subprocess.run(command, stdin=subprocess.DEVNULL, capture_output=True, text=True, timeout=60)
+        return subprocess.run(command, stdin=subprocess.DEVNULL, capture_output=True, text=True, timeout=600)
 
     def answered(self, answers: str, *args: str) -> tuple[int, str]:
         """Runs bsched-project on a terminal, types the answers, and returns its status and what it shows."""
@@ -67,7 +67,7 @@ class Machine:
             while part := os.read(leader, 65536):
                 shown += part
         os.close(leader)
-        return process.wait(60), shown.decode().replace("\r", "")
+        return process.wait(600), shown.decode().replace("\r", "")
 
     def settings(self, line: str) -> str:
         """Writes a file of settings with this line for the operator's key."""
@@ -79,7 +79,7 @@ class Machine:
     def key(self, name: str) -> str:
         """Returns the key of a project, as the units read it."""
         command = [SERVICE / "operator-key", self.projects / name / "settings.toml"]
-        return subprocess.run(command, capture_output=True, text=True, timeout=30, check=True).stdout.strip()
+        return subprocess.run(command, capture_output=True, text=True, timeout=600, check=True).stdout.strip()
 
 
 @pytest.fixture
@@ -184,7 +184,7 @@ def test_the_printed_commands_end_at_a_refused_import(
     commands = commands.partition("bsched-copy@")[0].rpartition("\n")[0]
     stubs = f"bsched() {{ echo $5; [ $5 != {refused} ]; }}\nsystemctl() {{ echo systemctl; }}\n"
     command = ["bash", "-c", f"{STUBS}{stubs}{commands}"]
-    completed = subprocess.run(command, capture_output=True, text=True, timeout=30)
+    completed = subprocess.run(command, capture_output=True, text=True, timeout=600)
     assert completed.stdout.split() == done and completed.stderr == ""
 
 
@@ -233,7 +233,10 @@ def test_the_pages_have_the_settings_that_a_project_gets_without_options(machine
     assert shown_in(manual, "daily_result_quota = ") == numbers
 
 
-@settings(max_examples=15, suppress_health_check=[HealthCheck.function_scoped_fixture])
+@settings(
+    max_examples=15,
+    suppress_health_check=[*settings().suppress_health_check, HealthCheck.function_scoped_fixture],
+)
 @given(st.integers(1, 100 * 86400), st.integers(1, 256))
 def test_the_rule_of_the_settings(machine: Machine, job: int, processors: int) -> None:
     shutil.rmtree(machine.projects / "sums", ignore_errors=True)

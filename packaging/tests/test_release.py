@@ -23,7 +23,7 @@ def words_of(line: str) -> str:
         f". {TOP}/packaging/completion/bsched; COMP_WORDS=({line}); COMP_CWORD=$((${{#COMP_WORDS[@]}} - 1)); "
         "_${COMP_WORDS[0]//-/_}; echo ${COMPREPLY[@]}"
     )
-    return subprocess.run(["bash", "-c", script], capture_output=True, text=True, timeout=30).stdout.strip()
+    return subprocess.run(["bash", "-c", script], capture_output=True, text=True, timeout=600).stdout.strip()
 
 
 def test_each_place_has_the_version() -> None:
@@ -52,7 +52,7 @@ def test_the_tools_complete_each_option() -> None:
         if command:
             words = f". {TOP}/packaging/completion/bsched-tools; _bsched_tools_options {command}"
             completed = subprocess.run(
-                ["bash", "-c", words], capture_output=True, text=True, timeout=60, check=True
+                ["bash", "-c", words], capture_output=True, text=True, timeout=600, check=True
             )
             assert set(completed.stdout.split()) == options, command
 
@@ -79,7 +79,7 @@ def offered_by(*args: str) -> set[str]:
     """Returns the options that the help of a command names."""
     path = {"PYTHONPATH": f"{TOP}/bridge:{TOP}/tools", "PYTHONDONTWRITEBYTECODE": "1"}
     command = [*args, "--help"]
-    completed = subprocess.run(command, env=path, capture_output=True, text=True, timeout=60, check=True)
+    completed = subprocess.run(command, env=path, capture_output=True, text=True, timeout=600, check=True)
     return set(re.findall(r"(?<![a-z])--[a-z-]+", completed.stdout)) - {"--help"}
 
 
@@ -96,7 +96,7 @@ def test_the_synopsis_of_bsched_project_has_the_options_of_its_help() -> None:
     page = synopsis("bsched-project.8")
     assert set().union(*page.values()) == offered_by(f"{TOP}/packaging/bsched-project")
     help_command = [f"{TOP}/packaging/bsched-project", "--help"]
-    usage = subprocess.run(help_command, capture_output=True, text=True, timeout=60).stdout
+    usage = subprocess.run(help_command, capture_output=True, text=True, timeout=600).stdout
     for command in page:
         assert f" bsched-project {command}" in usage
 
@@ -190,7 +190,7 @@ class Clone:
     def run(self, *command: str) -> "subprocess.CompletedProcess[str]":
         """Runs a command in the repository."""
         path = {"PATH": f"{self.tools}:/usr/sbin:/usr/bin:/sbin:/bin", "HOME": str(self.tools)}
-        return subprocess.run(command, cwd=self.folder, env=path, capture_output=True, text=True, timeout=60)
+        return subprocess.run(command, cwd=self.folder, env=path, capture_output=True, text=True, timeout=600)
 
     def commit(self) -> None:
         """Commits all files."""

@@ -9,6 +9,7 @@ from http.server import BaseHTTPRequestHandler, HTTPServer
 from pathlib import Path
 
 import pytest
+from served import free_port
 
 PACKAGING = Path(__file__).resolve().parent.parent
 SERVICE = PACKAGING / "service"
@@ -25,7 +26,7 @@ def done(
         env={**os.environ, **environment},
         capture_output=True,
         text=True,
-        timeout=30,
+        timeout=600,
     )
 
 
@@ -36,8 +37,8 @@ def is_one_line(text: str) -> bool:
 
 @pytest.fixture
 def listener() -> Iterator[socket.socket]:
-    """Yields a socket that listens on a port of its own."""
-    with socket.create_server(("127.0.0.1", 0)) as made:
+    """Yields a socket that listens on a port of its own. Once it is closed, no client gets the port."""
+    with socket.create_server(("127.0.0.1", free_port())) as made:
         yield made
 
 
@@ -100,7 +101,7 @@ def test_a_long_start_is_shown(listener: socket.socket) -> None:
         seconds.append(int(found[1]))
     assert 1 <= seconds[0] < seconds[1]
     with socket.create_server(address):
-        rest = waiting.communicate(timeout=30)[0].splitlines()
+        rest = waiting.communicate(timeout=600)[0].splitlines()
     assert waiting.returncode == 0
     assert re.fullmatch(rf"started after \d+ seconds: port {address[1]} answers", rest[-1])
 
