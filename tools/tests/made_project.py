@@ -16,7 +16,7 @@ operator_key = "{KEY}"
 request_delay = 60
 resend_lost_results = true
 """
-CALL_SECONDS = 30
+CALL_SECONDS = 60
 
 
 class MadeProject:

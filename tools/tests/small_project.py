@@ -87,7 +87,7 @@ class Twin:
         self.process.communicate(timeout=END)
 
 
-def tools(*args: object, seconds: float = 60) -> tuple[int, str, str]:
+def tools(*args: object, seconds: float = 10 * END) -> tuple[int, str, str]:
     """Runs the tools, and returns their status and what they print."""
     command = [sys.executable, "-m", "bsched_tools", *map(str, args)]
     own = {"PYTHONPATH": f"{TOOLS}:{TOOLS.parent / 'bridge'}", "PYTHONDONTWRITEBYTECODE": "1"}

@@ -69,6 +69,6 @@ def test_a_work_folder_that_somebody_removed_is_no_fault(tmp_path: Path) -> None
 
 
 def test_the_owner_is_given_by_a_descriptor_that_is_closed(project: Path) -> None:
-    before = os.listdir("/proc/self/fd")
     copies.give_to(project, project.stat())
-    assert os.listdir("/proc/self/fd") == before
+    own = (os.path.realpath(f"/proc/self/fd/{name}") for name in os.listdir("/proc/self/fd"))
+    assert str(project.resolve()) not in own

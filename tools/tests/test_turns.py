@@ -10,19 +10,21 @@ from bsched_tools.faults import Fault
 
 
 def test_others_wait_for_a_turn(tmp_path: Path) -> None:
-    held = threading.Event()
+    held, is_refused = threading.Event(), threading.Event()
 
     def hold() -> None:
         with turn(tmp_path, 0):
             held.set()
+            assert is_refused.wait(60)
             time.sleep(0.5)
 
     thread = threading.Thread(target=hold)
     thread.start()
-    assert held.wait(10)
+    assert held.wait(60)
     with pytest.raises(Fault, match="another copy is being made"):
         with turn(tmp_path, 0):
             pass
-    with turn(tmp_path, 30):
-        thread.join(10)
+    is_refused.set()
+    with turn(tmp_path, 60):
+        thread.join(60)
         assert not thread.is_alive()

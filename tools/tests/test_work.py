@@ -639,6 +639,7 @@ def test_a_bar_is_drawn_on_a_terminal_alone(
     Bar("importing").seen(5, 10)
     assert capsys.readouterr().err == ""
     monkeypatch.setattr(sys.stderr, "isatty", lambda: True, raising=False)
+    monkeypatch.setattr("bsched_tools.bars.PAUSE_SECONDS", 600.0)
     bar = Bar("importing")
     bar.seen(5, 10)
     bar.seen(6, 10)  # too soon
