@@ -73,7 +73,7 @@ class Bridge:
             settings,
             catalogues.current,
             self.file,
-            Scheduler(self.twin.address, answer_seconds=2),
+            Scheduler(self.twin.address, answer_seconds=60),  # a busy machine may take long
             HostRuleReader(path, settings.host_rules).rules,
             Passwords(Cost(2**4, 8, 1)),
             self.store,

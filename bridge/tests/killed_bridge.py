@@ -45,7 +45,7 @@ class Served:
         settings = read_settings(path)
         self.file = StateFile(settings.state)
         self.application = Application(
-            settings, read_catalogue(settings.catalogue), self.file, Scheduler(settings.scheduler, 5)
+            settings, read_catalogue(settings.catalogue), self.file, Scheduler(settings.scheduler, 60)
         )
 
 

@@ -485,13 +485,13 @@ def test_an_unknown_address_takes_a_hash_too(open_bridge: Bridge, monkeypatch: p
 
 
 def test_two_hashes_at_once_and_few_that_wait(monkeypatch: pytest.MonkeyPatch) -> None:
-    monkeypatch.setattr("bsched_bridge.passwords.WAIT_SECONDS", 5.0)
+    monkeypatch.setattr("bsched_bridge.passwords.WAIT_SECONDS", 60.0)
     hashes, running, most, ended = Passwords(Cost(2**4, 8, 1)), [], [], threading.Event()
 
     def slow(_told: str, _salt: bytes, _cost: Cost) -> bytes:
         running.append(1)
         most.append(len(running))
-        ended.wait(5)
+        ended.wait(60)
         running.pop()
         return b""
 
@@ -516,13 +516,13 @@ def test_one_client_has_one_hash_at_once(open_bridge: Bridge, monkeypatch: pytes
 
     def slow(*words: Cost | bytes | str) -> bytes:
         began.set()
-        ended.wait(5)
+        ended.wait(60)
         return scrypt(*words)
 
     monkeypatch.setattr("bsched_bridge.passwords.scrypt", slow)
     thread = threading.Thread(target=look_up, args=(open_bridge,))
     thread.start()
-    assert began.wait(5)
+    assert began.wait(60)
     monkeypatch.setattr("bsched_bridge.passwords.scrypt", scrypt)
     with open_bridge.application.accounts._locks.held("other"):
         create(open_bridge, "bob@sums.example", client="192.0.2.1")
@@ -538,6 +538,7 @@ def test_messages_of_one_client_that_wait_keep_nobody_from_a_place(open_bridge: 
     create(open_bridge)
     bob = create(open_bridge, "bob@sums.example", client="192.0.2.1")
     answers: list[object] = []
+    open_bridge.application.accounts._locks.wait_seconds = 60
     with open_bridge.application.accounts._locks.held("ann@sums.example"):
         threads = [threading.Thread(target=lambda: answers.append(look_up(open_bridge))) for _ in range(8)]
         for thread in threads:
@@ -550,12 +551,13 @@ def test_messages_of_one_client_that_wait_keep_nobody_from_a_place(open_bridge: 
 
 
 def test_one_client_has_so_many_hashes_in_a_minute(open_bridge: Bridge) -> None:
+    recent = open_bridge.application.accounts.passwords._recent
+    recent.clock = lambda: 1000.0
     key = create(open_bridge)
     answers = [look_up(open_bridge) for _ in range(50)]
     assert answers == [key] * 39 + [-183] * 11
     assert look_up(open_bridge, client="192.0.2.1") == key
-    recent = open_bridge.application.accounts.passwords._recent
-    recent.clock = lambda: time.monotonic() + 61
+    recent.clock = lambda: 1061.0
     assert look_up(open_bridge) == key
 
 
@@ -604,6 +606,7 @@ def test_account_messages_leave_threads_for_calls(open_bridge: Bridge) -> None:
     """At most half of the threads work for accounts. Any further message is asked at once to try again."""
     answers = []
     locks = open_bridge.application.accounts._locks
+    locks.wait_seconds = 60
     with locks.held(EMAIL):
         threads = [
             threading.Thread(
@@ -735,6 +738,7 @@ def test_creations_at_once_are_one(open_bridge: Bridge, twin: Twin, monkeypatch:
         return scrypt(*words)
 
     monkeypatch.setattr("bsched_bridge.passwords.scrypt", slow)
+    open_bridge.application.accounts._locks.wait_seconds = 60
     answers = []
     threads = [
         threading.Thread(
@@ -949,7 +953,7 @@ def test_a_hash_that_finds_no_place(monkeypatch: pytest.MonkeyPatch) -> None:
 
     thread = threading.Thread(target=ask, daemon=True)
     thread.start()
-    thread.join(5)
+    thread.join(60)
     assert faults == ["TooBusy"]
     made._places.release()
     made.new_secret("0" * 32, CLIENT)

@@ -90,13 +90,13 @@ def test_the_status_page(bridge: Bridge) -> None:
 def test_users_of_one_name_are_two(bridge: Bridge) -> None:
     bridge.twin.service.imported("accounts", "second", "authenticator,name\nann-two,Ann\n")
     bridge.call(request())
-    bridge.call(request(key="ann-two", cpid="c2"))
+    bridge.call(request(key="ann-two", cpid="second-cpid"))
     page = bridge.got("/p/users")[2].decode()
     for number in (1, 2):
         assert page.count(f'<td><a href="/p/user/{number}">Ann</a></td><td class="number">0</td>') == 1
     for path in ("users", "user/1", "user/2", "computers", "status", f"computer/{FIRST}", ""):
         page = bridge.got(f"/p/{path}")[2].decode()
-        assert "ann-two" not in page and "ann-key" not in page and "c2" not in page, path
+        assert "ann-two" not in page and "ann-key" not in page and "second-cpid" not in page, path
 
 
 def test_the_status_page_of_no_hosts(bridge: Bridge) -> None:

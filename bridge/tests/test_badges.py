@@ -1,6 +1,4 @@
 """Badges by credit and by years."""
-import time
-
 import pytest
 from bridges import Bridge
 from test_pages import page_of
@@ -41,9 +39,10 @@ def test_badges_by_years() -> None:
     assert texts == [[], ["With the project for 1 year"], ["With the project for 2 years"], []]
 
 
-def test_badges_on_pages(bridge: Bridge) -> None:
+def test_badges_on_pages(bridge: Bridge, monkeypatch: pytest.MonkeyPatch) -> None:
+    years = 56
+    monkeypatch.setattr("time.time", lambda: (years + 0.5) * YEAR)
     people(bridge, 200)
-    years = int(time.time() / YEAR)
     assert "Among the best 1 of 100 users by credit" in page_of(bridge.got("/p/user/200")).text
     page = page_of(bridge.got("/p/user/100"))
     assert "Among the best" not in page.text and f"With the project for {years} years" in page.text

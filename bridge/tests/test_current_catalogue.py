@@ -1,6 +1,7 @@
 """The catalogue is read again after an edit of it or of a file that it names. A fault keeps the former
 one."""
 import logging
+import os
 import threading
 from pathlib import Path
 from typing import Any
@@ -81,7 +82,9 @@ def test_a_file_that_the_catalogue_names_is_corrected(
     program.write_text("#!/bin/sh\nexit 1\n")
     assert bridge.application.catalogue.versions and bridge.application.catalogue.versions
     assert len(errors(caplog)) == 1 and "line 13: " in errors(caplog)[0]
+    before = signature.stat()
     signature.write_text(signature_text(file_md5(program), key))
+    os.utime(signature, ns=(before.st_atime_ns, before.st_mtime_ns + 1))  # however soon after the first one
     (version,) = bridge.application.catalogue.versions.values()
     assert version.files[0].file.size == program.stat().st_size
     signature.unlink()
@@ -140,17 +143,17 @@ def test_a_large_catalogue_keeps_nobody_waiting(project: Path, monkeypatch: pyte
 
     def slow(*args: Any) -> Any:
         begun.set()
-        assert may_end.wait(10)
+        assert may_end.wait(60)
         return read(*args)
 
     monkeypatch.setattr(current_catalogue, "read_catalogue", slow)
     edit(project, "Sums & more", "Sums")
     reading = threading.Thread(target=reader.current)
     reading.start()
-    assert begun.wait(10)
+    assert begun.wait(60)
     assert reader.current() is former
     may_end.set()
-    reading.join(10)
+    reading.join(60)
     assert reader.current().apps["sum"].title == "Sums"
 
 

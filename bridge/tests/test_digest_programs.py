@@ -1,14 +1,17 @@
 """Digest programs: what they can reach, how they end, and what bsched gets."""
+import os
 import shutil
 import socket
 import subprocess
 import time
 from collections.abc import Callable
+from contextlib import suppress
 from pathlib import Path
 from typing import Any
 
 import pytest
 from bridges import Bridge
+from joining import wait_until
 from messages import FIRST, names
 from test_report_checks import reported, worked
 from uploading import on_disk, report, sha256_of
@@ -38,7 +41,7 @@ pytestmark = pytest.mark.skipif(not can_run(), reason="bubblewrap can't run here
 def program(tmp_path: Path) -> Callable[..., Any]:
     """Returns a function that makes a digest program of a shell script."""
 
-    def made(text: str, seconds: int = 10, example: Path | None = None) -> DigestProgram:
+    def made(text: str, seconds: int = 60, example: Path | None = None) -> DigestProgram:
         path = tmp_path / "program"
         path.write_text(f"#!/bin/sh\n{text}\n")
         path.chmod(0o755)
@@ -117,14 +120,24 @@ def test_a_program_can_not_reach_this_machine(
         assert digest_of(program(f"python3 -c 'import socket; print({script})'"), out) == "111"
 
 
+def command_lines() -> bytes:
+    """Returns the command lines of all processes."""
+    found = b""
+    for path in Path("/proc").glob("[0-9]*/cmdline"):
+        with suppress(OSError):  # it has ended
+            found += path.read_bytes()
+    return found
+
+
 def test_a_program_that_takes_too_long_is_killed(
     program: Callable[..., Any], out: list[tuple[str, Path]]
 ) -> None:
     began = time.monotonic()
+    mark = f"299.{os.getpid():08}"  # in the command line of no other process
     with pytest.raises(DigestFault, match="more than 1 seconds"):
-        digest_of(program("sleep 300 & sleep 299", seconds=1), out)
+        digest_of(program(f"sleep 300 & sleep {mark}", seconds=1), out)
     assert time.monotonic() - began < 60
-    assert subprocess.run(["pgrep", "-f", "sleep 299"], capture_output=True).stdout == b""
+    wait_until(lambda: mark.encode() not in command_lines())  # the kernel ends it soon after the sandbox
 
 
 def test_1024_bytes_are_read(program: Callable[..., Any], out: list[tuple[str, Path]]) -> None:
@@ -162,7 +175,7 @@ def example(name: str, tmp_path: Path, *texts: str) -> str:
         path = tmp_path / f"in{place}"
         path.write_text(text)
         files.append((path.name, path))
-    return digest_of(DigestProgram(EXAMPLES / name, 20, None), files)
+    return digest_of(DigestProgram(EXAMPLES / name, 60, None), files)
 
 
 def test_numbers_are_rounded(tmp_path: Path) -> None:

@@ -15,6 +15,7 @@ from pathlib import Path
 
 import pytest
 from served import free_port
+from joining import wait_until
 from messages import request, value
 from twin import Twin
 
@@ -35,7 +36,7 @@ def command(port: int) -> list[str]:
 
 def exchanged(port: int, text: str) -> bytes:
     """Sends a message, and returns the answer."""
-    with socket.create_connection(("127.0.0.1", port), timeout=30) as connection:
+    with socket.create_connection(("127.0.0.1", port), timeout=120) as connection:
         connection.sendall(text.encode())
         answer = b""
         while block := connection.recv(65536):
@@ -66,6 +67,8 @@ def served(project: Path, twin: Twin) -> Iterator[tuple[int, "subprocess.Popen[s
                 break
             except OSError:
                 time.sleep(0.1)
+        else:
+            raise AssertionError("gunicorn does not start")
         yield port, process
     finally:
         process.kill()
@@ -156,12 +159,21 @@ def test_a_client_that_sends_slowly(project: Path, twin: Twin) -> None:
     assert answer.startswith(b"HTTP/1.1 200")
 
 
+def is_read(port: int, client: int) -> bool:
+    """Returns whether a thread has taken the connection of a client, and has read all that was sent."""
+    for line in Path("/proc/net/tcp").read_text().splitlines()[1:]:
+        _, local, remote, _, queues, _, _, _, _, inode, *_ = line.split()
+        if local.endswith(f":{port:04X}") and remote.endswith(f":{client:04X}"):
+            return inode != "0" and queues.endswith(":00000000")
+    return False
+
+
 def test_a_worker_that_ends_finishes_what_was_begun(project: Path, twin: Twin) -> None:
     with served(project, twin) as (port, process):
         text = call(0, 1).encode()
         with socket.create_connection(("127.0.0.1", port), timeout=60) as connection:
             connection.sendall(text[:-20])
-            time.sleep(0.5)  # a thread has taken the connection by then
+            wait_until(lambda: is_read(port, connection.getsockname()[1]))
             process.terminate()
             time.sleep(0.5)
             connection.sendall(text[-20:])

@@ -19,11 +19,12 @@ def small(project: Path, bridge: Bridge) -> Bridge:
 
 
 def settings(project: Path, *lines: str) -> None:
-    """Writes other settings on hosts."""
+    """Writes other settings on hosts. The time of the file rises, however soon after another edit that is."""
     path = project / "bridge.toml"
+    before = path.stat()
     kept = [line for line in path.read_text().splitlines() if not line.startswith(("most_hosts", "barred"))]
     path.write_text("\n".join([*kept, *lines]) + "\n")
-    os.utime(path, ns=(path.stat().st_atime_ns, path.stat().st_mtime_ns + 1))
+    os.utime(path, ns=(before.st_atime_ns, before.st_mtime_ns + 1))
 
 
 def called(bridge: Bridge, number: int, key: str = "ann-key", hostid: int = 0) -> str:

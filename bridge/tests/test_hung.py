@@ -56,14 +56,22 @@ def test_one_message_shows_whether_there_are_answers_again(
     asked = Scheduler(silent, 1)
     fault_of(lambda: asked.has_account("ann-key"))
     time.sleep(0.2)
-    asked.answer_seconds = 5  # a busy machine may look late whether others fail meanwhile
+    may_send, exchange = threading.Event(), asked._exchange
+
+    def waits(*words: Any) -> Any:
+        """A busy machine may look late whether others fail meanwhile."""
+        assert may_send.wait(60)
+        return exchange(*words)
+
+    monkeypatch.setattr(asked, "_exchange", waits)
     probe = threading.Thread(target=fault_of, args=(lambda: asked.has_account("ann-key"),))
     probe.start()
     wait_until(lambda: asked._is_probed)
     assert fault_of(lambda: asked.has_account("ann-key")) is Hung
+    may_send.set()
     probe.join()
     time.sleep(0.2)
-    asked.address = twin.address
+    asked.address, asked.answer_seconds = twin.address, 60
     assert asked.has_account("ann-key") and asked.has_account("ann-key")
     assert asked.silent_since is None and not asked.is_slow
 
@@ -109,6 +117,7 @@ def test_pages_and_files_are_answered_while_bsched_hangs(
 
 def test_a_message_that_has_just_begun_is_not_slow(twin: Twin, monkeypatch: pytest.MonkeyPatch) -> None:
     asked = Scheduler(twin.address, 1)
+    monkeypatch.setattr("bsched_bridge.scheduler.SLOW_SECONDS", 60.0)
     message = asked._begin_to_wait()
     assert not asked.is_slow
     monkeypatch.setattr("bsched_bridge.scheduler.SLOW_SECONDS", -1.0)

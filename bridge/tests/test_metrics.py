@@ -135,6 +135,7 @@ def test_a_scheduler_that_does_not_answer(bridge: Bridge, twin: Twin) -> None:
 
 
 def test_bsched_is_asked_once_in_a_while(bridge: Bridge, monkeypatch: pytest.MonkeyPatch) -> None:
+    monkeypatch.setattr("bsched_bridge.scheduler_probe.KEPT_SECONDS", 600.0)
     scheduler, messages = bridge.application.scheduler, list[object]()
     message = scheduler.message
 

@@ -239,7 +239,7 @@ def ordered(folder: Path, *words: str) -> Any:
         env={"PYTHONPATH": str(BRIDGE), "PYTHONDONTWRITEBYTECODE": "1"},
         capture_output=True,
         text=True,
-        timeout=60,
+        timeout=600,
     )
 
 

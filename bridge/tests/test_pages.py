@@ -619,7 +619,7 @@ def test_nobody_waits_while_somebody_else_reads_the_status(open_bridge: Bridge) 
         pages = []
         reading = threading.Thread(target=lambda: pages.append(open_bridge.got("/p/status")), daemon=True)
         reading.start()
-        reading.join(10)
+        reading.join(60)
         page = page_of(pages[0])
     assert "Ann" in page.text and "waiting" not in page.text
     assert "waiting" in page_of(open_bridge.got("/p/status")).text

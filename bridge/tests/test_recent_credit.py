@@ -61,7 +61,7 @@ def test_replies_and_pages_have_it(project: Path, bridge: Bridge) -> None:
     path.write_text('averages = "averages.json"\n' + path.read_text())
     bridge.restart()
     assert value(bridge.call(request()), "user_expavg_credit") == "0.000000"
-    file_of(project / "averages.json", {("ann-key", "c1"): 8.0, ("ann-key", "c2"): 2.0}, time.time() + 60)
+    file_of(project / "averages.json", {("ann-key", "c1"): 8.0, ("ann-key", "c2"): 2.0}, time.time() + DAY)
     bridge.call(request(cpid="c2"))
     reply = bridge.call(request())
     assert (value(reply, "user_expavg_credit"), value(reply, "host_expavg_credit")) == (

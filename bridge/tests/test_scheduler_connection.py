@@ -23,7 +23,7 @@ def served(*pieces: bytes, pause: float = 0) -> Iterator[tuple[Address, list[byt
         def serve() -> None:
             connection, _ = listener.accept()
             with connection:
-                connection.settimeout(10)
+                connection.settimeout(60)
                 heard.append(connection.recv(65536))
                 try:
                     for piece in pieces:
@@ -43,13 +43,13 @@ def served(*pieces: bytes, pause: float = 0) -> Iterator[tuple[Address, list[byt
 def answer(*pieces: bytes, most: int = MOST) -> tuple[int, bytes]:
     """Returns what is read of an answer in pieces."""
     with served(*pieces) as (address, _):
-        return exchanged(address, b"GET / HTTP/1.1\r\n\r\n", 10, most)
+        return exchanged(address, b"GET / HTTP/1.1\r\n\r\n", 60, most)
 
 
 def test_a_message() -> None:
     with served(GOOD, b"answer!") as (address, heard):
         message = message_of(address, "POST", "/scheduler", b"{}", {"x-operator-key": "k"})
-        assert exchanged(address, message, 10, MOST) == (200, b"answer!")
+        assert exchanged(address, message, 60, MOST) == (200, b"answer!")
     port = str(address.port).encode()
     assert heard == [
         b"POST /scheduler HTTP/1.1\r\nhost: 127.0.0.1:" + port + b"\r\nx-operator-key: k\r\n"
@@ -69,7 +69,7 @@ def test_an_answer_in_pieces_of_any_size(size: int) -> None:
 def test_a_body_in_uneven_pieces(sizes: tuple[int, ...]) -> None:
     head = b"HTTP/1.1 200 OK\r\ncontent-length: 101\r\n\r\n"
     with served(head, *(b"x" * size for size in sizes), pause=0.05) as (address, _):
-        assert exchanged(address, b"GET / HTTP/1.1\r\n\r\n", 10, MOST) == (200, b"x" * 101)
+        assert exchanged(address, b"GET / HTTP/1.1\r\n\r\n", 60, MOST) == (200, b"x" * 101)
 
 
 def test_bytes_after_the_body_are_ignored() -> None:
@@ -132,4 +132,4 @@ def test_a_server_that_is_silent() -> None:
 
 def test_a_server_with_a_name() -> None:
     with served(GOOD, b"answer!") as (address, _):
-        assert exchanged(Address("localhost", address.port), b"x", 10, MOST) == (200, b"answer!")
+        assert exchanged(Address("localhost", address.port), b"x", 60, MOST) == (200, b"answer!")

@@ -17,7 +17,7 @@ def without_pauses(monkeypatch: pytest.MonkeyPatch) -> None:
 
 def test_the_scheduler_of_another_project_gets_no_call(twin: Twin, caplog: pytest.LogCaptureFixture) -> None:
     caplog.set_level(logging.ERROR)
-    bridge = Scheduler(twin.address, 2, "another-key")
+    bridge = Scheduler(twin.address, 60, "another-key")
     for _ in range(2):
         with pytest.raises(NoAnswer, match="refuses operator_key"):
             bridge.call(asking_call("ann-key", "c1", 1))
@@ -27,7 +27,7 @@ def test_the_scheduler_of_another_project_gets_no_call(twin: Twin, caplog: pytes
 
 def test_its_own_scheduler_is_asked_once(twin: Twin, monkeypatch: pytest.MonkeyPatch) -> None:
     twin.statement = None
-    bridge = Scheduler(twin.address, 2, "change-this-key")
+    bridge = Scheduler(twin.address, 60, "change-this-key")
     asked: list[str] = []
     knows = bridge.knows_key
 
@@ -45,7 +45,7 @@ def test_its_own_scheduler_is_asked_once(twin: Twin, monkeypatch: pytest.MonkeyP
 
 
 def test_a_program_that_is_no_scheduler(twin: Twin, monkeypatch: pytest.MonkeyPatch) -> None:
-    bridge = Scheduler(twin.address, 2, "change-this-key")
+    bridge = Scheduler(twin.address, 60, "change-this-key")
     monkeypatch.setattr(twin, "statement", "<html>")
     with pytest.raises(NoAnswer, match="no answer of bsched"):
         bridge.call(asking_call("ann-key", "c1", 1))
@@ -53,12 +53,12 @@ def test_a_program_that_is_no_scheduler(twin: Twin, monkeypatch: pytest.MonkeyPa
 
 
 def test_a_statement_shows_that_the_key_is_known(twin: Twin) -> None:
-    assert Scheduler(twin.address, 2).knows_key(
+    assert Scheduler(twin.address, 60).knows_key(
         "change-this-key"
     )  # this twin has a statement for each number
     twin.statement = None
-    assert Scheduler(twin.address, 2).knows_key("change-this-key")
-    assert not Scheduler(twin.address, 2).knows_key("another")
+    assert Scheduler(twin.address, 60).knows_key("change-this-key")
+    assert not Scheduler(twin.address, 60).knows_key("another")
 
 
 def test_a_question_about_a_host_changes_nothing() -> None:
@@ -72,7 +72,7 @@ def test_a_question_about_a_host_changes_nothing() -> None:
 
 
 def test_answers_that_are_none(twin: Twin, monkeypatch: pytest.MonkeyPatch) -> None:
-    bridge = Scheduler(twin.address, 2)
+    bridge = Scheduler(twin.address, 60)
     twin.import_faults = ["garbage"]
     with pytest.raises(NoAnswer, match="no answer of bsched"):
         bridge.import_accounts("first", b"authenticator,name\n", "change-this-key")

@@ -10,6 +10,7 @@ from pathlib import Path
 from typing import cast
 
 import pytest
+from joining import wait_until
 
 from bsched_bridge.call_numbers import CallNumbers
 from bsched_bridge.descriptions import Description
@@ -326,10 +327,7 @@ def test_a_write_waits_for_a_second_at_most(tmp_path: Path, monkeypatch: pytest.
     writing = WaitingWrites(file)
     writing.start()
     file.put_off("a", last_hostid(1))
-    for _ in range(1000):
-        if file.waiting("a") is None:
-            break
-        time.sleep(0.01)
+    wait_until(lambda: file.waiting("a") is None)
     assert stored(tmp_path / "state.db") == 1
     monkeypatch.setattr("bsched_bridge.state_file.PUT_OFF_SECONDS", 600.0)
     time.sleep(0.05)

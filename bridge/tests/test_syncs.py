@@ -13,6 +13,12 @@ from messages import FIRST, request
 LEVELS = {1: "NORMAL", 2: "FULL"}  # as SQLite numbers them
 
 
+@pytest.fixture(autouse=True)
+def one_day(monkeypatch: pytest.MonkeyPatch) -> None:
+    """Lets it be noon: the first call of a day does more than others."""
+    monkeypatch.setattr("time.time", lambda: 20_000.5 * 86400)
+
+
 @pytest.fixture
 def events(monkeypatch: pytest.MonkeyPatch) -> Callable[..., Any]:
     """Yields a function that returns what a bridge does from now on: SQL statements and messages to

@@ -51,7 +51,7 @@ def places(text: str) -> set[str]:
 def extracted(tmp_path_factory: pytest.TempPathFactory) -> Path:
     """The texts in the sources as they are now."""
     path = tmp_path_factory.mktemp("texts") / "bsched.pot"
-    subprocess.run([BRIDGE / "extract_texts", path], check=True, capture_output=True, timeout=120)
+    subprocess.run([BRIDGE / "extract_texts", path], check=True, capture_output=True, timeout=600)
     return path
 
 
@@ -92,7 +92,7 @@ def test_a_translation_keeps_what_is_no_word(source: Path) -> None:
 def test_a_package_can_compile_it(source: Path, tmp_path: Path) -> None:
     """debian/rules compiles it so."""
     command = ["msgfmt", "--check", f"--output-file={tmp_path / 'bsched.mo'}", str(source)]
-    subprocess.run(command, check=True, timeout=60)
+    subprocess.run(command, check=True, timeout=600)
     with (tmp_path / "bsched.mo").open("rb") as file:
         assert gettext.GNUTranslations(file).gettext(NUMBER) == texts_of(source)[NUMBER].string
 

@@ -1,6 +1,7 @@
 """What the upload handler answers, and what it stores."""
 import io
 import os
+import shutil
 import subprocess
 import threading
 import xml.etree.ElementTree as ElementTree
@@ -171,6 +172,7 @@ def test_odd_and_forged_messages_store_nothing(file_bridge: Bridge) -> None:
     assert sent(file_bridge, upload("u1_0_0", DATA, tokens["u1_0_0"])) == DONE  # the good one still comes
 
 
+FIXTURE = hypothesis.HealthCheck.function_scoped_fixture
 PIECES = [
     b"<name>",
     b"</name>",
@@ -197,7 +199,7 @@ PIECES = [
 
 @hypothesis.settings(
     max_examples=200,
-    suppress_health_check=[hypothesis.HealthCheck.function_scoped_fixture],
+    suppress_health_check=[*hypothesis.settings().suppress_health_check, FIXTURE],
     deadline=None,
     database=None,
 )
@@ -244,7 +246,10 @@ def test_without_output_files_nothing_is_uploaded(bridge: Bridge) -> None:
 # ---- Several at once, and too little room
 
 
-def test_thirty_uploads_under_one_name_leave_one_file(file_bridge: Bridge) -> None:
+def test_thirty_uploads_under_one_name_leave_one_file(
+    file_bridge: Bridge, monkeypatch: pytest.MonkeyPatch
+) -> None:
+    monkeypatch.setattr("bsched_bridge.upload_tables.SECONDS", 600.0)  # a slow disk may take long
     tokens = given(file_bridge)
     answers: list[int] = []
     store = file_bridge.application.uploads
@@ -297,8 +302,8 @@ def test_the_folder_has_a_limit(file_bridge: Bridge, caplog: pytest.LogCaptureFi
 
 def test_a_disk_with_too_little_room(file_bridge: Bridge, monkeypatch: pytest.MonkeyPatch) -> None:
     tokens = given(file_bridge)
-    free = os.statvfs(file_bridge.folder).f_bavail * os.statvfs(file_bridge.folder).f_frsize
-    settings = replace(file_bridge.store.settings, free_bytes=free + 10**6)
+    whole = shutil.disk_usage(file_bridge.folder).total  # others may free some of it meanwhile
+    settings = replace(file_bridge.store.settings, free_bytes=whole + 1)
     monkeypatch.setattr(file_bridge.store, "settings", settings)
     message = upload("u1_0_0", DATA, tokens["u1_0_0"])
     assert sent(file_bridge, message) == AGAIN

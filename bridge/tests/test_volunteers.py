@@ -305,19 +305,16 @@ def test_the_status_is_read_anew_while_the_older_one_is_shown(
     statements: Any = bridge.application.statements
     page_of(bridge.got("/p/status"))
     bridge.call(request())
+    threads = threading.active_count()  # other tests may have left some
     statements._kept = statements._kept[0], time.monotonic() - 1
     assert "Ann" not in page_of(bridge.got("/p/status")).text  # a thread reads it now
     with statements._lock:
         pass
-    for _ in range(100):
-        if "Ann" in page_of(bridge.got("/p/status")).text:
-            break
-        time.sleep(0.05)
     assert "Ann" in page_of(bridge.got("/p/status")).text
     bridge.call(request(key="bob-key", cpid="c2"))
     statements._kept = statements._kept[0], time.monotonic() - 601
     assert "Bob" in page_of(bridge.got("/p/status")).text  # what is old is not shown
-    assert threading.active_count() < 20
+    assert threading.active_count() < threads + 10
 
 
 # ---- Credit by days

@@ -8,7 +8,7 @@ from pathlib import Path
 
 from served import NotStarted, start, stop
 
-START_SECONDS, ORDER_SECONDS = 30, 120
+START_SECONDS, ORDER_SECONDS = 120, 120
 BRIDGE = Path(__file__).resolve().parent.parent
 PACKAGES = f"{BRIDGE}:{BRIDGE.parent / 'tools'}"  # the tools open the archives of a bridge
 CLIENT_OPTIONS = ["--allow_multiple_clients", "--skip_cpu_benchmarks", "--no_gpus", "--no_info_fetch"]
