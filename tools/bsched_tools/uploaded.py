@@ -20,9 +20,9 @@ from .workunits import Workunit
 APPLICATION_ID = 0x62736375  # of uploads.db
 BUSY_SECONDS = 10.0
 FILES = "SELECT open_name, nbytes, sha256 FROM file WHERE result = ?1 ORDER BY place"
-# a line of an output: it names a file even if its row is lost
+# a line of an output: it names a file even if its row is lost. A volunteer can write such lines, too
 LINE = re.compile(
-    r"(?P<name>[A-Za-z0-9_][A-Za-z0-9_.+-]*) sha256:(?P<sha256>[0-9a-f]{64}) (?P<nbytes>[0-9]{1,18})"
+    r"(?P<name>[A-Za-z0-9_][A-Za-z0-9_.+-]{0,127}) sha256:(?P<sha256>[0-9a-f]{64}) (?P<nbytes>[0-9]{1,18})"
 )
 
 
@@ -57,8 +57,10 @@ class Uploads:
             raise Fault(f"{self.folder / 'uploads.db'}: {error}") from None
         if not rows:
             found = (LINE.fullmatch(line) for line in output.split("\n"))
-            rows = [(one["name"], int(one["nbytes"]), one["sha256"]) for one in found if one]
-            rows = [row for row in rows if self._path(row[2]).exists()]
+            named = [(one["name"], int(one["nbytes"]), one["sha256"]) for one in found if one]
+            # of two lines with one name the first counts
+            first = {row[0]: row for row in reversed(named) if self._path(row[2]).exists()}
+            rows = [row for row in named if first.get(row[0]) is row]
         return [UploadedFile(name, nbytes, sha256, self._path(sha256)) for name, nbytes, sha256 in rows]
 
     def _path(self, sha256: str) -> Path:
@@ -111,10 +113,11 @@ def place(files: list[UploadedFile], unit: Workunit, target: Path) -> None:
 
 
 def link_or_copy(path: Path, new: Path) -> None:
-    """Makes a hard link to a file, or a copy that is on the disk when it returns."""
+    """Makes a hard link to a file, or a copy that is on the disk when it returns. What is there already may
+    be a link to another file of the bridge, so it is not written."""
     try:
         os.link(path, new)
-    except FileNotFoundError:
+    except (FileNotFoundError, FileExistsError):
         raise
     except OSError:
         shutil.copyfile(path, new)

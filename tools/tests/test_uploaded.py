@@ -14,6 +14,7 @@ from bsched_bridge.upload_tables import UploadTables
 from bsched_tools import uploaded
 from bsched_tools.faults import Fault
 from bsched_tools.projects import Project
+from bsched_tools.workunits import Workunit
 
 
 def content(folder: Path, data: bytes) -> str:
@@ -51,6 +52,11 @@ def uploads(tmp_path: Path, tables: Path) -> Path:
 def files_below(folder: Path) -> dict[str, str]:
     """Returns the contents of the files in the folders of a folder."""
     return {str(path.relative_to(folder)): path.read_text() for path in folder.glob("*/*")}
+
+
+def content_of(folder: Path, sha256: str) -> bytes:
+    """Returns the content that the store has under a SHA-256."""
+    return (folder / "store" / sha256).read_bytes()
 
 
 def expected(lines: list[dict[str, Any]]) -> dict[str, str]:
@@ -119,6 +125,38 @@ def test_an_output_names_files_whose_rows_are_lost(tables: Path, uploads: Path) 
     with uploaded.uploads_in(uploads) as opened:
         assert [(file.name, file.nbytes) for file in opened.files_of("none_0", output)] == [("out", 4)]
         assert opened.files_of("none_0", "5050") == []
+
+
+def test_an_output_that_names_a_file_twice_changes_no_stored_file(
+    uploads: Path, tables: Path, tmp_path: Path
+) -> None:
+    """A volunteer writes what it likes to standard error, so an output may look like that of two files."""
+    stored = {data: content(uploads, data) for data in (b"one", b"two")}
+    output = "\n".join(f"out sha256:{sha256} 3" for sha256 in stored.values())
+    unit = Workunit(1, "w", "app", 0, None, "w_0", output)
+    with uploaded.uploads_in(uploads) as opened:
+        files = opened.files_of("w_0", output)
+        uploaded.place(files, unit, tmp_path)
+    assert (tmp_path / "w" / "out").read_bytes() == b"one"
+    for data, sha256 in stored.items():
+        assert content_of(uploads, sha256) == data
+
+
+def test_a_file_that_is_there_is_never_written(uploads: Path, tables: Path, tmp_path: Path) -> None:
+    sha256, other = content(uploads, b"one"), content(uploads, b"two")
+    new = tmp_path / "out"
+    uploaded.link_or_copy(uploads / "store" / sha256, new)
+    with pytest.raises(FileExistsError):
+        uploaded.link_or_copy(uploads / "store" / other, new)
+    assert content_of(uploads, sha256) == b"one"
+
+
+def test_an_output_with_a_name_that_no_file_can_have_names_none(uploads: Path, tables: Path) -> None:
+    sha256 = content(uploads, b"data")
+    with uploaded.uploads_in(uploads) as opened:
+        for length, count in ((128, 1), (129, 0), (300, 0)):
+            output = f"{'n' * length} sha256:{sha256} 4"
+            assert len(opened.files_of("none_0", output)) == count
 
 
 @pytest.mark.parametrize("name, folder", [("w1", "w1"), (".", "+."), ("..", "+.."), (".hidden", "+.hidden")])
