@@ -14,7 +14,7 @@ from .copying import copy_tables
 from .counts import as_json, as_lines, as_metrics, counted
 from .doctor import examined
 from .exports import export
-from .faults import Fault
+from .faults import Ended, Fault
 from .files import replace_file
 from .handing import hand_on
 from .health import findings_of, mail_changes, worst_of, write_findings
@@ -289,8 +289,8 @@ def print_lines(lines: Iterable[str]) -> None:
 
 
 def end_by_signal(number: int, _frame: FrameType | None) -> NoReturn:
-    """Handles a signal to end. The fault that it raises lets the command clean up first."""
-    raise Fault(f"ended by {signal.Signals(number).name}")
+    """Handles a signal to end. What it raises lets the command clean up first."""
+    raise Ended(f"ended by {signal.Signals(number).name}")
 
 
 def main() -> int:
@@ -303,7 +303,7 @@ def main() -> int:
     try:
         status = COMMANDS[args.command](args)
         sys.stdout.flush()
-    except Fault as fault:
+    except (Fault, Ended) as fault:
         print(f"{NAME}: {fault}", file=sys.stderr)
         return FAULT
     except OSError as error:

@@ -1,4 +1,4 @@
-"""The faults that end a command, or a step of it."""
+"""What ends a command, or a step of it."""
 
 
 class Fault(Exception):
@@ -7,3 +7,7 @@ class Fault(Exception):
 
 class Retry(Exception):
     """Raised if another process was in the way for a moment. The same step may succeed at the next try."""
+
+
+class Ended(BaseException):
+    """Raised if a signal ends the command. What continues after a fault does not continue after this."""

@@ -4,6 +4,7 @@ import io
 import json
 import os
 import shutil
+import signal
 import socket
 import sys
 from collections.abc import Callable, Iterator
@@ -295,6 +296,28 @@ def test_many_workunits_are_several_batches(
         for name, in rows_of(work.folder / "project.db", "SELECT name FROM batch WHERE kind = 'workunits'")
     ]
     assert names == ["b1", "run-1", "run-2", "run-3", "run-4"] and len(units(work)) == 30
+
+
+@pytest.mark.parametrize("number", [signal.SIGINT, signal.SIGTERM])
+def test_a_signal_while_the_tables_are_copied_ends_the_command(
+    work: WorkProject,
+    monkeypatch: pytest.MonkeyPatch,
+    capsys: pytest.CaptureFixture[str],
+    number: signal.Signals,
+) -> None:
+    """It is no reason to go on with an older copy."""
+    work.make_inputs(2)
+    assert work.tools("copy")[0] == 0
+    before = work.state()
+
+    def copy(*_args: object) -> Any:
+        os.kill(os.getpid(), number)
+
+    monkeypatch.setattr(looks, "copy_tables", copy)
+    words = "submit", "--project", f"{work.folder}/", "--app", "count", "--batch", "run", work.inputs
+    ended = run_here(capsys, *words)
+    assert ended == (1, "", f"bsched-tools: ended by {number.name}\n")
+    assert work.state() == before
 
 
 # ---- Mistakes: each gets one clear line, and changes nothing
