@@ -119,7 +119,7 @@ def of_texts(batch: str, lines: list[tuple[str, str]]) -> list[Input]:
 def lines_in(path: Path) -> list[tuple[str, str]]:
     """Returns the lines of a file. Empty ones are left out."""
     try:
-        text = path.read_bytes().decode(encoding="utf-8")
+        text = path.read_bytes().decode(encoding="utf-8").removeprefix("\ufeff")
     except OSError as error:
         raise Fault(f"{path}: {error.strerror}") from None
     except UnicodeDecodeError as error:

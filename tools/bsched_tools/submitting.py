@@ -233,8 +233,8 @@ def is_staged(one: Input, place: Path) -> bool:
         raise Fault(f"{place}: {error.strerror}") from None
     wanted = (one.nbytes, one.sha256)
     nbytes, sha256 = digest_of(place)
-    if one.path is None and nbytes == one.nbytes + 1:
-        return place.read_bytes() == f"{one.shown}\n".encode()
+    if one.path is None and nbytes == one.nbytes + 1 and place.read_bytes() == f"{one.shown}\n".encode():
+        return True
     if (nbytes, sha256) != wanted:
         raise Fault(f"{place}: it is there with other bytes: choose another --batch")
     return True
@@ -248,14 +248,15 @@ def unstaged(plan: Plan) -> list[tuple[Input, Path]]:
 # ---- Staging
 
 
-def stage(project: Project, one: Input, place: Path) -> None:
-    """Puts an input into its place, whole or not at all: by a hard link, if the bridge may read the file."""
+def stage(project: Project, one: Input, place: Path) -> Path | None:
+    """Puts an input into its place by a hard link, if the bridge may read the file. Else writes a copy next
+    to it, and returns the copy, which gets its name once it is on the disk."""
     if one.path is not None:
         try:
             source = one.path.resolve()
             if is_readable(project, source):
                 os.link(source, place)
-                return
+                return None
         except OSError:
             pass
     new = place.with_name(f".{place.name}.part")
@@ -264,11 +265,11 @@ def stage(project: Project, one: Input, place: Path) -> None:
         with new_file(new, 0o640) as file:
             give_to_group(project, file.fileno())
             file.write(data)
-        os.rename(new, place)
     except OSError as error:
         raise Fault(
             f"{error.filename or place}: {error.strerror}: run the same command again later"
         ) from None
+    return new
 
 
 def is_readable(project: Project, path: Path) -> bool:
@@ -291,16 +292,21 @@ def write_record(project: Project, plan: Plan) -> None:
 
 
 def stage_all(project: Project, plan: Plan, left: list[tuple[Input, Path]]) -> None:
-    """Stages the inputs. All of them are on the disk when it returns."""
-    bar = Bar("staging the inputs")
+    """Stages the inputs. All of them are on the disk when it returns. Copies get their names after a sync, so
+    no power failure leaves a part of one under its name."""
+    bar, copies = Bar("staging the inputs"), list[tuple[Path, Path]]()
     try:
         if plan.inputs[0].path is None:
             made_for_group(project, plan.folder)
         for number, (one, place) in enumerate(left, 1):
-            stage(project, one, place)
+            if (new := stage(project, one, place)) is not None:
+                copies.append((new, place))
             bar.seen(number, len(left))
     finally:
         bar.end()
+    os.sync()
+    for new, place in copies:
+        os.rename(new, place)
     os.sync()
 
 

@@ -5,6 +5,7 @@ import sys
 import time
 from collections.abc import Callable, Iterable
 
+from .amounts import MOST_CREDIT
 from .apps import LINE_FOLDER, NewApp, add_app, input_member, output_member, read_files
 from .bars import Bar
 from .catalogue_file import CatalogueFile
@@ -73,6 +74,17 @@ def submit(args: Arguments, printed: Printer) -> None:
         printed(submit_work(project, plan_of(args, project), args.dry_run))
 
 
+def credit_of(args: Arguments) -> float:
+    """Returns the credit of each result: what the command line says, or by the hours."""
+    if args.credit is not None:
+        return float(args.credit)
+    credit = round(float(args.hours) * CREDIT_OF_HOUR, 3)
+    if credit > MOST_CREDIT:
+        says = f"by the hours a result gets more than {MOST_CREDIT:,.0f} credits: give --credit"
+        raise Fault(f"--hours {args.hours:g}: {says}")
+    return credit
+
+
 def plan_of(args: Arguments, project: Project) -> Plan:
     """Returns the batch of work that the command line asks for."""
     catalogue = CatalogueFile(project)
@@ -84,7 +96,7 @@ def plan_of(args: Arguments, project: Project) -> Plan:
         application.memory if args.memory is None else args.memory,
         application.disk if args.disk is None else args.disk,
         args.quorum,
-        round(args.hours * CREDIT_OF_HOUR, 3) if args.credit is None else args.credit,
+        credit_of(args),
     )
     folder, places = places_of(catalogue, application, inputs)
     plan = Plan(args.batch, application, amounts, inputs, folder, places)

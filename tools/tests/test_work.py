@@ -263,6 +263,8 @@ def test_command_lines(bare: WorkProject, tmp_path: Path) -> None:
     output = bare.submit("--lines", lines)[1]
     assert "  run_1: -x 1\n  run_2: -y 'a b'\n" in output
     assert (bare.bridge / "lines" / "run_2").read_text() == "-y 'a b'\n"
+    lines.write_bytes(b"\xef\xbb\xbf-x 1\r\n-x 2\r\n")  # as Windows writes it
+    assert "  win_1: -x 1\n  win_2: -x 2\n" in bare.submit("--lines", lines, batch="win")[1]
     sweep = "--sweep", "a=8..11", "--sweep", "size=x,-1..0"
     output = bare.submit(*sweep, batch="all")[1]
     assert (
@@ -271,7 +273,7 @@ def test_command_lines(bare: WorkProject, tmp_path: Path) -> None:
     )
     assert "and 12 were there before" in bare.submit(*sweep, batch="all")[1]
     bare.end()
-    assert len(units(bare)) == 14
+    assert len(units(bare)) == 16
     for line in ("a=1,2,3 4", "a", "a=", "=3", "a=5..1", "a=1..999999"):
         status, output, fault = bare.submit("--sweep", line, batch="no")
         assert (
@@ -444,6 +446,25 @@ def test_names_that_are_taken(work: WorkProject) -> None:
     is_refused(work, work.submit(work.inputs, batch="new"), fault, before)
 
 
+def test_a_command_line_is_never_replaced(bare: WorkProject) -> None:
+    """The record of the batch is lost, and the other line has as many bytes."""
+    assert bare.app("--command-lines")[0] == 0
+    assert bare.submit("--sweep", "a=1")[0] == 0
+    (bare.folder / "submitted" / "run.json").unlink()
+    before = bare.state()
+    fault = "lines/run_1: it is there with other bytes: choose another --batch"
+    is_refused(bare, bare.submit("--sweep", "a=2"), fault, before)
+    assert "and 1 were there before" in bare.submit("--sweep", "a=1")[1]
+
+
+def test_hours_that_give_more_credit_than_a_result_can(work: WorkProject) -> None:
+    work.make_inputs(1)
+    before = work.state()
+    fault = "--hours 3001: by the hours a result gets more than 100,000 credits: give --credit"
+    is_refused(work, work.submit("--hours", "3001", work.inputs), fault, before)
+    assert work.submit("--hours", "10000", "--credit", "100000", work.inputs)[0] == 0
+
+
 def test_no_room_is_left(
     work: WorkProject, monkeypatch: pytest.MonkeyPatch, capsys: pytest.CaptureFixture[str]
 ) -> None:
@@ -589,6 +610,31 @@ def test_a_stop_at_each_step(
     assert sorted(units(work)) == sorted(
         f"s{batch}_part_{number:05}.txt" for batch in range(stopped + 1) for number in range(1, 7)
     )
+
+
+def test_a_copy_of_an_input_is_on_the_disk_before_it_has_its_name(
+    work: WorkProject, monkeypatch: pytest.MonkeyPatch, capsys: pytest.CaptureFixture[str]
+) -> None:
+    """Else a power failure leaves an empty file under the name, and the same command refuses it."""
+    for path in work.make_inputs(2).iterdir():
+        path.chmod(0o600)
+    steps: list[object] = []
+    renamed, synced = os.rename, os.sync
+
+    def rename(old: Path, new: Path) -> None:
+        if new.parent == work.files:
+            steps.append(new.name)
+        renamed(old, new)
+
+    def sync() -> None:
+        steps.append([path.stat().st_size for path in sorted(work.files.glob(".run_*"))])
+        synced()
+
+    monkeypatch.setattr(os, "rename", rename)
+    monkeypatch.setattr(os, "sync", sync)
+    words = "submit", "--project", f"{work.folder}/", "--app", "count", "--batch", "run", work.inputs
+    assert run_here(capsys, *words)[0] == 0
+    assert steps == [[20, 20], "run_part_00001.txt.in", "run_part_00002.txt.in", []]
 
 
 def test_a_stop_of_app_at_each_step(
