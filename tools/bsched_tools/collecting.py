@@ -7,8 +7,6 @@ DIR/.collected        the cursor: a folder that was removed after it was read do
 
 Both tables are written anew by each run. The cursor is written last.
 """
-import csv
-import io
 from collections.abc import Iterator
 from contextlib import ExitStack
 from dataclasses import dataclass, field
@@ -20,7 +18,7 @@ from .files import replace_file, sync
 from .looks import Look
 from .progress import names_in_batch
 from .projects import Project
-from .results import Line, lines_of
+from .results import Line, csv_text, lines_of
 from .submitting import read_record
 from .tables import Tables, all_opened
 from .uploaded import UploadedFile, Uploads, place, uploads_in
@@ -73,9 +71,7 @@ def row_of(unit: Workunit, shown: str, files: list[UploadedFile]) -> tuple[str, 
 
 def csv_bytes(columns: tuple[str, ...], rows: list[tuple[str, ...]]) -> bytes:
     """Returns rows as comma-separated values."""
-    file = io.StringIO()
-    csv.writer(file, lineterminator="\n").writerows([columns, *rows])
-    return file.getvalue().encode()
+    return csv_text([columns, *rows]).encode()
 
 
 class Collector:

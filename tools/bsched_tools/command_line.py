@@ -8,6 +8,7 @@ from typing import NoReturn
 from .work_options import add_work
 
 BAD_COMMAND_LINE = 64
+MOST_COUNT = 10**18 - 1  # SQLite has no much larger numbers
 NAME = "bsched-tools"
 COPIES = "copies of the tables; a folder means its newest copy"
 A_COPY = "a copy of the tables; a folder means its newest copy"
@@ -30,9 +31,10 @@ def version() -> str:
 
 
 def count(text: str) -> int:
-    """Reads a whole number that is at least 1."""
-    if not (text.isascii() and text.isdigit()) or int(text) < 1:
-        raise argparse.ArgumentTypeError(f"{text} is not a whole number of at least 1")
+    """Reads a whole number that is at least 1, and that SQLite can have."""
+    is_number = text.isascii() and text.isdigit() and len(text) <= len(str(MOST_COUNT))
+    if not is_number or int(text) < 1:
+        raise argparse.ArgumentTypeError(f"{text[:40]} is not a whole number from 1 to {MOST_COUNT}")
     return int(text)
 
 

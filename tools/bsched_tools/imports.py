@@ -4,10 +4,8 @@ A file becomes batches of at most MOST_BATCH bytes, since the scheduler answers 
 The name of a batch is made from its bytes. So the same file can be imported again after any stop: what was
 imported gets its answer again and adds nothing.
 """
-import csv
 import hashlib
 import http.client
-import io
 import json
 import os
 import re
@@ -21,6 +19,7 @@ from typing import Any
 from .faults import Fault
 from .import_files import MOST_BYTES, ImportFile, Row
 from .projects import PROGRAM, Project
+from .results import csv_text
 
 MOST_BATCH = 262_144  # bytes; a megabyte stops serving for more than a second
 ANSWER_SECONDS = 120.0
@@ -45,9 +44,7 @@ class Batch:
 
 def text_of(header: list[str], rows: list[Row]) -> bytes:
     """Returns records as comma-separated values."""
-    file = io.StringIO()
-    csv.writer(file, lineterminator="\n").writerows([header, *(row.fields for row in rows)])
-    return file.getvalue().encode()
+    return csv_text([header, *(row.fields for row in rows)]).encode()
 
 
 def batches_of(file: ImportFile, name: str | None) -> Iterator[Batch]:
@@ -112,7 +109,9 @@ class Sender:
         with tempfile.NamedTemporaryFile(prefix="bsched-import-") as file:
             file.write(batch.text)
             file.flush()
-            os.fchmod(file.fileno(), 0o644)
+            owner = self.project.as_owner()
+            if owner:  # nobody else may read it: a file of accounts has keys
+                os.fchown(file.fileno(), owner["user"], owner["group"])
             args = ["import", "--tables", str(self.project.tables), "--kind", kind, "--batch", batch.name]
             try:
                 completed = subprocess.run(
@@ -121,7 +120,7 @@ class Sender:
                     text=True,
                     timeout=10 * ANSWER_SECONDS,
                     stdin=subprocess.DEVNULL,
-                    **self.project.as_owner(),
+                    **owner,
                 )
             except (OSError, subprocess.TimeoutExpired) as error:
                 raise Fault(f"{PROGRAM}: {getattr(error, 'strerror', None) or error}") from None

@@ -44,10 +44,14 @@ class Line:
 
 
 def csv_text(rows: Iterable[Iterable[object]]) -> str:
-    """Returns rows as comma-separated values."""
-    file = io.StringIO()
-    csv.writer(file, lineterminator="\n").writerows(rows)
-    return file.getvalue()
+    """Returns rows as comma-separated values. Python quotes a field with a carriage return only if the end of
+    a row has one, and many readers end a row there."""
+    texts = []
+    for row in rows:
+        file = io.StringIO()
+        csv.writer(file, lineterminator="\r\n").writerow(row)
+        texts.append(file.getvalue().removesuffix("\r\n") + "\n")
+    return "".join(texts)
 
 
 def as_csv(line: Line) -> str:

@@ -67,6 +67,32 @@ def test_an_import_by_the_program(
     assert len(lines) == 1 and count_of(project, "unit") == 21
 
 
+SHOWN_MODE = """#!/bin/sh
+while [ "$1" != --file ]; do shift; done
+printf '{"rows": 1, "mode": "%s", "head": "%s"}' "$(stat -c %a "$2")" "$(head -n 1 "$2")"
+"""
+
+
+@pytest.mark.parametrize("owner", [None, 65534])
+def test_nobody_else_can_read_a_file_that_the_program_imports(
+    project: MadeProject, tmp_path: Path, monkeypatch: pytest.MonkeyPatch, owner: int | None
+) -> None:
+    """A file of accounts has keys. As root the program runs as the user who has the project."""
+    program = tmp_path / "program"
+    program.write_text(SHOWN_MODE)
+    program.chmod(0o755)
+    if owner is not None:
+        if os.geteuid() != 0:
+            pytest.skip("only root can become another user")
+        for folder in (tmp_path, *tmp_path.parents[:2]):
+            folder.chmod(0o755)
+        os.chown(project.folder, owner, owner)
+    monkeypatch.setattr(imports, "PROGRAM", program)
+    batch = imports.Batch("b", b"authenticator,name\nk,Ann\n", [])
+    answer = imports.Sender(projects.Project(project.folder)).by_program("accounts", batch)
+    assert answer == {"rows": 1, "mode": "600", "head": "authenticator,name"}
+
+
 @pytest.mark.parametrize(
     "names, app, wanted",
     [
@@ -81,6 +107,16 @@ def test_what_bsched_refuses(
     path = workunits(tmp_path / "more.csv", names, app)
     status, output, fault = project.tools("import", path)
     assert (status, output, fault) == (1, "", f"bsched-tools: {path}: {wanted}\n")
+
+
+def test_a_name_with_a_carriage_return_is_imported(project: MadeProject, tmp_path: Path) -> None:
+    project.serve()
+    path = tmp_path / "accounts.csv"
+    path.write_bytes(b'authenticator,name\nodd-key,"A\rB"\n')
+    assert project.tools("import", path)[0] == 0
+    project.end()
+    query = "SELECT name FROM account WHERE auth = 'odd-key'"
+    assert rows_of(project.folder / "project.db", query) == [("A\rB",)]
 
 
 def test_a_faulty_file_imports_nothing(project: MadeProject, tmp_path: Path) -> None:
@@ -335,6 +371,12 @@ def test_defaults_of_the_settings_of_units(tmp_path: Path) -> None:
     assert (units.copies, units.copies_kept) == (Path("/var/backups/bsched/sums"), 48)
     assert units.page == Path("/var/lib/bsched-web/sums/report") and not units.is_everybody_named
     assert units.statistics == Path("/var/lib/bsched-web/sums/stats") and units.mail == ""
+
+
+def test_a_number_that_no_computer_can_have(project: MadeProject) -> None:
+    for number in ("0", "9" * 19, "9" * 5000):
+        status, output, fault = project.tools("host", number)
+        assert (status, output) == (64, "") and fault.splitlines()[-1].startswith("bsched-tools")
 
 
 def test_what_is_no_project(tmp_path: Path) -> None:

@@ -369,3 +369,12 @@ def test_the_command_line(tmp_path: Path) -> None:
     )
     assert tools("results", "--tables", path, "--cursor", "x", "--after", "y")[0] == 64
     assert tools("results")[0] == 64
+
+
+def test_a_field_with_a_carriage_return_is_quoted() -> None:
+    """Many readers end a row there."""
+    rows: list[list[object]] = [["w1", "5\r6"], ["w2", "5\r\n6"], ["w3", 'a "b", c'], ["", 7]]
+    text = results.csv_text(rows)
+    assert text == 'w1,"5\r6"\nw2,"5\r\n6"\nw3,"a ""b"", c"\n,7\n'
+    read = list(csv.reader(io.StringIO(text, newline="")))
+    assert read == [[str(value) for value in row] for row in rows]
