@@ -132,12 +132,15 @@ class Teams:
             connection.execute("UPDATE member SET team = ? WHERE id = ?", (number, member.id))
 
     def join(self, member: Member, text: str) -> None:
-        """Lets a user join the team with a name or a number."""
+        """Lets a user join the team with a name or a number. The number counts first, since a name can be
+        chosen so that it is the number of another team.
+        """
         name = clean_name(text)
         with self.file.transaction() as connection:
             require_no_team(connection, member)
             row = connection.execute(
-                "SELECT id FROM team WHERE folded = ?1 OR CAST(id AS TEXT) = ?2 ORDER BY folded = ?1 DESC",
+                "SELECT id, CAST(id AS TEXT) = ?2 AS is_number FROM team WHERE folded = ?1 OR is_number "
+                "ORDER BY is_number DESC",
                 (fold(name), name),
             ).fetchone()
             if row is None:

@@ -103,6 +103,18 @@ def test_a_user_is_in_one_team(open_bridge: Bridge) -> None:
     assert "Teams: 2." in page_of(open_bridge.got("/p/teams")).text
 
 
+def test_the_number_of_a_team_leads_to_it_whatever_others_are_called(open_bridge: Bridge) -> None:
+    """A name can be chosen so that it is the number of another team, and a number can't."""
+    (ann, _), (bob, _), (cid, _) = accounts(open_bridge, 3)
+    acted(open_bridge, ann, "make", team="A")
+    acted(open_bridge, bob, "make", team="1")
+    acted(open_bridge, cid, "join", team="1")
+    assert [open_bridge.members.of_key(key).team for key in (ann, bob, cid)] == [1, 2, 1]
+    acted(open_bridge, cid, "leave")
+    acted(open_bridge, cid, "join", team="2")
+    assert open_bridge.members.of_key(cid).team == 2
+
+
 def test_the_founder_removes_members(open_bridge: Bridge) -> None:
     (ann, ann_id), (bob, bob_id), (cid, cid_id) = accounts(open_bridge, 3)
     acted(open_bridge, ann, "make", team="A")
