@@ -76,8 +76,8 @@ export_project() {
     bsched-bridge copy --config "$folder/bridge/bridge.toml" --to "$made/$project/bridge/bridge.db" > /dev/null ||
       fail "the state of the bridge can't be copied"
   fi
-  (umask 077 && tar -C "$made" -czf "$made/whole" "$project") && sync "$made/whole" && mv -n "$made/whole" "$target" ||
-    fail "$target can't be written"
+  (umask 077 && tar -C "$made" -czf "$made/whole" "$project") && sync "$made/whole" && mv -n "$made/whole" "$target" &&
+    [ ! -e "$made/whole" ] || fail "$target can't be written" # mv -n succeeds also if it moves nothing
   outside=$(paths_outside "$folder")
   rm -rf "$made"
   made=
@@ -149,8 +149,10 @@ import_project() {
   # the user bsched may have written other names into this file
   units=$(units_of "$project" | grep -xF -f "$made/enabled-units" 2> /dev/null)
   rm -f "$made/enabled-units"
-  mv -T "$made" "$PROJECTS/$project" || fail "$PROJECTS/$project can't be made"
+  # what its units answer must be there after a power failure
+  sync -f "$made" && mv -T "$made" "$PROJECTS/$project" || fail "$PROJECTS/$project can't be made"
   made=
+  sync "$PROJECTS" || fail "$PROJECTS can't be written to the disk"
   echo "$PROJECTS/$project is there."
   start_units "$project" "$units"
 }

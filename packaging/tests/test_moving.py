@@ -112,6 +112,31 @@ def test_files_that_are_not_copied_whole(
     assert not list(tmp_path.glob(".bsched-export-*"))
 
 
+def test_a_file_that_another_export_made_meanwhile(machines: tuple[Machine, Machine], tmp_path: Path) -> None:
+    """`mv -n` replaces nothing, and ends with status 0 all the same."""
+    first, _ = machines
+    file = tmp_path / "x.tar.gz"
+    stub = 'mv() { [ "$1" != -n ] || echo other > "${@: -1}"; command mv "$@"; }\n'
+    completed = first.make("export", "sums", str(file), stubs=MORE_STUBS + stub)
+    assert completed.returncode == 1 and "can't be written" in completed.stderr
+    assert file.read_text() == "other\n" and not list(tmp_path.glob(".bsched-export-*"))
+
+
+def test_an_import_is_on_the_disk_before_it_has_its_name(
+    machines: tuple[Machine, Machine], tmp_path: Path
+) -> None:
+    """The units that it starts answer, and what they answered must be there after a power failure."""
+    first, second = machines
+    file, steps = tmp_path / "x.tar.gz", tmp_path / "steps"
+    assert run(first, "export", "sums", str(file)).returncode == 0
+    stub = "".join(
+        f'{name}() {{ echo "{name} $1" >> {steps}; command {name} "$@"; }}\n' for name in ("mv", "sync")
+    )
+    completed = second.make("import", str(file), stubs=MORE_STUBS + stub)
+    assert (completed.returncode, completed.stderr) == (0, "")
+    assert steps.read_text().splitlines() == ["sync -f", "mv -T", f"sync {second.projects}"]
+
+
 def test_a_file_that_cannot_be_read(machines: tuple[Machine, Machine], tmp_path: Path) -> None:
     first, _ = machines
     (first.projects / "sums" / "bridge" / "files" / "sum_1").chmod(0)
