@@ -20,8 +20,9 @@ PAUSE_SECONDS = 0.05
 
 
 @contextmanager
-def turn(path: Path, seconds: float) -> Iterator[None]:
-    """Holds a file or a folder, so that one copy at a time has it. Others wait for this many seconds."""
+def turn(path: Path, seconds: float, other: str = "another copy is being made") -> Iterator[None]:
+    """Holds a file or a folder, so that one process at a time has it. Others wait for this many seconds, and
+    then say what the other one does."""
     descriptor = os.open(path, os.O_RDONLY)
     try:
         ends = time.monotonic() + seconds
@@ -31,7 +32,7 @@ def turn(path: Path, seconds: float) -> Iterator[None]:
                 break
             except BlockingIOError:
                 if time.monotonic() > ends:
-                    raise Fault(f"{path}: another copy is being made: try again later") from None
+                    raise Fault(f"{path}: {other}: try again later") from None
             time.sleep(PAUSE_SECONDS)
         yield
     finally:

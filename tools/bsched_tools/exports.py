@@ -198,7 +198,7 @@ def export(
         raise Fault(f"{folder}: no such folder: make it first")
     with ExitStack() as stack:
         all_tables = stack.enter_context(all_opened(paths, names))
-        stack.enter_context(turn(folder, TURN_SECONDS))
+        stack.enter_context(turn(folder, TURN_SECONDS, "another `statistics` is at work"))
         averages = Averages(averages_file or state_of(folder))
         moment = max(tables.moment for tables in all_tables)
         made = Export(averages, moment, agreed, teams)

@@ -21,7 +21,7 @@ def hand_on(project: Project, settings: UnitSettings, names: dict[str, str]) -> 
         raise Fault(f'{where}: write command = ["/path/of/your/program"] into its table [results]')
     folder = project.made(project.made(project.work, 0o700) / "results", 0o700)
     new = folder / "new"
-    with turn(folder, TURN_SECONDS):
+    with turn(folder, TURN_SECONDS, "another `process` is at work"):
         if not new.exists():
             write_results(
                 [*project.archives, settings.copies],

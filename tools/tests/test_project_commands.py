@@ -15,6 +15,7 @@ from bsched_bridge.members import Members, first_heard
 from bsched_bridge.state_file import StateFile
 from bsched_bridge.teams import Teams
 from bsched_tools import imports, projects
+from bsched_tools.copies import turn
 from bsched_tools.faults import Fault
 from bsched_tools.import_files import read_import
 
@@ -371,6 +372,17 @@ def test_defaults_of_the_settings_of_units(tmp_path: Path) -> None:
     assert (units.copies, units.copies_kept) == (Path("/var/backups/bsched/sums"), 48)
     assert units.page == Path("/var/lib/bsched-web/sums/report") and not units.is_everybody_named
     assert units.statistics == Path("/var/lib/bsched-web/sums/stats") and units.mail == ""
+
+
+def test_another_run_is_at_work(project: MadeProject, tmp_path: Path) -> None:
+    """Each command says what is in its way, and not that a copy is."""
+    (project.folder / "units.toml").write_text('[copy]\nfolder = "copies"\n[results]\ncommand = ["true"]\n')
+    assert project.tools("copy", "--to", project.folder / "one.db")[0] == 0
+    folder = project.folder / "units" / "results"
+    folder.mkdir(parents=True)
+    with turn(folder, 0):
+        fault = f"bsched-tools: {folder}: another `process` is at work: try again later\n"
+        assert project.tools("process") == (1, "", fault)
 
 
 def test_a_number_that_no_computer_can_have(project: MadeProject) -> None:
