@@ -5,8 +5,10 @@ A record of the batch is written, in the folder `submitted` of the project. The 
 that only this batch has, and synced. The workunits are imported. A batch of bsched with the same bytes is
 imported once, so a second run makes nothing twice. A batch whose record says something else is refused.
 """
+import io
 import json
 import os
+import shutil
 import stat
 from collections.abc import Iterator
 from dataclasses import dataclass
@@ -261,10 +263,10 @@ def stage(project: Project, one: Input, place: Path) -> Path | None:
             pass
     new = place.with_name(f".{place.name}.part")
     try:
-        data = f"{one.shown}\n".encode() if one.path is None else one.path.read_bytes()
-        with new_file(new, 0o640) as file:
-            give_to_group(project, file.fileno())
-            file.write(data)
+        with io.BytesIO(f"{one.shown}\n".encode()) if one.path is None else one.path.open("rb") as data:
+            with new_file(new, 0o640) as file:
+                give_to_group(project, file.fileno())
+                shutil.copyfileobj(data, file)
     except OSError as error:
         raise Fault(
             f"{error.filename or place}: {error.strerror}: run the same command again later"

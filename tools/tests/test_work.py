@@ -256,6 +256,24 @@ def test_inputs_that_the_bridge_may_not_read_are_copied(work: WorkProject) -> No
     assert staged.stat().st_mode & 0o777 == 0o640 and staged.read_text() == "1".rjust(20)
 
 
+def test_an_input_that_is_copied_is_never_in_memory_as_a_whole(
+    work: WorkProject, monkeypatch: pytest.MonkeyPatch, capsys: pytest.CaptureFixture[str]
+) -> None:
+    (path,) = work.make_inputs(1).iterdir()
+    path.chmod(0o600)
+    read = Path.read_bytes
+
+    def read_bytes(one: Path) -> bytes:
+        if one == path:
+            raise MemoryError
+        return read(one)
+
+    monkeypatch.setattr(Path, "read_bytes", read_bytes)
+    words = "submit", "--project", f"{work.folder}/", "--app", "count", "--batch", "run", work.inputs
+    assert run_here(capsys, *words)[0] == 0
+    assert (work.files / "run_part_00001.txt.in").read_text() == "1".rjust(20)
+
+
 def test_command_lines(bare: WorkProject, tmp_path: Path) -> None:
     assert bare.app("--command-lines", "--command-line=--fast")[0] == 0
     lines = tmp_path / "lines"
