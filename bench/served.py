@@ -35,9 +35,9 @@ def program_at(script: str, path: str) -> str:
 
 
 def free_port(first: int = 10_000, count: int = 22_000) -> int:
-    """Returns a port on which nothing listens, at no address, chosen from some ports. They are below those that
-    the system gives to clients: from one of these a client that waits for a server could connect to itself. No
-    port is returned twice."""
+    """Returns a port on which nothing listens, at no address, chosen from some ports. They are below those
+    that the system gives to clients: from one of these a client that waits for a server could connect to
+    itself. No port is returned twice."""
     while True:
         port = random.randrange(first, first + count)
         with socket.socket() as listener, contextlib.suppress(OSError):
