@@ -1,5 +1,5 @@
 -- Reports with the same output: what the first of them says, and what a report adds to the firsts.
-use Rattle.std.proofs.Common.{◌≡◌, ◌⊎◌, inl, inr, zero, suc, ℕ, ◌+◌, ◌<◌, ◌≤◌, Bool, true, false, cond, List, [], ◌∷◌, ◌++◌, length, take, drop, get_or, Option, None, Some, Less, Equal, Greater, ⊎_elim, sym, refl, ap, ◌∙◌, subst, arith}
+use Rattle.std.proofs.Common.{◌≡◌, ◌⊎◌, inl, inr, zero, suc, ℕ, ◌+◌, ◌<◌, ◌≤◌, Bool, true, false, cond, List, [], ◌∷◌, ◌++◌, length, take, drop, get_or, Option, None, Some, ℤ, Less, Equal, Greater, ⊎_elim, sym, refl, ap, ◌∙◌, subst, arith}
 use Rattle.std.specs.Prelude.{◌==◌, find, unwrap_or}
 use Rattle.std.specs.Bool.{one_answer}
 use Rattle.std.specs.Cmp.Lexicographic.{slice_cmp, nat_list_cmp_total}
@@ -20,7 +20,9 @@ use Rattle.std.proofs.lemmas.Option.{none-some, same_Some, cond_some}
 use Rattle.std.proofs.lemmas.Slice.Eq.{bytes_eq-Decides}
 use Rattle.sched_book.specs.Alike.{first_with, first_alike, AreFirsts}
 use Rattle.sched_book.specs.Count.{output_of}
+use Rattle.sched_book.specs.Near.{number_in}
 use Rattle.sched_book.specs.declared.instance.Instance.{Instance}
+use Rattle.sched_book.specs.declared.rows.Agreement.{Agreement}
 
 -- what is found passes the test
 found_passes : (p : ℕ → Bool) (is : List ℕ) (i : ℕ) → find p is ≡ Some i → p i ≡ true
@@ -56,7 +58,7 @@ module _ (xs : List Instance) where
   first_has : (reports : List ℕ) (text : List ℕ) (j : ℕ) → first_with xs reports text ≡ Some j → output_of xs j ≡ text
   first_has reports text j found = outputs_same j text (found_passes (λ i. bytes_eq (output_of xs i) text) reports j found)
 
-  first_alike-has : (reports : List ℕ) (i : ℕ) → output_of xs (first_alike xs reports i) ≡ output_of xs i
+  pub first_alike-has : (reports : List ℕ) (i : ℕ) → output_of xs (first_alike xs reports i) ≡ output_of xs i
   first_alike-has reports i = cases (first_with xs reports (output_of xs i)) refl
     where
       cases : (o : Option ℕ) → first_with xs reports (output_of xs i) ≡ o → output_of xs (unwrap_or o i) ≡ output_of xs i
@@ -94,7 +96,7 @@ rank x y text above = searchable_from_sorted nat_list_cmp_total (λ z. z) (x ∷
 not_less : (x y : List ℕ) → slice_cmp nat_cmp x y ≡ Less → is_lt (slice_cmp nat_cmp y x) ≡ false
 not_less x y less = ap is_lt (nat_list_cmp_total.antisymm y x ∙ ap ordering_reverse less)
 
-module _ (xs : List Instance) (seen firsts : List ℕ) (are : AreFirsts xs seen firsts) (v : ℕ) where
+module _ (a : Agreement) (xs : List Instance) (seen firsts : List ℕ) (are : AreFirsts a xs seen firsts) (v : ℕ) where
   with_more : (text : List ℕ) → first_with xs (seen ++ v ∷ []) text ≡ option_or (first_with xs seen text) (cond (bytes_eq (output_of xs v) text) (Some v) None)
   with_more text = find-append (λ j. bytes_eq (output_of xs j) text) seen (v ∷ [])
 
@@ -118,17 +120,28 @@ module _ (xs : List Instance) (seen firsts : List ℕ) (are : AreFirsts xs seen 
       All-weaker (λ j. first_with xs seen (output_of xs j) ≡ Some j) (λ j. first_with xs (seen ++ v ∷ []) (output_of xs j) ≡ Some j)
       (λ j found. still_first (output_of xs j) j found) firsts are.first
 
+  -- a report whose output is compared as a whole number changes none of them
+  firsts_pass : (m : ℤ) → number_in a (output_of xs v) ≡ Some m → AreFirsts a xs (seen ++ v ∷ []) firsts
+  firsts_pass m number = record {
+    in_order = are.in_order;
+    first = all_firsts;
+    all = λ text j compared now.
+        ⊎_elim (λ before. are.all text j compared before)
+        (λ new. absurd (none-some m (sym compared ∙ ap (number_in a) (sym new.output) ∙ number)))
+        (now_first text j now);
+  }
+
   module _ (index : ℕ) (within : index < length firsts) (equal : slice_cmp nat_cmp (output_of xs (get_or firsts index 0)) (output_of xs v) ≡ Equal) where
     -- if the search found a report, it is the first with this output
     found_first : first_with xs seen (output_of xs v) ≡ Some (get_or firsts index 0)
     found_first = ap (first_with xs seen) (sym (exact_bytes (output_of xs (get_or firsts index 0)) (output_of xs v) equal)) ∙ are.first index 0 within
 
-    firsts_stay : AreFirsts xs (seen ++ v ∷ []) firsts
+    firsts_stay : AreFirsts a xs (seen ++ v ∷ []) firsts
     firsts_stay = record {
       in_order = are.in_order;
       first = all_firsts;
-      all = λ text j now.
-          ⊎_elim (λ before. are.all text j before)
+      all = λ text j compared now.
+          ⊎_elim (λ before. are.all text j compared before)
           (λ new. absurd (none-some (get_or firsts index 0) (sym new.none ∙ ap (first_with xs seen) (sym new.output) ∙ found_first)))
           (now_first text j now);
     }
@@ -136,13 +149,13 @@ module _ (xs : List Instance) (seen firsts : List ℕ) (are : AreFirsts xs seen 
   module _ (spot : ℕ) (within : spot ≤ length firsts)
       (parted : IsPartitionPoint (λ j. slice_cmp nat_cmp (output_of xs j) (output_of xs v) ≡ Less) (λ j. slice_cmp nat_cmp (output_of xs j) (output_of xs v) ≡ Greater) firsts spot) where
     -- if the search found none, no report before has this output
-    none_first : first_with xs seen (output_of xs v) ≡ None
-    none_first = cases (first_with xs seen (output_of xs v)) refl
+    none_first : number_in a (output_of xs v) ≡ None → first_with xs seen (output_of xs v) ≡ None
+    none_first compared = cases (first_with xs seen (output_of xs v)) refl
       where
         cases : (o : Option ℕ) → first_with xs seen (output_of xs v) ≡ o → o ≡ None
         cases None none = refl
         cases (Some j) found =
-            let there = are.all (output_of xs v) j found in
+            let there = are.all (output_of xs v) j compared found in
             let equal : slice_cmp nat_cmp (output_of xs (get_or firsts there.0 j)) (output_of xs v) ≡ Equal =
             ap (λ i. slice_cmp nat_cmp (output_of xs i) (output_of xs v)) there.2
             ∙ ap (λ text. slice_cmp nat_cmp text (output_of xs v)) (first_has xs seen (output_of xs v) j found)
@@ -168,37 +181,42 @@ module _ (xs : List Instance) (seen firsts : List ℕ) (are : AreFirsts xs seen 
         is_lt_index (slice_cmp nat_cmp next here) ∙ ne_eqb (ordering_index (slice_cmp nat_cmp next here)) 0 (λ least. omega (arith, up, tied, least))
 
     -- then the report is the first with its output
-    firsts_grow : AreFirsts xs (seen ++ v ∷ []) (insert firsts spot v)
-    firsts_grow =
+    firsts_grow : number_in a (output_of xs v) ≡ None → AreFirsts a xs (seen ++ v ∷ []) (insert firsts spot v)
+    firsts_grow is_text =
         let moved = IsPermutation-insert firsts spot v in
         let first = λ (j : ℕ). first_with xs (seen ++ v ∷ []) (output_of xs j) ≡ Some j in
         let here : first v =
         with_more (output_of xs v)
-        ∙ ap (λ o. option_or o (cond (bytes_eq (output_of xs v) (output_of xs v)) (Some v) None)) none_first
+        ∙ ap (λ o. option_or o (cond (bytes_eq (output_of xs v) (output_of xs v)) (Some v) None)) (none_first is_text)
         ∙ ap (λ (b : Bool). cond b (Some v) None) (itself xs v) in
         record {
           in_order = still_in_order;
           first = All-permutation first (v ∷ firsts) (insert firsts spot v) moved (All-cons first v firsts here all_firsts);
-          all = λ text j now. Contains-permutation (v ∷ firsts) (insert firsts spot v) j moved
-              (⊎_elim (λ before. Contains-append_right (v ∷ []) firsts j (are.all text j before))
+          all = λ text j compared now. Contains-permutation (v ∷ firsts) (insert firsts spot v) j moved
+              (⊎_elim (λ before. Contains-append_right (v ∷ []) firsts j (are.all text j compared before))
               (λ new. Contains-append_left (v ∷ []) firsts j (0, omega arith, new.report))
               (now_first text j now));
         }
 
-module _ (xs : List Instance) (reports firsts : List ℕ) (n : ℕ) (within : n < length reports) (are : AreFirsts xs (take n reports) firsts)
-    (text : List ℕ) (output : text ≡ output_of xs (get_or reports n 0)) where
-  one_more : (news : List ℕ) → AreFirsts xs (take n reports ++ get_or reports n 0 ∷ []) news → AreFirsts xs (take (n + 1) reports) news
-  one_more news = subst (λ seen. AreFirsts xs seen news) (sym (take_more reports n 0 within))
+module _ (a : Agreement) (xs : List Instance) (reports firsts : List ℕ) (n : ℕ) (within : n < length reports) (are : AreFirsts a xs (take n reports) firsts) where
+  one_more : (news : List ℕ) → AreFirsts a xs (take n reports ++ get_or reports n 0 ∷ []) news → AreFirsts a xs (take (n + 1) reports) news
+  one_more news = subst (λ seen. AreFirsts a xs seen news) (sym (take_more reports n 0 within))
 
+  -- a report whose output is compared as a whole number changes none of them
+  pub number_passes : (m : ℤ) → number_in a (output_of xs (get_or reports n 0)) ≡ Some m → AreFirsts a xs (take (n + 1) reports) firsts
+  number_passes m number = one_more firsts (firsts_pass a xs (take n reports) firsts are (get_or reports n 0) m number)
+
+module _ (a : Agreement) (xs : List Instance) (reports firsts : List ℕ) (n : ℕ) (within : n < length reports) (are : AreFirsts a xs (take n reports) firsts)
+    (compared : number_in a (output_of xs (get_or reports n 0)) ≡ None) (text : List ℕ) (output : text ≡ output_of xs (get_or reports n 0)) where
   -- the search found the first report with the output of the next one
   pub seen_before : (index : ℕ) → index < length firsts → slice_cmp nat_cmp (output_of xs (get_or firsts index 0)) text ≡ Equal
-      → record { value : get_or firsts index 0 ≡ first_alike xs reports (get_or reports n 0); seen : AreFirsts xs (take (n + 1) reports) firsts }
+      → record { value : get_or firsts index 0 ≡ first_alike xs reports (get_or reports n 0); seen : AreFirsts a xs (take (n + 1) reports) firsts }
   seen_before index inside equal =
       let report = get_or reports n 0 in
       let same = sym (ap (slice_cmp nat_cmp (output_of xs (get_or firsts index 0))) output) ∙ equal in
       record {
-        value = sym (first_among xs reports n report within refl ∙ ap (λ o. unwrap_or o report) (found_first xs (take n reports) firsts are report index inside same));
-        seen = one_more firsts (firsts_stay xs (take n reports) firsts are report index inside same);
+        value = sym (first_among xs reports n report within refl ∙ ap (λ o. unwrap_or o report) (found_first a xs (take n reports) firsts are report index inside same));
+        seen = one_more a xs reports firsts n within are firsts (firsts_stay a xs (take n reports) firsts are report index inside same);
       }
 
   -- the search found none
@@ -208,7 +226,7 @@ module _ (xs : List Instance) (reports firsts : List ℕ) (n : ℕ) (within : n 
       → record {
         value : get_or reports n 0 ≡ first_alike xs reports (get_or reports n 0);
         new : first_with xs (take n reports) (output_of xs (get_or reports n 0)) ≡ None;
-        seen : AreFirsts xs (take (n + 1) reports) (insert firsts spot (get_or reports n 0));
+        seen : AreFirsts a xs (take (n + 1) reports) (insert firsts spot (get_or reports n 0));
       }
   seen_first spot inside parts =
       let report = get_or reports n 0 in
@@ -216,9 +234,9 @@ module _ (xs : List Instance) (reports firsts : List ℕ) (n : ℕ) (within : n 
       subst
       (λ t. IsPartitionPoint (λ j. slice_cmp nat_cmp (output_of xs j) t ≡ Less) (λ j. slice_cmp nat_cmp (output_of xs j) t ≡ Greater) firsts spot) output
       (parts (searchable_from_sorted nat_list_cmp_total (output_of xs) firsts text are.in_order)) in
-      let none = none_first xs (take n reports) firsts are report spot inside parted in
+      let none = none_first a xs (take n reports) firsts are report spot inside parted compared in
       record {
         value = sym (first_among xs reports n report within refl ∙ ap (λ o. unwrap_or o report) none);
         new = none;
-        seen = one_more (insert firsts spot report) (firsts_grow xs (take n reports) firsts are report spot inside parted);
+        seen = one_more a xs reports firsts n within are (insert firsts spot report) (firsts_grow a xs (take n reports) firsts are report spot inside parted compared);
       }

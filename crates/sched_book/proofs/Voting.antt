@@ -1,23 +1,27 @@
 -- What ballots say of good reports: their votes, and which report leads.
-use Rattle.std.proofs.Common.{◌≡◌, ℕ, ◌+◌, ◌<◌, ◌≤◌, Bool, true, false, cond, List, [], ◌∷◌, ◌++◌, length, take, drop, map, get_or, Option, None, Some, sym, refl, ap, ◌∙◌, arith}
+use Rattle.std.proofs.Common.{◌≡◌, ◌⊎◌, inl, inr, ⊎_elim, true≢false, ℕ, ◌+◌, ◌<◌, ◌≤◌, Bool, true, false, cond, List, [], ◌∷◌, ◌++◌, length, take, drop, map, get_or, Option, None, Some, sym, refl, ap, ◌∙◌, arith}
 use Rattle.std.specs.Prelude.{◌==◌, ◌||◌, ℤ, pos, ◌-ℤ◌, nat_abs, count_by, fold, find, max, nat_le, option_map, is_some}
 use Rattle.std.specs.Bool.{one_answer}
 use Rattle.std.specs.Int.{from_bool}
 use Rattle.std.specs.List.{All}
 use Rattle.std.specs.Str.{bytes_eq}
 use Rattle.std.proofs.lemmas.Bool.{lt-leb}
+use Rattle.std.proofs.lemmas.Bool.Decides.{Decides-eqb}
 use Rattle.std.proofs.lemmas.List.{get_or-append-add, get_or-drop, length-map, length-take, map_more, take_all}
 use Rattle.std.proofs.lemmas.List.Elements.{All-head, All-tail, All-same, All-map}
 use Rattle.std.proofs.lemmas.List.Folds.{fold-map}
 use Rattle.std.proofs.lemmas.List.Sums.{fold_push, sum_by-cons, sum_by_more, count_by-le-length}
 use Rattle.std.proofs.lemmas.Simd.{map-map}
 use Rattle.std.proofs.lemmas.Int.{ints}
+use Rattle.std.proofs.lemmas.Option.{none-some}
 use Rattle.std.proofs.lemmas.Slice.Eq.{bytes_eq-Decides}
 use borrow.Author.Tests.{le-leb}
 use Rattle.sched_book.specs.Alike.{first_alike}
-use Rattle.sched_book.specs.Ballots.{distance_of, number_in, agree_by, agrees_with, ballot_of, voted, ballots_at, most_votes, leader_by}
+use Rattle.sched_book.specs.Ballots.{stands_for, agree_by, agrees_with, ballot_of, voted, ballots_at, most_votes, leader_by}
 use Rattle.sched_book.specs.Count.{agree, output_of, votes, leader, first_leader}
-use Rattle.sched_book.proofs.FirstAlike.{same_first}
+use Rattle.sched_book.specs.Limits.{distance_of}
+use Rattle.sched_book.specs.Near.{number_in}
+use Rattle.sched_book.proofs.FirstAlike.{first_alike-has, same_first}
 use Rattle.sched_book.proofs.Reports.{leader_from, leader_from-is, leader_from-here, leader_from-later, leader_from-last}
 use Rattle.sched_book.specs.WholeNumbers.{whole_number, are_within}
 use Rattle.sched_book.specs.declared.ballots.Ballot.{Ballot}
@@ -34,22 +38,23 @@ as_cond true = refl
 as_cond false = refl
 
 -- equal numbers are within any distance
-near : (d : ℕ) (m : ℤ) → are_within d (Some m) (Some m) ≡ true
+pub near : (d : ℕ) (m : ℤ) → are_within d (Some m) (Some m) ≡ true
 near d m =
     let none : m -ℤ m ≡ pos 0 = omega (arith, ints) in
     ap (λ z. nat_le (nat_abs z) d) none ∙ le-leb 0 d (omega arith)
 
--- texts are compared as the first reports with them
-agree_is : (a : Agreement) (x y : List ℕ) (i j : ℕ) → (i == j) ≡ bytes_eq x y → agree_by (distance_of a) i (number_in a x) j (number_in a y) ≡ agree a x y
-agree_is Exact x y i j texts = texts
+-- texts are compared as the reports that stand for them
+agree_is : (a : Agreement) (x y : List ℕ) (i j : ℕ) → ((number_in a x ≡ None) ⊎ (number_in a y ≡ None) → (i == j) ≡ bytes_eq x y)
+    → agree_by (distance_of a) i (number_in a x) j (number_in a y) ≡ agree a x y
+agree_is Exact x y i j texts = texts (inl refl)
 agree_is (Within d) x y i j texts = cases (whole_number x) (whole_number y) (bytes_eq x y) refl refl refl
   where
     cases : (m n : Option ℤ) (same : Bool) → whole_number x ≡ m → whole_number y ≡ n → bytes_eq x y ≡ same
         → agree_by d i m j n ≡ bytes_eq x y || are_within d m n
-    cases None n false left right is = texts ∙ is ∙ sym (ap (λ (b : Bool). b || false) is)
-    cases None n true left right is = texts ∙ is ∙ sym (ap (λ (b : Bool). b || false) is)
-    cases (Some m) None false left right is = texts ∙ is ∙ sym (ap (λ (b : Bool). b || false) is)
-    cases (Some m) None true left right is = texts ∙ is ∙ sym (ap (λ (b : Bool). b || false) is)
+    cases None n false left right is = texts (inl left) ∙ is ∙ sym (ap (λ (b : Bool). b || false) is)
+    cases None n true left right is = texts (inl left) ∙ is ∙ sym (ap (λ (b : Bool). b || false) is)
+    cases (Some m) None false left right is = texts (inr right) ∙ is ∙ sym (ap (λ (b : Bool). b || false) is)
+    cases (Some m) None true left right is = texts (inr right) ∙ is ∙ sym (ap (λ (b : Bool). b || false) is)
     cases (Some m) (Some n) false left right is = sym (ap (λ (b : Bool). b || are_within d (Some m) (Some n)) is)
     cases (Some m) (Some n) true left right is =
         let texts : x ≡ y = (bytes_eq-Decides x y).0 is in
@@ -119,6 +124,52 @@ module _ (d : ℕ) (voter : Ballot) (ballots now : List Ballot) (i : ℕ) (withi
       ∙ ap (λ b. most_votes (map (voted d voter) (take i ballots) ++ b ∷ [])) (is ∙ ap (voted d voter) untouched)
       ∙ ap most_votes (sym (map_more (voted d voter) ballots i before within))
 
+-- ---- Which report stands for one
+
+module _ (a : Agreement) (xs : List Instance) (reports : List ℕ) where
+  standing : (i : ℕ) (o : Option ℤ) → number_in a (output_of xs i) ≡ o → stands_for a xs reports i ≡ cond (is_some o) i (first_alike xs reports i)
+  standing i o is = ap (λ v. cond (is_some v) i (first_alike xs reports i)) is
+
+  -- reports whose outputs differ are two
+  two : (i j : ℕ) (x y : List ℕ) → output_of xs i ≡ x → output_of xs j ≡ y → bytes_eq x y ≡ false → (i == j) ≡ bytes_eq x y
+  two i j x y left right differ =
+      one_answer (i == j) (bytes_eq x y) (Decides-eqb i j) (
+        λ same. absurd (true≢false (sym same ∙ differ)),
+        λ same. (bytes_eq-Decides x y).1 (sym left ∙ ap (output_of xs) same ∙ right),
+      )
+
+  -- a text and a whole number differ
+  no_number : (x y : List ℕ) (m : ℤ) → number_in a x ≡ None → number_in a y ≡ Some m → bytes_eq x y ≡ false
+  no_number x y m left right = cases (bytes_eq x y) refl
+    where
+      cases : (b : Bool) → bytes_eq x y ≡ b → b ≡ false
+      cases false is = refl
+      cases true is = absurd (none-some m (sym left ∙ ap (number_in a) ((bytes_eq-Decides x y).0 is) ∙ right))
+
+  -- outputs are compared by the reports that stand for them, if one of the two is compared as a text
+  pub same_standing : (n i v : ℕ) → n < length reports → v ≡ get_or reports n 0
+      → (number_in a (output_of xs i) ≡ None) ⊎ (number_in a (output_of xs v) ≡ None)
+      → (stands_for a xs reports i == stands_for a xs reports v) ≡ bytes_eq (output_of xs i) (output_of xs v)
+  same_standing n i v within at one = cases (number_in a (output_of xs i)) (number_in a (output_of xs v)) refl refl one
+    where
+      both : (o p : Option ℤ) → number_in a (output_of xs i) ≡ o → number_in a (output_of xs v) ≡ p
+          → (stands_for a xs reports i == stands_for a xs reports v)
+          ≡ (cond (is_some o) i (first_alike xs reports i) == cond (is_some p) v (first_alike xs reports v))
+      both o p left right = λ t. standing i o left t == standing v p right t
+
+      cases : (o p : Option ℤ) → number_in a (output_of xs i) ≡ o → number_in a (output_of xs v) ≡ p → (o ≡ None) ⊎ (p ≡ None)
+          → (stands_for a xs reports i == stands_for a xs reports v) ≡ bytes_eq (output_of xs i) (output_of xs v)
+      cases None None left right one = both None None left right ∙ same_first xs reports n i v within at
+      cases None (Some m) left right one =
+          both None (Some m) left right
+          ∙ two (first_alike xs reports i) v (output_of xs i) (output_of xs v) (first_alike-has xs reports i) refl
+          (no_number (output_of xs i) (output_of xs v) m left right)
+      cases (Some m) None left right one =
+          both (Some m) None left right
+          ∙ two i (first_alike xs reports v) (output_of xs i) (output_of xs v) refl (first_alike-has xs reports v)
+          (same_texts (output_of xs i) (output_of xs v) ∙ no_number (output_of xs v) (output_of xs i) m right left)
+      cases (Some m) (Some k) left right one = ⊎_elim (λ is. absurd (none-some m (sym is))) (λ is. absurd (none-some k (sym is))) one
+
 -- ---- One more report joins
 
 -- no report has more votes than there are reports
@@ -140,11 +191,11 @@ module _ (a : Agreement) (xs : List Instance) (reports : List ℕ) (n : ℕ) (wi
   joining_ballot votes_now = ballot_of a xs reports (λ i. votes_now) joining
 
   texts : (i : ℕ)
-      → agree_by (distance_of a) (first_alike xs reports i) (number_in a (output_of xs i)) (first_alike xs reports joining) (number_in a (output_of xs joining))
+      → agree_by (distance_of a) (stands_for a xs reports i) (number_in a (output_of xs i)) (stands_for a xs reports joining) (number_in a (output_of xs joining))
       ≡ agree a (output_of xs i) (output_of xs joining)
   texts i =
-      agree_is a (output_of xs i) (output_of xs joining) (first_alike xs reports i) (first_alike xs reports joining)
-      (same_first xs reports n i joining within refl)
+      agree_is a (output_of xs i) (output_of xs joining) (stands_for a xs reports i) (stands_for a xs reports joining)
+      (same_standing a xs reports n i joining within refl)
 
   -- one more voter
   step : (own i : ℕ) → voted (distance_of a) (joining_ballot own) (ballot_of a xs reports (votes a xs (take n reports)) i) ≡ ballot_of a xs reports (votes a xs (take (n + 1) reports)) i
@@ -184,7 +235,7 @@ module _ (a : Agreement) (xs : List Instance) (reports : List ℕ) (n : ℕ) (wi
       ∙ sym (map_more later reports n 0 within)
 
   -- the same of a ballot whose parts are given
-  pub ballot_joins : (distance first : ℕ) (value : Option ℤ) → distance ≡ distance_of a → first ≡ first_alike xs reports joining → value ≡ number_in a (output_of xs joining)
+  pub ballot_joins : (distance first : ℕ) (value : Option ℤ) → distance ≡ distance_of a → first ≡ stands_for a xs reports joining → value ≡ number_in a (output_of xs joining)
       → (agreed : ℕ) (ballots after : List Ballot) → ballots ≡ ballots_at a xs reports n
       → after ≡ map (voted distance (record { number = joining; first = first; value = value; votes = 1 })) ballots
       → agreed ≡ count_by (agrees_with distance (record { number = joining; first = first; value = value; votes = 1 })) ballots
@@ -198,7 +249,7 @@ module _ (a : Agreement) (xs : List Instance) (reports : List ℕ) (n : ℕ) (wi
       (counted ∙ (λ t. count_by (agrees_with (far t) (joins 1 t)) ballots))
 
   -- if the one that joins agrees with none before it, no ballot agrees with it
-  pub none_agree : (distance first : ℕ) (value : Option ℤ) → distance ≡ distance_of a → first ≡ first_alike xs reports joining → value ≡ number_in a (output_of xs joining)
+  pub none_agree : (distance first : ℕ) (value : Option ℤ) → distance ≡ distance_of a → first ≡ stands_for a xs reports joining → value ≡ number_in a (output_of xs joining)
       → (ballots : List Ballot) → ballots ≡ ballots_at a xs reports n → All (λ i. agree a (output_of xs i) (output_of xs joining) ≡ false) (take n reports)
       → All (λ b. agrees_with distance (record { number = joining; first = first; value = value; votes = 1 }) b ≡ false) ballots
   none_agree distance first value far same number ballots before apart =

@@ -6,6 +6,8 @@ ghost use Rattle.std.specs.List.Sorted.{IsBinarySearchResult, IsSearchInRange};
 ghost use Rattle.std.specs.Ordering.{nat_cmp};
 ghost use Rattle.sched_book.specs.Alike.{first_with, first_alike, AreFirsts};
 ghost use Rattle.sched_book.specs.Count.{output_of};
+ghost use Rattle.sched_book.specs.Near.{number_in};
+ghost use Rattle.sched_book.specs.declared.rows.Agreement.{Agreement};
 
 use crate::count::output_at;
 use crate::instance::Instance;
@@ -16,13 +18,13 @@ use std::cmp::Ordering;
 /// What is known of a report by those seen before it.
 #[derive(Drop)]
 pub(crate) struct Seen {
-    /// The first report with its output.
+    /// The report that stands for it: the first with its output, or itself if its output is compared as a whole number.
     pub(crate) first: usize,
-    /// Whether none before it has its output.
+    /// Whether none of those before it agrees with it.
     pub(crate) is_new: bool,
 }
 
-/// The first report with each output, of the reports seen so far.
+/// The first report with each output that is compared as a text, of the reports seen so far.
 #[derive(Drop)]
 pub(crate) struct Firsts {
     /// The numbers of their instances, in the order of the outputs.
@@ -51,14 +53,19 @@ impl Firsts {
         )
     }
 
-    /// Sees the report at an index, once those before it were seen.
+    /// Sees the report at an index, whose output is compared as a text, once those before it were seen.
     pub(crate) fn see(&mut self, instances: &[Instance], reports: &[usize], index: usize) -> Seen
         requires within { index < length reports.now }
         requires room { (length self.old.numbers.items ≤ index) × (index < MOST_INSTANCES) }
-        requires seen { AreFirsts instances.now (take index reports.now) self.old.numbers.items }
-        ensures value { result.first ≡ first_alike instances.now reports.now (slice_index reports.now index) }
-        ensures new { result.is_new ≡ true → first_with instances.now (take index reports.now) (output_of instances.now (slice_index reports.now index)) ≡ None }
-        ensures seen { AreFirsts instances.now (take (index + 1) reports.now) self.new.numbers.items }
+        ensures value { (a : Agreement) → AreFirsts a instances.now (take index reports.now) self.old.numbers.items
+            → number_in a (output_of instances.now (slice_index reports.now index)) ≡ None
+            → result.first ≡ first_alike instances.now reports.now (slice_index reports.now index) }
+        ensures new { (a : Agreement) → AreFirsts a instances.now (take index reports.now) self.old.numbers.items
+            → number_in a (output_of instances.now (slice_index reports.now index)) ≡ None
+            → result.is_new ≡ true → first_with instances.now (take index reports.now) (output_of instances.now (slice_index reports.now index)) ≡ None }
+        ensures seen { (a : Agreement) → AreFirsts a instances.now (take index reports.now) self.old.numbers.items
+            → number_in a (output_of instances.now (slice_index reports.now index)) ≡ None
+            → AreFirsts a instances.now (take (index + 1) reports.now) self.new.numbers.items }
         ensures few { length self.new.numbers.items ≤ index + 1 }
     {
         let number = reports[index];

@@ -1,18 +1,17 @@
 //! The leader among good reports: the first that agrees with enough of them. Each pair is compared at most once, by
-//! numbers, and only until a front has a leader. A report whose output is new and whose whole number is far from all
-//! before it is compared with none.
+//! numbers, and only until a front has a leader. A report whose output is new, or whose whole number is far from all before
+//! it, is compared with none.
 
 ghost use Rattle.std.specs.Prelude.{◌≡◌, ◌<◌, ◌≤◌, ◌+◌, [], true, false, length, take, drop, map, count_by};
 ghost use Rattle.std.specs.List.{All};
-ghost use Rattle.sched_book.specs.Ballots.{distance_of, number_in, agrees_with, voted, most_votes, leader_by, IsTallyOf};
+ghost use Rattle.sched_book.specs.Ballots.{agrees_with, voted, most_votes, leader_by, IsTallyOf};
 ghost use Rattle.sched_book.specs.Count.{output_of, first_leader};
-ghost use Rattle.sched_book.specs.Near.{AreRising, NoneNear};
+ghost use Rattle.sched_book.specs.Near.{number_in};
 
-use crate::alike::Firsts;
 use crate::count::output_at;
 use crate::instance::Instance;
 use crate::limits::MOST_INSTANCES;
-use crate::near::Numbers;
+use crate::outputs::{Outputs, distance_of};
 use crate::rows::Agreement;
 use crate::whole_numbers::whole_number_of;
 use arrayvec::ArrayVec;
@@ -22,22 +21,13 @@ use arrayvec::ArrayVec;
 struct Ballot {
     /// The number of its instance.
     number: usize,
-    /// The first report with its output: two outputs are the same exactly if these are.
+    /// The report that stands for it: the first with its output, or itself if it has a whole number. Unless both have one,
+    /// two outputs are the same exactly if these are.
     first: usize,
     /// The whole number as which its output is compared, if it is.
     value: Option<i64>,
     /// How many of the reports that have joined agree with it.
     votes: usize,
-}
-
-/// How far apart whole numbers that agree may be.
-fn distance_of(agreement: &Agreement) -> u32
-    ensures { result ≡ distance_of agreement.now }
-{
-    match agreement {
-        Agreement::Exact => 0,
-        Agreement::Within(distance) => *distance,
-    }
 }
 
 /// The whole number as which the output of a report is compared, if it is.
@@ -75,16 +65,6 @@ fn add_vote(distance: u32, voter: &Ballot, ballot: &mut Ballot) -> bool
     agreed
 }
 
-/// Whether a report agrees with none of those before it: its output is new, and none of their whole numbers is near its
-/// own.
-fn is_apart(distance: u32, is_new: bool, value: Option<i64>, values: &Numbers) -> bool
-    requires { AreRising values.now.numbers.items }
-    ensures new { result ≡ true → is_new ≡ true }
-    ensures far { result ≡ true → NoneNear distance value values.now.numbers.items }
-{
-    is_new && !values.has_near_to(distance, value)
-}
-
 /// What the vote of one report has changed.
 #[derive(Drop)]
 struct Counted {
@@ -110,22 +90,22 @@ fn count_vote(distance: u32, voter: &Ballot, ballots: &mut [Ballot]) -> Counted
     Counted { agreed, most_votes }
 }
 
-/// Counts the vote of one report. If it agrees with none, no ballot changes.
+/// Counts the vote of one report. If it is new, it agrees with none of these, and no ballot changes.
 fn count_for(
     distance: u32,
     voter: &Ballot,
     ballots: &mut [Ballot],
     most: usize,
-    is_apart: bool,
+    is_new: bool,
 ) -> Counted
     requires few { All (λ ballot. ballot.votes ≤ MOST_INSTANCES) ballots.old }
     requires most { most ≡ most_votes ballots.old }
-    requires apart { is_apart ≡ true → All (λ ballot. agrees_with distance voter.now ballot ≡ false) ballots.old }
+    requires new { is_new ≡ true → All (λ ballot. agrees_with distance voter.now ballot ≡ false) ballots.old }
     ensures ballots { ballots.new ≡ map (voted distance voter.now) ballots.old }
     ensures agreed { result.agreed ≡ count_by (agrees_with distance voter.now) ballots.old }
     ensures most { result.most_votes ≡ most_votes ballots.new }
 {
-    if is_apart {
+    if is_new {
         Counted {
             agreed: 0,
             most_votes: most,
@@ -148,10 +128,8 @@ fn leader_of(ballots: &[Ballot], enough: usize) -> Option<usize>
 /// The votes among the reports that have joined so far.
 #[derive(Drop)]
 struct Tally {
-    /// The first of them with each output.
-    firsts: Firsts,
-    /// The whole numbers as which their outputs are compared.
-    values: Numbers,
+    /// Their outputs.
+    outputs: Outputs,
     /// Their ballots, in the order in which they joined.
     ballots: ArrayVec<Ballot, MOST_INSTANCES>,
     /// The most votes that one of them has.
@@ -161,14 +139,13 @@ struct Tally {
 impl Tally {
     /// The tally of no report.
     fn new() -> Tally
-        ensures firsts { result.firsts.numbers.items ≡ [] }
-        ensures values { result.values.numbers.items ≡ [] }
+        ensures firsts { result.outputs.firsts.numbers.items ≡ [] }
+        ensures numbers { result.outputs.numbers.numbers.items ≡ [] }
         ensures ballots { result.ballots.items ≡ [] }
         ensures most { result.most_votes ≡ 0 }
     {
         Tally {
-            firsts: Firsts::new(),
-            values: Numbers::new(),
+            outputs: Outputs::new(),
             ballots: ArrayVec::new(),
             most_votes: 0,
         }
@@ -188,24 +165,24 @@ impl Tally {
         requires tally { IsTallyOf agreement.now instances.now reports.now index self.old }
         ensures { IsTallyOf agreement.now instances.now reports.now (index + 1) self.new }
     {
-        let distance = distance_of(agreement);
-        let seen = self.firsts.see(instances, reports, index);
+        let value = value_at(agreement, instances, reports[index]);
+        let seen = self
+            .outputs
+            .see(agreement, value, instances, reports, index);
         let mut ballot = Ballot {
             number: reports[index],
             first: seen.first,
-            value: value_at(agreement, instances, reports[index]),
+            value,
             votes: 1,
         };
-        let apart = is_apart(distance, seen.is_new, ballot.value, &self.values);
         let counted = count_for(
-            distance,
+            distance_of(agreement),
             &ballot,
             self.ballots.as_mut_slice(),
             self.most_votes,
-            apart,
+            seen.is_new,
         );
         ballot.votes += counted.agreed;
-        self.values.keep(ballot.value);
         self.ballots.push(ballot);
         self.most_votes = counted.most_votes.max(ballot.votes);
     }

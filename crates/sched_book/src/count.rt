@@ -2,7 +2,7 @@
 //!
 //! Agreement, the canonical result, need, status and verdict. Nothing here takes memory.
 
-ghost use Rattle.std.specs.Prelude.{◌≡◌, ◌<◌, ◌≤◌, ◌^◌, ◌+◌, length, take, drop, nat_le};
+ghost use Rattle.std.specs.Prelude.{◌≡◌, ◌<◌, ◌≤◌, ◌^◌, ◌+◌, true, length, take, drop, nat_le};
 ghost use Rattle.std.specs.List.{prefix_len};
 ghost use Rattle.std.specs.List.Sorted.{IsNonDecreasingBy};
 ghost use Rattle.arrayvec.specs.ArrayVec.{array_vec_len};
@@ -59,14 +59,28 @@ fn place_at(instances: &[Instance], number: usize) -> u32
     }
 }
 
+/// Whether a report with this place belongs after all of these, in the order of their places.
+fn is_last(instances: &[Instance], reports: &[usize], place: u32) -> bool
+    requires { IsNonDecreasingBy (place_of instances.now) reports.now }
+    ensures { result ≡ true → length reports.now ≡ prefix_len (λ j. nat_le (place_of instances.now j) place) reports.now }
+{
+    match reports.last() {
+        None => true,
+        Some(last) => place_at(instances, *last) <= place,
+    }
+}
+
 /// The index at which a report belongs among these, in the order of their places: after those whose places are not
-/// greater than its own.
+/// greater than its own. Mostly it is the last.
 fn spot_among(instances: &[Instance], reports: &[usize], number: usize) -> usize
     requires { IsNonDecreasingBy (place_of instances.now) reports.now }
     ensures value { result ≡ prefix_len (λ j. nat_le (place_of instances.now j) (place_of instances.now number)) reports.now }
     ensures within { result ≤ length reports.now }
 {
     let place = place_at(instances, number);
+    if is_last(instances, reports, place) {
+        return reports.len();
+    }
     reports.partition_point(
         |other: &usize| -> bool
             ensures { result ≡ nat_le (place_of instances.entry.now other.now) place }

@@ -26,6 +26,7 @@ pub mod moment;
 pub mod names;
 mod near;
 mod offers;
+mod outputs;
 pub mod rows;
 mod selection;
 pub mod settings;

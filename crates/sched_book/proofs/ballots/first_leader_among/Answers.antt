@@ -11,7 +11,7 @@ returns-then-is_some c =
 pub loop-front-preserved : goal.loop-front-preserved
 loop-front-preserved c =
     record {
-      tally = record { seen = c.join.ensures.seen; few = c.join.ensures.few; values = c.join.ensures.values; few_values = c.join.ensures.few_values; ballots = c.join.ensures.ballots; most = c.join.ensures.most };
+      tally = record { outputs = c.join.ensures.outputs; ballots = c.join.ensures.ballots; most = c.join.ensures.most };
       none = λ reached. elim c.if-quorum-front.branch [
         | then-quorum-front+else-is_some w ↦
             no_front_leads c.args.agreement.now c.args.instances.now c.args.enough c.args.quorum c.loop-front.front c.args.reports.now c.loop-front.tally.ballots.items w.leader-leader.result
