@@ -9,21 +9,37 @@ ghost use Rattle.std.specs.Cmp.Lexicographic.{pointwise, slice_cmp, nat_list_eq_
 
 use crate::Memory;
 use crate::same::Same;
+use arrayvec::ArrayString;
 use std::alloc::Global;
 use std::cmp::Ordering;
 use std::marker::Model;
 use std::{fmt, str};
 
-/// A text. Contracts see it as the list of its bytes in UTF-8.
+/// The most bytes of a text that takes no memory beside its value.
+const MOST_SHORT: usize = 24;
+
+/// Where the bytes of a text are.
+#[derive(Drop)]
+enum Bytes {
+    /// In the value itself.
+    Short(ArrayString<MOST_SHORT>),
+    /// In memory of their own.
+    Long(String),
+}
+
+/// A text. Contracts see it as the list of its bytes in UTF-8. A short one is copied without taking memory.
 #[derive(Drop)]
 pub struct Text {
-    text: String,
+    bytes: Bytes,
 }
 
 impl Model for Text {
+    ghost use Rattle.std.specs.Prelude.{List, ℕ};
+    ghost use Rattle.texts.specs.Texts.{bytes_in};
+
     ghost Value = { List ℕ };
 
-    ghost view = { λ t. string_bytes t.text };
+    ghost view = { λ t. bytes_in t.bytes };
 }
 
 impl Text {
@@ -31,22 +47,31 @@ impl Text {
     pub fn copied(alloc: Global, text: &str) -> Result<Text, Memory>
         ensures { IfOk result (λ t. t ≡ text.now) }
     {
-        Ok(Text {
-            text: String::from_str(alloc, text)?,
-        })
+        let bytes = match ArrayString::from(text) {
+            Ok(short) => Bytes::Short(short),
+            Err(_) => Bytes::Long(String::from_str(alloc, text)?),
+        };
+        Ok(Text { bytes })
     }
 
-    /// Returns the text in `text`, which is not copied.
+    /// Returns the text in `text`, which is not copied unless it is short.
     pub fn of(text: String) -> Text
         ensures { result ≡ string_bytes text }
     {
-        Text { text }
+        let bytes = match ArrayString::from(text.as_str()) {
+            Ok(short) => Bytes::Short(short),
+            Err(_) => Bytes::Long(text),
+        };
+        Text { bytes }
     }
 
     pub fn as_str(&self) -> &str
         ensures { result.now ≡ self.now }
     {
-        self.text.as_str()
+        match &self.bytes {
+            Bytes::Short(text) => text.as_str(),
+            Bytes::Long(text) => text.as_str(),
+        }
     }
 
     /// Its length in bytes.
@@ -84,9 +109,11 @@ impl Clone for Text {
     ghost is_clone = { λ text copy. text ≡ copy };
 
     fn clone(&self) -> Result<Text, Memory> {
-        Ok(Text {
-            text: self.text.clone()?,
-        })
+        let bytes = match &self.bytes {
+            Bytes::Short(text) => Bytes::Short(*text),
+            Bytes::Long(text) => Bytes::Long(text.clone()?),
+        };
+        Ok(Text { bytes })
     }
 }
 
