@@ -1,28 +1,24 @@
 //! Texts of whole numbers, by which an application may compare its outputs.
 
-ghost use Rattle.std.specs.Prelude.{◌≡◌, ◌<◌, ◌≤◌, ◌^◌, IsTrue, IfSome, length};
+ghost use Rattle.std.specs.Prelude.{◌≡◌, ◌<◌, ◌≤◌, ◌^◌, if◌then◌else◌, Some, None, IfSome, length};
 ghost use Rattle.std.specs.Char.{is_ascii_digit};
 ghost use Rattle.std.specs.List.{list_all};
 ghost use Rattle.sched_book.specs.WholeNumbers.{decimal_value, magnitude, whole_number, are_within};
 
-/// The number that digits denote.
-fn number_of_digits(digits: &[u8]) -> u64
-    requires digits { IsTrue (list_all is_ascii_digit digits.now) }
-    requires few { length digits.now ≤ 18 }
-    ensures value { result ≡ decimal_value digits.now }
-    ensures small { result < 10 ^ 18 }
+/// The number that these bytes denote, if they are digits.
+fn number_of_digits(text: &[u8]) -> Option<u64>
+    requires few { length text.now ≤ 18 }
+    ensures value { result ≡ (if list_all is_ascii_digit text.now then Some (decimal_value text.now) else None) }
+    ensures small { IfSome result (λ n. n < 10 ^ 18) }
 {
     let mut number = 0;
-    for digit in digits {
-        number = 10 * number + u64::from(*digit - b'0');
+    for byte in text {
+        if !byte.is_ascii_digit() {
+            return None;
+        }
+        number = 10 * number + u64::from(*byte - b'0');
     }
-    number
-}
-
-fn are_digits(text: &[u8]) -> bool
-    ensures { result ≡ list_all is_ascii_digit text.now }
-{
-    text.iter().all(|byte| byte.is_ascii_digit())
+    Some(number)
 }
 
 /// Reads a digit from 1 to 9 and at most 17 more.
@@ -33,8 +29,8 @@ fn magnitude_of(text: &[u8]) -> Option<u64>
     let [first, rest @ ..] = text else {
         return None;
     };
-    if *first >= b'1' && first.is_ascii_digit() && rest.len() <= 17 && are_digits(rest) {
-        Some(number_of_digits(text))
+    if *first >= b'1' && rest.len() <= 17 {
+        number_of_digits(text)
     } else {
         None
     }
