@@ -271,7 +271,7 @@ def test_hostile_requests_take_little_memory_and_time() -> None:
     lines = re.findall(r"^(\d+) MB, ([0-9.]+) seconds: ", completed, re.MULTILINE)
     assert len(lines) == len(SHAPES)
     assert max(int(peak) for peak, _ in lines) < 300
-    assert max(float(seconds) for _, seconds in lines) < 10  # a slow processor needs 1 or 2
+    assert max(float(seconds) for _, seconds in lines) < 2
 
 
 def test_a_deep_request() -> None:

@@ -87,7 +87,7 @@ class Load:
 
 
 def test_copies_under_load_have_what_was_answered(project: Path, twin: Twin, copies: Path) -> None:
-    load, still = Load(twin), list[float]()
+    load = Load(twin)
     try:
         for _ in range(15):
             answered = dict(load.answered)
@@ -96,12 +96,10 @@ def test_copies_under_load_have_what_was_answered(project: Path, twin: Twin, cop
             heard = {int(auth[1:]): seqno for auth, seqno in rows_of(copied.path, SEQNOS)}
             for user, seqno in answered.items():
                 assert seqno <= heard.get(user, 0) <= sent[user]
-            assert copied.still_seconds is not None
-            still.append(copied.still_seconds)
+            assert copied.still_seconds is not None and copied.still_seconds < 1
             assert goes_on(twin)
     finally:
         load.end()
-    assert min(still) < 1  # a busy machine may hold up some of them
     assert len(list(copies.iterdir())) == 15  # no log, and nothing else, is left next to the copies
 
 
