@@ -7,8 +7,7 @@ from .programs import BRIDGE
 from .project import ACCOUNTS, SETTINGS
 
 EXAMPLES = BRIDGE.parent / "examples" / "boinc_programs"
-LIBRARIES = ("libboinc_api.so.7", "libboinc.so.7")
-FILES = ("primes_1", "wrapper_1", "count_words", *LIBRARIES)
+PROGRAMS = ("primes_1", "wrapper_1", "count_words")
 TEXT = "to be or not to be\n"
 PLATFORM = "x86_64-pc-linux-gnu"
 # the applications, each with the platform of its version
@@ -90,6 +89,16 @@ def further(name: str, more: str = "") -> str:
     return FURTHER.format(name=name, more=more)
 
 
+def libraries() -> list[str]:
+    """Returns the names of BOINC's libraries in the folder of the programs. Their number is that of this system's BOINC."""
+    return sorted(path.name for path in EXAMPLES.glob("libboinc*.so.[0-9]"))
+
+
+def file_names() -> list[str]:
+    """Returns the names of all files of the versions, once they are made."""
+    return [*PROGRAMS, *libraries()]
+
+
 def catalogue(pause: int) -> str:
     """Returns the catalogue. Each job of `primes_1` takes a hundred pauses."""
     applications, versions = APPLICATIONS.format(pause=pause), ""
@@ -101,7 +110,7 @@ def catalogue(pause: int) -> str:
             program, more = "wrapper_1", further(
                 "count_words", ', executable = true, open_name = "count_words"'
             )
-        versions += version(name, program, *map(further, LIBRARIES), more, platform=platform)
+        versions += version(name, program, *map(further, libraries()), more, platform=platform)
     return applications + versions
 
 
@@ -114,7 +123,7 @@ def make(folder: Path, url: str, bridge_port: int, scheduler_port: int, pause: i
     for kind, text in (("accounts", accounts), ("apps", APPS), ("versions", versions)):
         (folder / f"{kind}.csv").write_text(text)
     (folder / "files").mkdir()
-    for name in FILES:
+    for name in file_names():
         shutil.copy(EXAMPLES / name, folder / "files")
     (folder / "files" / "text.txt").write_text(TEXT)
     (folder / "bridge.toml").write_text(

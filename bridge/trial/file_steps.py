@@ -7,7 +7,7 @@ import re
 import sqlite3
 import subprocess
 import sys
-from contextlib import suppress
+from contextlib import closing, suppress
 from pathlib import Path
 from urllib.request import urlopen
 
@@ -101,7 +101,7 @@ class Files(Run):
             words = ["--tables", "project.db", "--kind", kind, "--batch", "first", "--file", f"{kind}.csv"]
             self.scheduler.order("import", *words)
         self.bridge.order("keygen")
-        for name in file_project.FILES:
+        for name in file_project.file_names():
             signature = self.bridge.order("sign", f"files/{name}", "--key", "code_sign_private")
             (self.folder / f"{name}.signature").write_text(signature)
         self.scheduler.start()
@@ -240,7 +240,7 @@ class Files(Run):
         """Returns the files of the folder of uploads, and how many rows its database has."""
         folder = self.folder / "uploads"
         names = sorted(str(path.relative_to(folder)) for path in folder.glob("*/*"))
-        with sqlite3.connect(folder / "uploads.db") as tables:
+        with closing(sqlite3.connect(folder / "uploads.db")) as tables:
             return [
                 *names,
                 *map(str, tables.execute("SELECT count(*), total(nbytes) FROM upload").fetchone()),

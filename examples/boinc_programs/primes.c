@@ -11,6 +11,9 @@
 #include <string.h>
 #include <unistd.h>
 
+/* The header of BOINC 8 uses this type and does not declare it for C. */
+typedef int SPORADIC_CA_STATE;
+
 #include "boinc_api.h"
 
 #define STEPS 100

@@ -12,6 +12,9 @@
 #include <sys/wait.h>
 #include <unistd.h>
 
+/* The header of BOINC 8 uses this type and does not declare it for C. */
+typedef int SPORADIC_CA_STATE;
+
 #include "boinc_api.h"
 
 #define POLL_MICROSECONDS 100000

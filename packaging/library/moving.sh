@@ -42,8 +42,9 @@ copy_upload_tables() {
   find "$1" -name uploads.db -type f -printf '%P\n' | while IFS= read -r path; do
     mkdir -p "$2/${path%/*}" && python3 -c '
 import sqlite3, sys
-with sqlite3.connect(sys.argv[2]) as copy:
-    sqlite3.connect(sys.argv[1]).backup(copy)' "$1/$path" "$2/$path" || return 1
+from contextlib import closing
+with closing(sqlite3.connect(sys.argv[1])) as tables, closing(sqlite3.connect(sys.argv[2])) as copy:
+    tables.backup(copy)' "$1/$path" "$2/$path" || return 1
   done
 }
 
