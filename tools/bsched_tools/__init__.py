@@ -19,6 +19,7 @@ month                 the plots of the last month for the bridge
 checks, settings_file, doctor   why bsched refuses a file
 starts                how long a start takes, and whether a process is still at it
 projects, volunteers  a project's folder, and which users agreed to be named, and how
+root_folders          folders that root makes for a project
 handing               new results for a program of the operator
 import_files, imports files that are imported: what is wrong with them, and how they are sent
 catalogue_file, apps  the catalogue of the bridge, and how an application or a version is added

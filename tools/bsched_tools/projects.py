@@ -9,6 +9,7 @@ from pathlib import Path
 from typing import Any
 
 from .faults import Fault
+from .root_folders import make_below
 from .settings_file import WORD
 
 PROJECTS = Path("/var/lib/bsched")
@@ -211,20 +212,25 @@ class Project:
         return {"user": owner.st_uid, "group": owner.st_gid, "extra_groups": [], "cwd": "/"}
 
     def made(self, folder: Path, mode: int) -> Path:
-        """Makes a folder if it does not exist, and the ones above it. As root it gets the project's owner."""
-        if not folder.is_dir():
-            try:
-                for parent in reversed(folder.parents):
-                    if not parent.is_dir():
-                        parent.mkdir()
-                        parent.chmod(0o755)  # whatever the umask of a unit is
-                folder.mkdir(mode=mode)
-                folder.chmod(mode)
-                if os.geteuid() == 0:
-                    owner = self.folder.stat()
-                    os.chown(folder, owner.st_uid, owner.st_gid)
-            except OSError as error:
-                raise Fault(f"{folder}: it can't be made: {error.strerror}: make it as root") from None
+        """Makes a folder if it does not exist, and the ones above it.
+
+        As root it gives it the project's owner, and makes it only below the folder of backups or of web
+        pages, or in the project's.
+        """
+        if folder.is_dir():
+            return folder
+        try:
+            if os.geteuid() == 0:
+                make_below((BACKUPS, WEB, self.folder), folder, mode, self.folder.stat())
+                return folder
+            for parent in reversed(folder.parents):
+                if not parent.is_dir():
+                    parent.mkdir()
+                    parent.chmod(0o755)  # whatever the umask of a unit is
+            folder.mkdir(mode=mode)
+            folder.chmod(mode)
+        except OSError as error:
+            raise Fault(f"{folder}: it can't be made: {error.strerror}: make it as root") from None
         return folder
 
 
