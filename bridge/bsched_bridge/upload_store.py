@@ -2,7 +2,8 @@
 
 temp/     files that are being received; emptied at the start
 pending/  NAME.SHA256: files that were received, whole, and whose results are not reported yet
-store/    SHA256: files of reported results, each content once
+store/    SHA256: files of reported results, each content once; a file there that an upload would share is
+          compared with its name first, and a spoiled one is replaced by the upload
 secret    what the tokens are made with (upload_tokens)
 uploads.db  the tables (upload_tables)
 
@@ -11,6 +12,7 @@ file, its folder and its row are on the disk before that answer. In the same way
 disk, before bsched gets the call that reports its result. Strangers send these files: they are never run, and
 no address of the web has them.
 """
+import errno
 import hashlib
 import logging
 import os
@@ -31,6 +33,7 @@ from .upload_tables import UploadTables
 from .upload_tokens import read_secret, write_secret
 
 FILE_MODE = 0o440  # nobody writes a file any more, and nobody runs it
+BLOCK = 256 * 1024  # bytes that are read at once
 LOG_SECONDS = 60  # between two log lines that say that there is no room
 
 log = logging.getLogger(__name__)
@@ -57,6 +60,44 @@ class Upload:
     nbytes: int
     md5: str
     sha256: str
+
+
+@dataclass(frozen=True, slots=True)
+class StoredFile:
+    """What was seen of a file: which one it is, and whether its content is right."""
+
+    mark: tuple[int, ...] | None  # its inode, size and moment of the last change; None if there is none
+    is_right: bool = False
+
+
+def mark_of(path: Path) -> tuple[int, ...] | None:
+    """Returns the mark of a file, by which it is known to be the same, unchanged; None if there is none."""
+    try:
+        status = path.lstat()
+    except FileNotFoundError:
+        return None
+    return status.st_dev, status.st_ino, status.st_size, status.st_mtime_ns
+
+
+def look_at(path: Path, upload: Upload) -> StoredFile:
+    """Reads a file, and compares its length and SHA-256 with those of an upload. One that can't be read is
+    not right. It reads no more bytes than the upload has, and one.
+    """
+    mark = mark_of(path)
+    if mark is None:
+        return StoredFile(None)
+    sha256, left = hashlib.sha256(), upload.nbytes + 1
+    try:
+        with open(os.open(path, os.O_RDONLY | os.O_NOFOLLOW | os.O_NONBLOCK), "rb") as file:
+            while block := file.read(min(left, BLOCK)):
+                sha256.update(block)
+                left -= len(block)
+    except FileNotFoundError:
+        return StoredFile(None)
+    except OSError as error:
+        log.error("%s can't be read: %s", path, error.strerror)
+        return StoredFile(mark)
+    return StoredFile(mark, left == 1 and sha256.hexdigest() == upload.sha256)
 
 
 def sync_folder(path: Path) -> None:
@@ -186,10 +227,13 @@ class UploadStore:
 
     def store_files(self, result: str, files: list[tuple[OutputFile, Upload]]) -> None:
         """Stores the files of a reported result in the place of those of an earlier report, which no longer
-        counts. When it returns, all is on the disk. Raises FileNotFoundError if somebody else removed a file.
+        counts. When it returns, all is on the disk. Raises FileNotFoundError if somebody else removed a file
+        or spoiled it.
         """
+        uploads = [upload for _, upload in files]
+        seen = {one.sha256: look_at(self.store / one.sha256, one) for one in uploads}  # reading takes long
         with self.tables.turn():
-            self._link([upload for _, upload in files])
+            self._link(uploads, seen)
             with self.tables.transaction() as connection:
                 former = self.forget_files(connection, result)
                 for place, (file, upload) in enumerate(files):
@@ -208,22 +252,39 @@ class UploadStore:
             for _, upload in files:
                 self.path_of(upload).unlink(missing_ok=True)
 
-    def _link(self, uploads: list[Upload]) -> None:
-        """Gives files their names in store/. If one of them was removed, the others don't stay there: their
-        bytes would not count.
+    def _link(self, uploads: list[Upload], seen: dict[str, StoredFile]) -> None:
+        """Gives files their names in store/. What was seen there before counts if the file is still the same.
+        If one of the files was removed, the others don't stay there: their bytes would not count.
         """
         linked: list[Path] = []
         try:
             for upload in uploads:
-                stored = self.store / upload.sha256
-                if not stored.exists():
+                stored, looked = self.store / upload.sha256, seen[upload.sha256]
+                if looked.mark != mark_of(stored):
+                    looked = look_at(stored, upload)
+                if looked.mark is None:
                     os.link(self.path_of(upload), stored)
                     linked.append(stored)
+                elif not looked.is_right:
+                    self._replace(stored, upload)
+                seen[upload.sha256] = StoredFile(mark_of(stored), True)
         except OSError:
             for stored in linked:
                 stored.unlink()
             raise
         sync_folder(self.store)
+
+    def _replace(self, stored: Path, upload: Upload) -> None:
+        """Replaces a spoiled file in store/ by the upload with the content that it should have."""
+        path, work = self.path_of(upload), self.temp / uuid4().hex
+        if not look_at(path, upload).is_right:
+            raise FileNotFoundError(errno.ENOENT, "its file and the stored one are spoiled", str(path))
+        os.link(path, work)
+        try:
+            os.rename(work, stored)
+        finally:
+            work.unlink(missing_ok=True)
+        log.error("%s was spoiled, and is made good by the upload of %s", stored, upload.name)
 
     def forget_files(self, connection: sqlite3.Connection, result: str) -> dict[str, int]:
         """Deletes the rows of a result's files, within a transaction. Returns the size of each content that

@@ -3,6 +3,7 @@ import hashlib
 import json
 import sqlite3
 from collections.abc import Callable
+from pathlib import Path
 from typing import Any
 
 import pytest
@@ -73,6 +74,86 @@ def test_equal_files_are_stored_once_and_agree(file_bridge: Bridge) -> None:
             request(key=f"{client}-key", cpid=client, hostid=FIRST + (client == "bob"), seconds=0)
         )
         assert value(reply, "user_total_credit") == "5.000"
+
+
+def spoil_by_append(path: Path) -> None:
+    """Appends to a file, as somebody does who was given a link to it."""
+    path.chmod(0o640)
+    with path.open("ab") as file:
+        file.write(b"x")
+
+
+def spoil_by_other_bytes(path: Path) -> None:
+    """Writes other bytes of the same length."""
+    path.chmod(0o640)
+    path.write_bytes(bytes(len(path.read_bytes())))
+
+
+def spoil_by_link(path: Path) -> None:
+    """Puts a link in the place of a file."""
+    path.rename(path.with_name("elsewhere"))
+    path.symlink_to("elsewhere")
+
+
+SPOILS = [spoil_by_append, spoil_by_other_bytes, spoil_by_link, lambda path: path.write_bytes(b"")]
+
+
+@pytest.mark.parametrize("spoil", SPOILS)
+def test_a_spoiled_file_is_made_good_by_an_upload_with_its_content(
+    file_bridge: Bridge, caplog: pytest.LogCaptureFixture, spoil: Callable[[Path], None]
+) -> None:
+    stored = file_bridge.folder / "uploads" / "store" / sha256_of(OUT)
+    assert reported(file_bridge, report("u1_0", worked(file_bridge)))[0] == 0
+    spoil(stored)
+    infos = worked(file_bridge, key="bob-key", cpid="bob")
+    assert stored.read_bytes() != OUT or stored.is_symlink()
+    body = report("u1_1", infos, hostid=FIRST + 1, key="bob-key", cpid="bob")
+    assert reported(file_bridge, body) == (0, f"out sha256:{sha256_of(OUT)} 11\nlog absent")
+    assert stored.read_bytes() == OUT and not stored.is_symlink()
+    assert caplog.text.count("was spoiled, and is made good by the upload of u1_1_0") == 1
+    assert file_bridge.store.tables.used() == len(OUT)
+    assert not list((file_bridge.folder / "uploads" / "temp").iterdir())
+
+
+def test_a_file_that_is_right_stays_the_same(file_bridge: Bridge) -> None:
+    stored = file_bridge.folder / "uploads" / "store" / sha256_of(OUT)
+    assert reported(file_bridge, report("u1_0", worked(file_bridge)))[0] == 0
+    before = stored.stat().st_ino
+    infos = worked(file_bridge, key="bob-key", cpid="bob")
+    assert reported(file_bridge, report("u1_1", infos, hostid=FIRST + 1, key="bob-key", cpid="bob"))[0] == 0
+    assert stored.stat().st_ino == before
+
+
+def test_a_file_that_is_spoiled_while_it_waits_for_its_turn_is_made_good(
+    file_bridge: Bridge, monkeypatch: pytest.MonkeyPatch
+) -> None:
+    """What was read before the turn counts only if the file is the same at the turn."""
+    stored = file_bridge.folder / "uploads" / "store" / sha256_of(OUT)
+    assert reported(file_bridge, report("u1_0", worked(file_bridge)))[0] == 0
+    infos, turn = worked(file_bridge, key="bob-key", cpid="bob"), file_bridge.store.tables.turn
+
+    spoiled: list[Path] = []
+
+    def spoiled_turn() -> Any:
+        if not spoiled:
+            spoil_by_append(stored)
+            spoiled.append(stored)
+        return turn()
+
+    monkeypatch.setattr(file_bridge.store.tables, "turn", spoiled_turn)
+    assert reported(file_bridge, report("u1_1", infos, hostid=FIRST + 1, key="bob-key", cpid="bob"))[0] == 0
+    assert stored.read_bytes() == OUT
+
+
+def test_a_file_that_is_spoiled_twice_is_an_error(file_bridge: Bridge) -> None:
+    """No file that is wrong takes the place of another one."""
+    folder = file_bridge.folder / "uploads"
+    assert reported(file_bridge, report("u1_0", worked(file_bridge)))[0] == 0
+    infos = worked(file_bridge, key="bob-key", cpid="bob")
+    for path in (folder / "store" / sha256_of(OUT), folder / "pending" / f"u1_1_0.{sha256_of(OUT)}"):
+        spoil_by_append(path)
+    body = report("u1_1", infos, hostid=FIRST + 1, key="bob-key", cpid="bob")
+    assert reported(file_bridge, body) == (-187, "an output file was lost")
 
 
 @pytest.mark.parametrize(
