@@ -36,12 +36,15 @@ The files of results go through these:
 output_files     what the catalogue says about them, and the output that bsched compares
 uploads          the messages by which a client uploads a file
 upload_tokens    who may upload a file
+upload_owners    whose a file is, and whether it may still come
+upload_room      the room on the disk, in the folder, and of each account and host
 upload_store     the files on the disk
 upload_tables    the rows of the files, in SQLite
 handed_out       the jobs that went out, with their files
 report_checks    whether a reported result has its files
 digest_programs  what is compared if equal files are too much to ask for
 upload_sweep     what the daily sweep deletes (sweep_command)
+uploads_command  what the operator sees of files that are not reported
 
 Pages for people go through these:
 

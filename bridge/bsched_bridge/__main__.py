@@ -8,7 +8,7 @@ from typing import NoReturn
 
 import waitress
 
-from . import client_requests, sweep_command
+from . import client_requests, sweep_command, uploads_command
 from .application import new_application
 from .catalogue import read_catalogue
 from .code_signing import KeyFault, file_md5, read_private_key, signature_text, write_new_keys
@@ -59,6 +59,7 @@ def command_parser() -> argparse.ArgumentParser:
     )
     sign.add_argument("--key", type=Path, required=True, metavar="KEY", help="the private key")
     add_orders(orders)
+    uploads_command.add_uploads(orders)
     return parser
 
 
@@ -133,6 +134,8 @@ def main() -> int:
             print(signature_text(file_md5(args.file), read_private_key(args.key.read_text())), end="")
         elif args.order == "sweep":
             print(sweep_command.run(args.swept, args.tables))
+        elif args.order == "uploads":
+            uploads_command.run(args)
         elif args.order in ORDERS:
             run_order(args)
         elif args.config is None:

@@ -2,6 +2,7 @@
 import atexit
 import logging
 from collections.abc import Callable, Iterable
+from functools import partial
 from pathlib import Path
 from wsgiref.types import StartResponse, WSGIApplication, WSGIEnvironment
 
@@ -12,7 +13,7 @@ from .account_messages import AccountMessages, project_config
 from .account_pages import AccountPages
 from .accounts import AccountPlaces, Accounts
 from .archives import read_archives
-from .barring import Barring
+from .barring import Barring, is_barred
 from .board import Board
 from .call_numbers import CallNumbers
 from .catalogue import Catalogue
@@ -47,6 +48,7 @@ from .statements import Statements
 from .team_pages import TeamPages
 from .teams import Teams
 from .templates import Templates
+from .upload_owners import UploadOwners
 from .upload_store import UploadStore, open_store
 from .upload_tokens import UploadTokens
 from .uploads import PATH as UPLOAD_PATH
@@ -82,7 +84,10 @@ class Application:
         self.places = Places(max(1, settings.threads - KEPT_THREADS))
         self.account_places = AccountPlaces(Places(half, self.places))
         self.upload_places = Places(half, self.places)
-        self.uploads = None if store is None else Uploads(store, self.upload_places, measured.uploads)
+        self.uploads: Uploads | None = None
+        if store is not None:
+            owners = UploadOwners(HandedOut(store.tables), partial(is_barred, barring, self.rules))
+            self.uploads = Uploads(store, owners, self.upload_places, measured.uploads)
         self.downloads = Downloads(current, Places(half, self.places), settings.retry_delay)
         self.accounts: Accounts | None = None
         if settings.accounts is not None and key is not None:

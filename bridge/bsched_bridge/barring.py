@@ -6,10 +6,12 @@ and the name with which it was imported.
 """
 import secrets
 import sqlite3
+from collections.abc import Callable
 from enum import Enum
 from typing import cast
 
 from .credit_days import forget_days
+from .settings import HostRules
 from .state_file import StateFile
 from .team_rows import leave_by_key
 
@@ -67,6 +69,11 @@ class Barring:
         with self.file.transaction() as connection:
             forget(connection, authenticator, now)
         self.file.wipe_log()
+
+
+def is_barred(barring: Barring, rules: Callable[[], HostRules], authenticator: str) -> bool:
+    """Returns whether the computers of an account are refused, also by the operator's settings."""
+    return barring.reason(authenticator) is not None or authenticator in rules().barred
 
 
 def forget(connection: sqlite3.Connection, authenticator: str, now: int) -> None:

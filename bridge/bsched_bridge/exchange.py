@@ -446,6 +446,8 @@ class Exchange:
                 jobs = [] if request.other_results is None else answer.results
                 self.numbers.record_answer(key, answer, jobs, state, request.about, seqno)
                 self.counted.record(key, request.results, answer.result_ack)
+                if self.reports is not None:
+                    self.reports.end(answer.result_ack)
                 return shown(answer, state.account, in_hand)
             refusal = answer
             self.numbers.record_refusal(key)

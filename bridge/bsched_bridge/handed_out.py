@@ -28,6 +28,12 @@ class HandedJob:
     deadline: int
     is_stored: bool = False  # its files are stored: a report of a success came
     outcome: Outcome | None = None  # of that report, by a digest program
+    is_ended: bool = False  # bsched has a report of it, and its files are not stored
+
+    @property
+    def most_nbytes(self) -> int:
+        """How many bytes its files may have."""
+        return sum(file.max_nbytes for file in self.files)
 
 
 class HandedOut:
@@ -54,6 +60,32 @@ class HandedOut:
                     ),
                 )
 
+    def end(self, results: Iterable[str], now: int) -> None:
+        """Notes results whose reports bsched has. If a report did not have its files stored, it was one of an
+        error, and nobody needs them. A power failure may undo it.
+        """
+        query = (
+            "SELECT 1 FROM job JOIN listing ON listing.id = listing WHERE result = ? AND files != '[]' "
+            "AND stored_at IS NULL AND ended_at IS NULL"
+        )
+        ended = [result for result in results if self.tables.row(query, result) is not None]
+        if ended:
+            with self.tables.transaction(is_synced=False) as connection:
+                for result in ended:
+                    connection.execute("UPDATE job SET ended_at = ? WHERE result = ?", (now, result))
+
+    def most_nbytes(self, key: Key) -> int:
+        """Returns how many bytes the files of all jobs may have that a host has not reported."""
+        rows = self.tables.rows(
+            "SELECT count(*), files FROM job JOIN listing ON listing.id = listing WHERE authenticator = ? "
+            "AND host_cpid = ? AND stored_at IS NULL AND ended_at IS NULL GROUP BY listing",
+            key.authenticator,
+            key.host_cpid,
+        )
+        return sum(
+            cast(int, count) * sum(file.max_nbytes for file in of_text(str(files))) for count, files in rows
+        )
+
     def set_outcome(self, result: str, outcome: Outcome) -> None:
         """Notes what a digest program said of a report, whose files are stored."""
         with self.tables.transaction() as connection:
@@ -65,7 +97,7 @@ class HandedOut:
     def job(self, result: str) -> HandedJob | None:
         """Returns the job with the name of a result."""
         row = self.tables.row(
-            "SELECT authenticator, host_cpid, app, files, deadline, stored_at, exit_status, output "
+            "SELECT authenticator, host_cpid, app, files, deadline, stored_at, exit_status, output, ended_at "
             "FROM job JOIN listing ON listing.id = listing WHERE result = ?",
             result,
         )
@@ -74,9 +106,8 @@ class HandedOut:
         authenticator, host_cpid, app, files = map(str, row[:4])
         outcome = None if row[7] is None else Outcome(cast(int, row[6]), str(row[7]))
         deadline, is_stored = cast(int, row[4]), row[5] is not None
-        return HandedJob(
-            result, Key(authenticator, host_cpid), app, of_text(files), deadline, is_stored, outcome
-        )
+        key, is_ended = Key(authenticator, host_cpid), row[8] is not None
+        return HandedJob(result, key, app, of_text(files), deadline, is_stored, outcome, is_ended)
 
 
 def listing_of(connection: sqlite3.Connection, job: HandedJob) -> int:

@@ -46,6 +46,11 @@ def upload_name(result: str, place: int) -> str:
     return f"{DOT_BEFORE_DOT.sub('.+', result)}_{place}"
 
 
+def result_of(name: str) -> str:
+    """Returns the result whose output file has a name."""
+    return name.rpartition("_")[0].replace("+", "")
+
+
 def compared_text(files: tuple[OutputFile, ...], stored: dict[str, StoredOutput]) -> str:
     """Returns the output that bsched compares: a line for each file, with its SHA-256 and its size. Equal
     files give equal texts. If the text is longer than an output may be, its own SHA-256 takes its place.

@@ -83,6 +83,13 @@ class ReportChecks:
             return [job for job in jobs if job.name not in with_files]
         return jobs
 
+    def end(self, results: list[str]) -> None:
+        """Notes results whose reports bsched has. If that fails, their files can still be uploaded."""
+        try:
+            self.jobs.end(results, int(time.time()))
+        except (OSError, sqlite3.Error) as fault:
+            log.error("%d results are not noted as reported: %s", len(results), fault)
+
     def check(self, key: Key, request: ClientRequest) -> ClientRequest:
         """Returns a request of a host with the reports that bsched gets. Those that can't be checked now, and
         those that are more than a call has room for, are listed as results that the client has, so they don't

@@ -9,6 +9,7 @@ from .operator_files import Entry, OperatorFile
 
 PROJECTS = Path("/var/lib/bsched")
 FIELD_NAME = re.compile("[A-Za-z][A-Za-z0-9-]{0,63}")
+ACCOUNT_SHARE = 10  # an account has this part of most_bytes at most, unless the settings say otherwise
 LEAST_KEPT_DAYS = 7  # a client whose reply was lost reports a result again within this time
 MOST_CONTACT = 200  # characters
 PICTURE_KINDS = {
@@ -50,6 +51,7 @@ class UploadSettings:
     free_bytes: int  # of the disk, which uploads leave free
     most_result_bytes: int  # of the output files of one result
     most_bytes: int  # of all files in the folder
+    most_account_bytes: int  # of the files of an account whose results are not reported
     keep_days: int  # how long the sweep keeps files of a result that is not the canonical one
 
 
@@ -178,11 +180,15 @@ def read_uploads(file: OperatorFile, has_key: bool) -> UploadSettings | None:
         return None
     if not has_key:
         entry.fault("[uploads] needs operator_key, to ask bsched whose a result is")
+    most_bytes = entry.whole("most_bytes", 1, 10**18)
     uploads = UploadSettings(
         folder=file.path.parent / entry.text("folder"),
         free_bytes=entry.whole("free_bytes", 0, 10**18, 5 * 10**9),
         most_result_bytes=entry.whole("most_result_bytes", 1, 10**18, 10**9),
-        most_bytes=entry.whole("most_bytes", 1, 10**18),
+        most_bytes=most_bytes,
+        most_account_bytes=entry.whole(
+            "most_account_bytes", 1, 10**18, max(1, most_bytes // ACCOUNT_SHARE)
+        ),
         keep_days=entry.whole("keep_days", LEAST_KEPT_DAYS, 36_500, 30),
     )
     if not uploads.folder.parent.is_dir():

@@ -1,11 +1,13 @@
 """The command `bsched-bridge sweep`."""
 import time
-from collections.abc import Iterable
+from collections.abc import Iterable, Set
 from pathlib import Path
 
+from .barring import Barring
 from .operator_files import OperatorFault
 from .rights import rights_of_owner
-from .settings import read_settings
+from .settings import Settings, read_settings
+from .state_file import StateFile
 from .upload_store import UploadStore
 from .upload_sweep import Decisions, sweep
 
@@ -30,6 +32,18 @@ def decisions_in(paths: Iterable[Path]) -> Decisions:
     return decisions
 
 
+def barred_in(settings: Settings) -> Set[str]:
+    """Returns the keys of the accounts that are barred or deleted."""
+    if not settings.state.exists():
+        return settings.host_rules.barred
+    with rights_of_owner(settings.state.parent):
+        file = StateFile(settings.state, is_guest=True)
+        try:
+            return settings.host_rules.barred | Barring(file).all().keys()
+        finally:
+            file.close()
+
+
 def run(config: Path, tables: list[Path]) -> str:
     """Sweeps the folder of uploads of a bridge, which may serve meanwhile. Returns a line that says what was
     deleted. Root works with the rights of the folder's owner.
@@ -39,16 +53,16 @@ def run(config: Path, tables: list[Path]) -> str:
         raise OperatorFault(config, None, "has no [uploads], so there is nothing to sweep")
     if not (settings.uploads.folder / "uploads.db").exists():
         raise OperatorFault(settings.uploads.folder, None, "has no uploads.db, which the bridge makes")
-    decisions = decisions_in(tables) if tables else None
+    decisions, barred = decisions_in(tables) if tables else None, barred_in(settings)
     with rights_of_owner(settings.uploads.folder):
         store = UploadStore(settings.uploads)
         try:
-            swept = sweep(store, int(time.time()), decisions)
+            swept = sweep(store, int(time.time()), decisions, barred)
             used = store.tables.used()
         finally:
             store.close()
     return (
-        f"swept {settings.uploads.folder}: {swept.uploads} uploads that were not reported, {swept.jobs} jobs "
+        f"swept {settings.uploads.folder}: {swept.uploads} uploads that nobody needs, {swept.jobs} jobs "
         f"that did not come back, {swept.results} results that are not canonical, {swept.contents} stored "
         f"files; {swept.nbytes} bytes are deleted, and {used} are left"
     )

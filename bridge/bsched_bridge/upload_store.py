@@ -15,32 +15,29 @@ no address of the web has them.
 import errno
 import hashlib
 import logging
+import math
 import os
 import sqlite3
-import threading
 import time
-from collections.abc import Iterable, Iterator
-from contextlib import contextmanager
+from collections.abc import Iterable
 from dataclasses import dataclass
 from pathlib import Path
+from typing import cast
 from uuid import uuid4
 
 from .catalogue import Catalogue
 from .operator_files import OperatorFault
 from .output_files import OutputFile, StoredOutput
 from .settings import Settings, UploadSettings
+from .upload_owners import Owner
+from .upload_room import Coming, NotNow, UploadRoom
 from .upload_tables import UploadTables
 from .upload_tokens import read_secret, write_secret
 
 FILE_MODE = 0o440  # nobody writes a file any more, and nobody runs it
 BLOCK = 256 * 1024  # bytes that are read at once
-LOG_SECONDS = 60  # between two log lines that say that there is no room
 
 log = logging.getLogger(__name__)
-
-
-class NotNow(Exception):
-    """Raised if a file can't be taken now, for a reason that can pass. The text says why."""
 
 
 @dataclass(frozen=True, slots=True)
@@ -118,12 +115,12 @@ class UploadStore:
         """
         self.settings, folder = settings, settings.folder
         self.temp, self.pending, self.store = folder / "temp", folder / "pending", folder / "store"
-        self._room_lock, self._coming, self._logged_at = threading.Lock(), 0, 0.0
         try:
             for path in (folder, self.temp, self.pending, self.store):
                 path.mkdir(mode=0o750, exist_ok=True)
             self.secret = secret_in(folder)
             self.tables = UploadTables(folder / "uploads.db")
+            self.room = UploadRoom(settings, self.tables, self.forget_ended)
             sync_folder(folder)
             sync_folder(folder.parent)
         except OSError as error:
@@ -152,44 +149,19 @@ class UploadStore:
 
     # ---- Receiving
 
-    @contextmanager
-    def room_for(self, nbytes: int) -> Iterator[None]:
-        """Keeps room for a file for the block. Raises NotNow if there is none."""
-        with self._room_lock:
-            coming = self._coming + nbytes
-            disk = os.statvfs(self.settings.folder)
-            if disk.f_bavail * disk.f_frsize < self.settings.free_bytes + coming:
-                self._refuse("the disk has too little room for uploads")
-            if self.tables.used() + coming > self.settings.most_bytes:
-                self._refuse("the folder of uploads has as much as it may have")
-            self._coming = coming
-        try:
-            yield
-        finally:
-            with self._room_lock:
-                self._coming -= nbytes
-
-    def _refuse(self, why: str) -> None:
-        """Raises NotNow for lack of room, and logs it now and then."""
-        now = time.monotonic()
-        if not self._logged_at or now > self._logged_at + LOG_SECONDS:
-            self._logged_at = now
-            log.error("%s: clients are asked to try again later", why)
-        raise NotNow(why)
-
-    def receive(self, sent: SentFile, blocks: Iterable[bytes]) -> None:
-        """Receives a file. When it returns, the file is on the disk, and a stop does not lose it. Raises
-        NotNow if the bytes are not those that the head says.
+    def receive(self, sent: SentFile, owner: Owner, blocks: Iterable[bytes]) -> None:
+        """Receives a file of an owner. When it returns, the file is on the disk, and a stop does not lose it.
+        Raises NotNow if there is no room for it, or if the bytes are not those that the head says.
         """
-        with self.room_for(sent.nbytes):
+        with self.room.kept(Coming(sent.name, sent.nbytes, owner)):
             path = self.temp / uuid4().hex
             try:
                 sha256 = write_file(path, sent, blocks)
-                self._keep(path, Upload(sent.name, sent.nbytes, sent.md5, sha256))
+                self._keep(path, Upload(sent.name, sent.nbytes, sent.md5, sha256), owner)
             finally:
                 path.unlink(missing_ok=True)
 
-    def _keep(self, path: Path, upload: Upload) -> None:
+    def _keep(self, path: Path, upload: Upload, owner: Owner) -> None:
         """Gives a received file its name. An older file of that name goes once the new one has its row."""
         with self.tables.turn():
             older, target = self.upload(upload.name), self.path_of(upload)
@@ -197,7 +169,7 @@ class UploadStore:
             os.rename(path, target)
             try:
                 sync_folder(self.pending)
-                self._write_row(upload)
+                self._write_row(upload, owner)
             except BaseException:
                 if is_another:
                     target.unlink()
@@ -205,13 +177,17 @@ class UploadStore:
             if older is not None and is_another:
                 self.path_of(older).unlink(missing_ok=True)
 
-    def _write_row(self, upload: Upload) -> None:
+    def _write_row(self, upload: Upload, owner: Owner) -> None:
         """Writes the row of a file in pending/."""
         with self.tables.transaction() as connection:
             connection.execute("DELETE FROM upload WHERE name = ?", (upload.name,))
             connection.execute(
-                "INSERT INTO upload (name, nbytes, md5, sha256, received_at) VALUES (?, ?, ?, ?, ?)",
-                (upload.name, upload.nbytes, upload.md5, upload.sha256, int(time.time())),
+                "INSERT INTO upload (name, nbytes, md5, sha256, received_at, result, authenticator, "
+                "host_cpid) VALUES (?, ?, ?, ?, ?, ?, ?, ?)",
+                (
+                    *(upload.name, upload.nbytes, upload.md5, upload.sha256, int(time.time())),
+                    *(owner.result, owner.key.authenticator, owner.key.host_cpid),
+                ),
             )
 
     def path_of(self, upload: Upload) -> Path:
@@ -222,6 +198,38 @@ class UploadStore:
         """Returns the received file with a name."""
         row = self.tables.row("SELECT name, nbytes, md5, sha256 FROM upload WHERE name = ?", name)
         return None if row is None else Upload(str(row[0]), int(str(row[1])), str(row[2]), str(row[3]))
+
+    def uploads(self, condition: str, *values: object) -> list[Upload]:
+        """Returns the received files whose rows, with those of their jobs, fulfil a condition of SQL."""
+        rows = self.tables.rows(
+            "SELECT name, nbytes, md5, sha256 FROM upload LEFT JOIN job USING (result) WHERE " + condition,
+            *values,
+        )
+        return [Upload(*cast("tuple[str, int, str, str]", row)) for row in rows]
+
+    def delete_uploads(self, uploads: Iterable[Upload], before: float) -> tuple[int, int]:
+        """Deletes received files, unless they came again since a moment. Returns how many, and their
+        bytes.
+        """
+        count = nbytes = 0
+        with self.tables.transaction() as connection:
+            for upload in uploads:
+                gone = connection.execute(
+                    "DELETE FROM upload WHERE name = ? AND sha256 = ? AND received_at < ?",
+                    (upload.name, upload.sha256, before),
+                ).rowcount
+                if gone:
+                    self.path_of(upload).unlink(missing_ok=True)
+                    count, nbytes = count + 1, nbytes + upload.nbytes
+        return count, nbytes
+
+    def forget_ended(self, authenticator: str) -> int:
+        """Deletes the files of an account's results that were reported and are not stored. Returns how many.
+        No upload of such a result comes again.
+        """
+        condition = "upload.authenticator = ? AND (ended_at IS NOT NULL OR stored_at IS NOT NULL)"
+        ended = self.uploads(condition, authenticator)
+        return self.delete_uploads(ended, math.inf)[0] if ended else 0
 
     # ---- Reports
 

@@ -1,7 +1,8 @@
 """The sweep of the folder of uploads, which a timer starts each day while the bridge serves.
 
-It deletes what nobody will ask for: uploads that were never reported, jobs that never came back, and the
-files of results that are not canonical. It works in turns with the bridge, a part at a time.
+It deletes what nobody will ask for: uploads that were never reported or whose result is an error, those of
+barred accounts, jobs that never came back, and the files of results that are not canonical. It works in turns
+with the bridge, a part at a time.
 
 A file in store/ is deleted only if copies of the tables say of each result with this content that its
 workunit is done or has failed, and that it is not the canonical result. It also stays if a canonical output
@@ -13,12 +14,12 @@ import re
 import sqlite3
 from collections.abc import Iterable, Set
 from dataclasses import dataclass, field
-from typing import TypeVar, cast
+from typing import TypeVar
 
-from .settings import LEAST_KEPT_DAYS
-from .upload_store import Upload, UploadStore
+from .upload_store import UploadStore
 
 DAY = 86_400
+ENDED_DAYS = 1  # for which an operator can look at the files of an error
 LEFT_DAYS = 120  # after which no result comes any more: a client gives up an upload after 90 days
 PART = 200  # rows of a turn; an upload may have to wait for it
 PAGE = 10_000  # rows that are read at once
@@ -48,7 +49,7 @@ class Decisions:
 class Swept:
     """What a sweep deleted."""
 
-    uploads: int = 0  # files that were not reported
+    uploads: int = 0  # files in pending/
     jobs: int = 0  # that never came back
     results: int = 0  # that are not canonical
     contents: int = 0  # files in store/
@@ -61,39 +62,29 @@ def parts_of(items: list[Item], size: int) -> Iterable[list[Item]]:
         yield items[start:][:size]
 
 
-def sweep(store: UploadStore, now: int, decisions: Decisions | None) -> Swept:
-    """Deletes what is old. Without decisions all reported results keep their files."""
+def sweep(store: UploadStore, now: int, decisions: Decisions | None, barred: Set[str] = frozenset()) -> Swept:
+    """Deletes what is old, and the uploads of barred accounts. Without decisions all reported results keep
+    their files.
+    """
     swept = Swept(uploads=store.delete_left_over())
-    sweep_uploads(store, now, swept)
+    sweep_uploads(store, now, barred, swept)
     sweep_jobs(store, now, decisions.contents if decisions is not None else set(), swept)
     if decisions is not None:
         sweep_results(store, now - store.settings.keep_days * DAY, decisions, swept)
     return swept
 
 
-def sweep_uploads(store: UploadStore, now: int, swept: Swept) -> None:
-    """Deletes uploads that came after the report of their result, or whose result was never reported."""
-    recent, late = now - LEAST_KEPT_DAYS * DAY, now - LEFT_DAYS * DAY
-    rows = store.tables.rows(
-        "SELECT name, nbytes, md5, sha256 FROM upload WHERE received_at < ? AND (received_at < ? OR EXISTS "
-        "(SELECT 1 FROM job WHERE stored_at < ? AND "
-        "result = replace(substr(name, 1, length(rtrim(name, '0123456789')) - 1), '+', '')))",
-        recent,
-        late,
-        recent,
-    )
-    old = [Upload(*cast("tuple[str, int, str, str]", row)) for row in rows]
+def sweep_uploads(store: UploadStore, now: int, barred: Set[str], swept: Swept) -> None:
+    """Deletes uploads whose result was never reported, and those of a day ago that nobody needs: their result
+    was reported, as an error mostly, or their account is barred.
+    """
+    recent, late = now - ENDED_DAYS * DAY, now - LEFT_DAYS * DAY
+    old = store.uploads("received_at < ? OR coalesce(stored_at, ended_at) < ?", late, recent)
+    for authenticator in barred:
+        old += store.uploads("upload.authenticator = ?", authenticator)
     for part in parts_of(old, PART):
-        with store.tables.transaction() as connection:
-            for upload in part:
-                values = upload.name, upload.sha256, recent
-                gone = connection.execute(
-                    "DELETE FROM upload WHERE name = ? AND sha256 = ? AND received_at < ?", values
-                ).rowcount
-                if gone:  # it has not come again meanwhile
-                    store.path_of(upload).unlink(missing_ok=True)
-                    swept.uploads += 1
-                    swept.nbytes += upload.nbytes
+        count, nbytes = store.delete_uploads(part, recent)
+        swept.uploads, swept.nbytes = swept.uploads + count, swept.nbytes + nbytes
 
 
 def sweep_jobs(store: UploadStore, now: int, kept: Set[str], swept: Swept) -> None:

@@ -16,7 +16,7 @@ from pathlib import Path
 
 from .state_file import StateFault, make_private
 
-APPLICATION_ID, SCHEMA_VERSION = 0x62736375, 1  # "bscu"
+APPLICATION_ID, SCHEMA_VERSION = 0x62736375, 2  # "bscu"
 SECONDS = 30.0  # that a process waits for another one, whose turns take a part of a second
 PAUSE_SECONDS = 0.005
 TABLES = """
@@ -50,6 +50,34 @@ CREATE TRIGGER upload_goes AFTER DELETE ON upload BEGIN UPDATE used SET nbytes =
 CREATE TRIGGER content_comes AFTER INSERT ON content BEGIN UPDATE used SET nbytes = nbytes + NEW.nbytes; END;
 CREATE TRIGGER content_goes AFTER DELETE ON content BEGIN UPDATE used SET nbytes = nbytes - OLD.nbytes; END;
 """
+# whose the files in pending/ are, and which jobs ended as errors
+OWNERS = """
+ALTER TABLE job ADD COLUMN ended_at INTEGER;  -- when bsched had a report of it whose files are not stored
+CREATE INDEX job_of_host ON job (authenticator, host_cpid, listing)
+  WHERE stored_at IS NULL AND ended_at IS NULL;
+ALTER TABLE upload ADD COLUMN result TEXT NOT NULL DEFAULT '';
+-- the host that has the job; empty if the bridge does not know the job
+ALTER TABLE upload ADD COLUMN authenticator TEXT NOT NULL DEFAULT '';
+ALTER TABLE upload ADD COLUMN host_cpid TEXT NOT NULL DEFAULT '';
+CREATE INDEX upload_of_host ON upload (authenticator, host_cpid, nbytes);
+"""
+OWNERS_OF_UPLOADS = """
+UPDATE upload SET result = replace(substr(name, 1, length(rtrim(name, '0123456789')) - 1), '+', '');
+UPDATE upload SET authenticator = job.authenticator, host_cpid = job.host_cpid
+  FROM job WHERE job.result = upload.result;
+"""
+NEW_FILE = TABLES + OWNERS
+UPGRADES = {1: OWNERS + OWNERS_OF_UPLOADS}  # the statements from each version to the next
+
+
+def statements_of(text: str) -> Iterator[str]:
+    """Yields the statements in a text, without its comments."""
+    statement = ""
+    for line in text.strip().splitlines():
+        statement += line.partition("--")[0] + "\n"
+        if sqlite3.complete_statement(statement):
+            yield statement
+            statement = ""
 
 
 class UploadTables:
@@ -78,20 +106,24 @@ class UploadTables:
             raise StateFault(f"{path}: {error}") from None
 
     def _prepare(self, path: Path) -> None:
-        """Makes the tables in a new file."""
+        """Makes the tables in a new file, or upgrades those of an older format."""
         with self._transaction() as connection:
             names = "application_id", "user_version"
-            identity = tuple(connection.execute(f"PRAGMA {name}").fetchone()[0] for name in names)
-            if identity == (APPLICATION_ID, SCHEMA_VERSION):
-                return
-            if identity != (0, 0) or connection.execute("SELECT count(*) FROM sqlite_schema").fetchone()[0]:
+            identity, version = (connection.execute(f"PRAGMA {name}").fetchone()[0] for name in names)
+            has_tables = connection.execute("SELECT count(*) FROM sqlite_schema").fetchone()[0]
+            if identity == APPLICATION_ID and version > SCHEMA_VERSION:
+                raise StateFault(
+                    f"{path}: a newer bridge wrote this file (format {version}, and this bridge knows "
+                    f"{SCHEMA_VERSION}): run that bridge"
+                )
+            if identity == APPLICATION_ID:
+                texts = [UPGRADES[older] for older in range(version, SCHEMA_VERSION)]
+            elif has_tables or (identity, version) != (0, 0):
                 raise StateFault(f"{path}: is not a file of uploads that this bridge knows")
-            statement = ""
-            for line in TABLES.strip().splitlines():
-                statement += line.partition("--")[0] + "\n"
-                if sqlite3.complete_statement(statement):
-                    connection.execute(statement)
-                    statement = ""
+            else:
+                texts = [NEW_FILE]
+            for statement in (one for text in texts for one in statements_of(text)):
+                connection.execute(statement)
             connection.execute(f"PRAGMA application_id = {APPLICATION_ID}")
             connection.execute(f"PRAGMA user_version = {SCHEMA_VERSION}")
 
@@ -133,12 +165,21 @@ class UploadTables:
             raise
 
     @contextmanager
-    def transaction(self) -> Iterator[sqlite3.Connection]:
+    def transaction(self, is_synced: bool = True) -> Iterator[sqlite3.Connection]:
         """Runs the block in a transaction. If it ends without an exception, all of it is on the disk;
         otherwise it is undone. It takes the turn if the thread does not hold it yet.
+
+        If is_synced is false, a power failure may undo it, until a later transaction is synced.
         """
-        with self.turn(), self._transaction() as connection:
-            yield connection
+        with self.turn():
+            if not is_synced:
+                self._connection.execute("PRAGMA synchronous = NORMAL")
+            try:
+                with self._transaction() as connection:
+                    yield connection
+            finally:
+                if not is_synced:
+                    self._connection.execute("PRAGMA synchronous = FULL")
 
     def row(self, statement: str, *values: object) -> tuple[object, ...] | None:
         """Returns the first row of a query."""

@@ -5,7 +5,8 @@ incomplete is kept, so an upload that broke off is sent from its beginning. Then
 which looks like XML and ends with `<data>`, and after it the bytes of the file, with nothing after them.
 
 The client gives up for good after status -1, and the volunteer's work is lost. So -1 is the answer to a
-forged or faulty message alone. After status 1 the client tries again later, for up to 90 days.
+forged or faulty message, and to a file whose job has ended (upload_owners). After status 1 the client tries
+again later, for up to 90 days.
 """
 import logging
 import re
@@ -21,7 +22,9 @@ from .languages import language_of
 from .limits import NoPlace, Places
 from .measurements import UploadCounts, UploadEnd
 from .settings import UploadSettings
-from .upload_store import NotNow, SentFile, UploadStore
+from .upload_owners import Ended, UploadOwners
+from .upload_room import NotNow
+from .upload_store import SentFile, UploadStore
 from .upload_tokens import UploadTokens
 
 PATH = "file_upload_handler"  # of the URL; the client takes a URL without this word for that of a download
@@ -122,8 +125,11 @@ def most_body(settings: UploadSettings | None) -> int:
 class Uploads:
     """Answers the messages of uploads."""
 
-    def __init__(self, store: UploadStore, places: Places, counts: UploadCounts | None = None) -> None:
-        self.store, self.places, self.tokens = store, places, UploadTokens(store.secret)
+    def __init__(
+        self, store: UploadStore, owners: UploadOwners, places: Places, counts: UploadCounts | None = None
+    ) -> None:
+        self.store, self.owners, self.places = store, owners, places
+        self.tokens = UploadTokens(store.secret)
         self.counts = counts or UploadCounts()
 
     def answer(self, message: Request) -> Response:
@@ -139,7 +145,7 @@ class Uploads:
             if len(begin) < min(length, MOST_HEAD):
                 raise NotNow("the message is not complete")
             return self._received(begin, stream, length)
-        except BadMessage as fault:
+        except (BadMessage, Ended) as fault:
             self.counts.record(UploadEnd.REFUSED)
             log.warning("an upload is refused for good: %s", fault)
             return answer_of(NEVER, language.gettext("The project refuses this file."))
@@ -165,7 +171,8 @@ class Uploads:
             raise NotNow("it does not begin at the first byte")
         if length != head.length + head.file.nbytes:
             raise NotNow("its length is not that of its head and its file")
+        owner = self.owners.of(head.file.name)
         with self.places.taken(PLACE_SECONDS):
-            self.store.receive(head.file, blocks_of(begin[head.length :], stream, head.file.nbytes))
+            self.store.receive(head.file, owner, blocks_of(begin[head.length :], stream, head.file.nbytes))
         self.counts.record(UploadEnd.RECEIVED, head.file.nbytes)
         return answer_of(DONE, "")

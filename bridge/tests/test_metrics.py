@@ -18,7 +18,8 @@ from twin import Twin
 from uploading import AGAIN, DATA, DONE, NEVER, sent, tokens_of, upload
 
 from bsched_bridge.measurements import BOUNDS, End
-from bsched_bridge.upload_store import NotNow, UploadStore
+from bsched_bridge.upload_room import NotNow
+from bsched_bridge.upload_store import UploadStore
 
 EXAMPLES = Path(__file__).resolve().parents[2] / "examples" / "monitoring"
 PROMTOOL = shutil.which("promtool")

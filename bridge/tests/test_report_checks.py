@@ -220,7 +220,7 @@ def test_a_job_that_is_computed_anew_is_checked_anew(file_bridge: Bridge) -> Non
     assert jobs(reply) == ["u1_0"]
     assert reported(file_bridge, report("u1_0", infos))[0] == -187
     token = tokens_of(reply)["u1_0_0"]
-    assert sent(file_bridge, upload("u1_0_0", b"other", token)) == 0
+    assert sent(file_bridge, upload("u1_0_0", b"other", token)) == -1  # bsched has the report
 
 
 def test_files_of_an_earlier_report_go_once_there_are_others(file_bridge: Bridge) -> None:

@@ -110,18 +110,6 @@ def test_files_of_a_job_that_went_out_once_more_and_never_came_back_go(file_brid
     assert file_bridge.store.tables.row("SELECT count(*) FROM file") == (0,)
 
 
-def test_an_upload_after_the_report_goes_after_a_week(file_bridge: Bridge) -> None:
-    result = ran(file_bridge, "ann", RIGHT)
-    name = f"{result}_0"
-    writer = file_bridge.application.writer
-    assert writer.tokens is not None
-    token = writer.tokens.token(name, 20_000)
-    assert sent(file_bridge, upload(name, WRONG, token)) == 0
-    assert sweep(file_bridge.store, later(file_bridge, 6), None) == Swept()
-    assert sweep(file_bridge.store, later(file_bridge, 8), None) == Swept(uploads=1, nbytes=6)
-    assert stored(file_bridge) == {RIGHT}
-
-
 def test_a_file_without_a_row_goes(file_bridge: Bridge) -> None:
     (file_bridge.folder / "uploads" / "pending" / "left").write_bytes(RIGHT)
     assert sweep(file_bridge.store, later(file_bridge, 0), None) == Swept(uploads=1)
@@ -154,7 +142,8 @@ def test_root_follows_no_link_in_the_folder_of_uploads(file_bridge: Bridge) -> N
     lock.unlink()
     closed = file_bridge.folder / "closed"
     closed.mkdir(mode=0o700)
-    for path in (file_bridge.folder, *(file_bridge.folder / "uploads").rglob("*"), lock.parent):
+    states = file_bridge.folder.glob("bridge.db*")
+    for path in (file_bridge.folder, *states, *lock.parent.rglob("*"), lock.parent):
         os.chown(path, another, another)
     lock.symlink_to(closed / "made")
     with pytest.raises(StateFault, match="Permission denied"):

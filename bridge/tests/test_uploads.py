@@ -304,10 +304,10 @@ def test_a_disk_with_too_little_room(file_bridge: Bridge, monkeypatch: pytest.Mo
     tokens = given(file_bridge)
     whole = shutil.disk_usage(file_bridge.folder).total  # others may free some of it meanwhile
     settings = replace(file_bridge.store.settings, free_bytes=whole + 1)
-    monkeypatch.setattr(file_bridge.store, "settings", settings)
+    monkeypatch.setattr(file_bridge.store.room, "settings", settings)
     message = upload("u1_0_0", DATA, tokens["u1_0_0"])
     assert sent(file_bridge, message) == AGAIN
-    monkeypatch.setattr(file_bridge.store, "settings", replace(settings, free_bytes=0))
+    monkeypatch.setattr(file_bridge.store.room, "settings", replace(settings, free_bytes=0))
     assert sent(file_bridge, message) == DONE
 
 
