@@ -51,6 +51,7 @@ from .templates import Templates
 from .upload_owners import UploadOwners
 from .upload_store import UploadStore, open_store
 from .upload_tokens import UploadTokens
+from .uploads import CHECK_PATH as UPLOAD_CHECK_PATH
 from .uploads import PATH as UPLOAD_PATH
 from .uploads import Uploads
 from .volunteer_pages import VolunteerPages
@@ -152,7 +153,11 @@ class Application:
             Route("picture/<name>", self.pictures.answer),
         ]
         if self.uploads is not None:
-            routes.append(Route(UPLOAD_PATH, self.uploads.answer, ("POST",)))
+            routes += [
+                Route(f"{UPLOAD_PATH}/<name>/<token>", self.uploads.answer, ("POST",)),
+                Route(UPLOAD_PATH, self.uploads.answer, ("POST",)),
+                Route(UPLOAD_CHECK_PATH, self.uploads.checked),
+            ]
         return routes
 
     def _account_routes(self) -> list[Route]:

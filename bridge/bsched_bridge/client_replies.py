@@ -360,8 +360,10 @@ class ReplyWriter:
                 xml.add("generated_locally", 1)
                 xml.add("upload_when_present", 1)
                 xml.add("max_nbytes", file.max_nbytes)
-                xml.add("url", f"{self.url}{UPLOAD_PATH}")
-                if self.tokens is not None:
+                if self.tokens is None:
+                    xml.add("url", f"{self.url}{UPLOAD_PATH}")
+                else:
+                    xml.add("url", f"{self.url}{UPLOAD_PATH}/{name}/{self.tokens.url_token(name)}")
                     xml.add("xml_signature", f"\n{self.tokens.token(name, file.max_nbytes)}\n")
 
     def _add_result(self, xml: XmlLines, job: Job, app: App) -> None:

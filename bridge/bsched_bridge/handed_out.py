@@ -49,8 +49,8 @@ class HandedOut:
         with self.tables.transaction() as connection:
             for job in jobs:
                 connection.execute(
-                    "INSERT OR REPLACE INTO job (result, authenticator, host_cpid, listing, deadline) "
-                    "VALUES (?, ?, ?, ?, ?)",
+                    "INSERT OR REPLACE INTO job (result, authenticator, host_cpid, listing, deadline, "
+                    "has_url) VALUES (?, ?, ?, ?, ?, 1)",
                     (
                         job.result,
                         job.key.authenticator,
@@ -73,6 +73,14 @@ class HandedOut:
             with self.tables.transaction(is_synced=False) as connection:
                 for result in ended:
                     connection.execute("UPDATE job SET ended_at = ? WHERE result = ?", (now, result))
+
+    def has_without_url(self) -> bool:
+        """Returns whether a job is out whose client has no URLs with tokens: an older bridge gave it out."""
+        row = self.tables.row(
+            "SELECT 1 FROM listing WHERE files != '[]' AND EXISTS (SELECT 1 FROM job "
+            "WHERE listing = listing.id AND has_url = 0 AND stored_at IS NULL AND ended_at IS NULL) LIMIT 1"
+        )
+        return row is not None
 
     def most_nbytes(self, key: Key) -> int:
         """Returns how many bytes the files of all jobs may have that a host has not reported."""

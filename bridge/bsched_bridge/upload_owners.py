@@ -4,12 +4,16 @@ A token is made from the secret, the name of a file and its limit alone, so it n
 job: once bsched has the report of the job, or its account is barred or deleted, its files are refused for
 good. A job that is late stays open, since bsched takes a late report, too.
 """
+import time
 from collections.abc import Callable
 from dataclasses import dataclass
 
 from .handed_out import HandedOut
 from .hosts import Key
 from .output_files import result_of
+
+
+LOOK_SECONDS = 60.0  # between two looks whether jobs of an older bridge are still out
 
 
 class Ended(Exception):
@@ -39,6 +43,16 @@ class UploadOwners:
 
     def __init__(self, jobs: HandedOut, is_barred: Callable[[str], bool]) -> None:
         self.jobs, self.is_barred = jobs, is_barred
+        self._is_open, self._looked_at = True, -LOOK_SECONDS
+
+    def takes_plain_urls(self) -> bool:
+        """Returns whether a URL without a token is still one of a job that is out. A bridge gives out no such
+        URL, so once the last of these jobs has ended, there are none.
+        """
+        now = time.monotonic()
+        if self._is_open and now >= self._looked_at + LOOK_SECONDS:
+            self._is_open, self._looked_at = self.jobs.has_without_url(), now
+        return self._is_open
 
     def of(self, name: str) -> Owner:
         """Returns the owner of a file with a valid token. Raises Ended."""

@@ -16,7 +16,7 @@ from pathlib import Path
 
 from .state_file import StateFault, make_private
 
-APPLICATION_ID, SCHEMA_VERSION = 0x62736375, 2  # "bscu"
+APPLICATION_ID, SCHEMA_VERSION = 0x62736375, 3  # "bscu"
 SECONDS = 30.0  # that a process waits for another one, whose turns take a part of a second
 PAUSE_SECONDS = 0.005
 TABLES = """
@@ -66,8 +66,12 @@ UPDATE upload SET result = replace(substr(name, 1, length(rtrim(name, '012345678
 UPDATE upload SET authenticator = job.authenticator, host_cpid = job.host_cpid
   FROM job WHERE job.result = upload.result;
 """
-NEW_FILE = TABLES + OWNERS
-UPGRADES = {1: OWNERS + OWNERS_OF_UPLOADS}  # the statements from each version to the next
+URLS = """
+ALTER TABLE job ADD COLUMN has_url INTEGER NOT NULL DEFAULT 0;  -- 1: its client has URLs with tokens
+CREATE INDEX job_without_url ON job (listing) WHERE has_url = 0 AND stored_at IS NULL AND ended_at IS NULL;
+"""
+NEW_FILE = TABLES + OWNERS + URLS
+UPGRADES = {1: OWNERS + OWNERS_OF_UPLOADS, 2: URLS}  # the statements from each version to the next
 
 
 def statements_of(text: str) -> Iterator[str]:

@@ -4,6 +4,10 @@ Above 8,192 bytes the client first asks how much of the file the project has. Th
 incomplete is kept, so an upload that broke off is sent from its beginning. Then the client sends a head,
 which looks like XML and ends with `<data>`, and after it the bytes of the file, with nothing after them.
 
+The URL has the name of the file and a token, so a message is refused before its body is read. A web server
+asks the bridge about the URL, and takes the body only then. A client that got its job from an older bridge
+has a URL without them.
+
 The client gives up for good after status -1, and the volunteer's work is lost. So -1 is the answer to a
 forged or faulty message, and to a file whose job has ended (upload_owners). After status 1 the client tries
 again later, for up to 90 days.
@@ -15,6 +19,7 @@ from collections.abc import Iterator
 from dataclasses import dataclass
 from typing import BinaryIO
 
+from werkzeug.exceptions import Forbidden
 from werkzeug.wrappers import Request, Response
 
 from .http_messages import TEXT, answer, length_of
@@ -22,17 +27,21 @@ from .languages import language_of
 from .limits import NoPlace, Places
 from .measurements import UploadCounts, UploadEnd
 from .settings import UploadSettings
-from .upload_owners import Ended, UploadOwners
+from .upload_owners import Ended, Owner, UploadOwners
 from .upload_room import NotNow
 from .upload_store import SentFile, UploadStore
 from .upload_tokens import UploadTokens
 
 PATH = "file_upload_handler"  # of the URL; the client takes a URL without this word for that of a download
+CHECK_PATH = "upload_check"  # where the web server asks about a URL
 MOST_HEAD = 8192  # bytes of a message before those of the file
 BLOCK = 256 * 1024
 # how long an upload waits for a place: after three refusals a client pauses for a quarter of an hour
 PLACE_SECONDS = 5.0
 DONE, AGAIN, NEVER = 0, 1, -1
+# fields of HTTP between the web server and the bridge: the URL of an upload, and the account that it is of
+URL_FIELD, ACCOUNT_FIELD = "X-Upload-URL", "X-Upload-Account"
+UPLOAD_URL = re.compile(rf"/{PATH}(?:/([^/?]+)/([^/?]+))?\Z")
 DATA = b"<data>\n"
 NUMBER = re.compile("[0-9]{1,18}")
 MD5 = re.compile("[0-9a-f]{32}")
@@ -132,19 +141,48 @@ class Uploads:
         self.tokens = UploadTokens(store.secret)
         self.counts = counts or UploadCounts()
 
-    def answer(self, message: Request) -> Response:
-        """Answers a message. It never has a status of HTTP from 400 on for what a client sends: the client
-        would try again, for 90 days.
+    def checked(self, message: Request) -> Response:
+        """Answers the web server, which asks about the URL of an upload before it reads the body. With status
+        403 it answers by itself that the file is refused for good.
+        """
+        found = UPLOAD_URL.search(message.headers.get(URL_FIELD, ""))
+        try:
+            if found is None:
+                raise BadMessage("its URL is not that of an upload")
+            owner = self._owner(found[1], found[2] or "")
+        except (BadMessage, Ended) as fault:
+            self.counts.record(UploadEnd.REFUSED)
+            log.info("an upload is refused for good before it is read: %s", fault)
+            raise Forbidden from None
+        account = "" if owner is None else self.tokens.account_digits(owner.key.authenticator)
+        return answer(TEXT, b"", {ACCOUNT_FIELD: account})
+
+    def _owner(self, name: str | None, token: str) -> Owner | None:
+        """Returns the owner of the file that a URL names, or None for the URL of an older bridge. Raises
+        BadMessage and Ended.
+        """
+        if name is None:
+            if self.owners.takes_plain_urls():
+                return None
+            raise BadMessage("its URL has no token")
+        if not self.tokens.is_url_token(token, name):
+            raise BadMessage("the token in its URL is not that of the file")
+        return self.owners.of(name)
+
+    def answer(self, message: Request, name: str | None = None, token: str = "") -> Response:
+        """Answers a message, whose URL has the name of a file and a token. It never has a status of HTTP from
+        400 on for what a client sends: the client would try again, for 90 days.
         """
         length, stream = length_of(message.environ), message.environ["wsgi.input"]
         language = language_of(message)
-        begin = stream.read(min(length, MOST_HEAD))
         try:
+            self._owner(name, token)
+            begin = stream.read(min(length, MOST_HEAD))
             if is_question(begin):
                 return answer_of(DONE, "", file_size=0)
             if len(begin) < min(length, MOST_HEAD):
                 raise NotNow("the message is not complete")
-            return self._received(begin, stream, length)
+            return self._received(name, begin, stream, length)
         except (BadMessage, Ended) as fault:
             self.counts.record(UploadEnd.REFUSED)
             log.warning("an upload is refused for good: %s", fault)
@@ -158,11 +196,13 @@ class Uploads:
         self.counts.record(UploadEnd.PUT_OFF)
         return answer_of(AGAIN, language.gettext("The project can't take this file at the moment."))
 
-    def _received(self, begin: bytes, stream: BinaryIO, length: int) -> Response:
-        """Receives a file, and returns the answer. Before it reads the file it checks all that the head
-        says.
+    def _received(self, name: str | None, begin: bytes, stream: BinaryIO, length: int) -> Response:
+        """Receives a file, which the URL names or not, and returns the answer. Before it reads the file it
+        checks all that the head says.
         """
         head = read_head(begin)
+        if name not in (None, head.file.name):
+            raise BadMessage("its URL is that of another file")
         if not self.tokens.is_token(head.token, head.file.name, head.max_nbytes):
             raise BadMessage("the token is not that of this file")
         if head.file.nbytes > head.max_nbytes:

@@ -260,7 +260,8 @@ class PlainReplies:
             add(element, "generated_locally", 1)
             add(element, "upload_when_present", 1)
             add(element, "max_nbytes", file.max_nbytes)
-            add(element, "url", f"{self.url}{UPLOAD_PATH}")
+            url_token = "" if self.tokens is None else f"/{name}/{self.tokens.url_token(name)}"
+            add(element, "url", f"{self.url}{UPLOAD_PATH}{url_token}")
             if self.tokens is not None:
                 add(element, "xml_signature", f"\n{self.tokens.token(name, file.max_nbytes)}\n")
 

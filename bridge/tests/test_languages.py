@@ -22,7 +22,7 @@ from messages import FIRST, request, value
 from test_pages import FORM, page_of, plots_of, posted
 from test_volunteers import people
 from twin import STATEMENT, Twin
-from uploading import DATA, upload
+from uploading import DATA, upload, url_of
 
 from bsched_bridge.languages import (
     ENGLISH,
@@ -182,7 +182,7 @@ def test_replies_in_german(bridge: Bridge) -> None:
 
 def test_uploads_in_german(file_bridge: Bridge) -> None:
     message = upload("a_0_0_0", DATA, "forged")
-    body = file_bridge.got("/p/file_upload_handler", "POST", message, HTTP_ACCEPT_LANGUAGE="de")[2]
+    body = file_bridge.got(url_of(file_bridge, "a_0_0_0"), "POST", message, HTTP_ACCEPT_LANGUAGE="de")[2]
     assert b"<message>Das Projekt lehnt diese Datei ab.</message>" in body and b"<status>-1</status>" in body
 
 

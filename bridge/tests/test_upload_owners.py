@@ -12,7 +12,7 @@ import pytest
 from bridges import BRIDGE, Bridge
 from messages import FIRST, names, request
 from test_upload_sweep import later, ran
-from uploading import AGAIN, DONE, NEVER, on_disk, report, sent, sha256_of, upload
+from uploading import AGAIN, DONE, NEVER, on_disk, report, sent, sha256_of, upload, url_of
 
 from bsched_bridge.handed_out import HandedJob, HandedOut
 from bsched_bridge.hosts import Key
@@ -287,6 +287,91 @@ def test_the_command_without_uploads(bridge: Bridge) -> None:
     assert ordered(bridge)[2] == "bsched-bridge: the project has no folder of uploads\n"
 
 
+# ---- The token in the URL
+
+
+def checked(bridge: Bridge, url: str) -> tuple[str, str]:
+    """Asks about the URL of an upload, as the web server does. Returns the status and the account."""
+    status, fields, body = bridge.got("/p/upload_check", HTTP_X_UPLOAD_URL=url)
+    assert (body == b"") == (status == "200 OK")
+    return status, fields.get("X-Upload-Account", "")
+
+
+def test_the_web_server_asks_about_a_url(file_bridge: Bridge) -> None:
+    (first, second), (other,) = hand_out(file_bridge, "ann", 2), hand_out(file_bridge, "bob", 1)
+    answers = [checked(file_bridge, url_of(file_bridge, name)) for name in (first, second, other)]
+    assert [status for status, _ in answers] == ["200 OK"] * 3
+    accounts = [account for _, account in answers]
+    assert accounts[0] == accounts[1] != accounts[2] and all(len(account) == 16 for account in accounts)
+    assert not any("ann" in account for account in accounts)
+
+
+@pytest.mark.parametrize(
+    "change",
+    [
+        lambda url: url[:-1] + ("0" if url[-1] != "0" else "1"),
+        lambda url: url.upper(),
+        lambda url: url[:-32],
+        lambda url: url[:-33],
+        lambda url: url.replace("w", "x"),
+        lambda url: url.replace("_0/", "_1/"),
+        lambda url: f"{url}/",
+        lambda url: f"{url}?x=1",
+        lambda url: f"{url}\n",
+        lambda url: url.rpartition("/")[0] + "/\u00e9" * 16,
+        lambda url: "/p/file_upload_handler/",
+        lambda url: "/p/file_upload_handler//",
+        lambda url: "",
+    ],
+)
+def test_a_url_that_no_reply_has_is_refused_before_its_body_is_read(
+    file_bridge: Bridge, change: Callable[[str], str]
+) -> None:
+    (name,) = hand_out(file_bridge, "ann", 1)
+    url = change(url_of(file_bridge, name))
+    assert checked(file_bridge, url.encode().decode("latin-1"))[0] == "403 Forbidden"
+
+
+def test_without_a_web_server_the_bridge_looks_at_the_url_by_itself(file_bridge: Bridge) -> None:
+    (name, other) = hand_out(file_bridge, "ann", 2)
+    tokens = file_bridge.application.writer.tokens
+    assert tokens is not None
+    message = upload(name, b"x", tokens.token(name, SIZE))
+    wrong = f"/p/file_upload_handler/{name}/{'0' * 32}"
+    for path in (wrong, url_of(file_bridge, other), "/p/file_upload_handler"):
+        body = file_bridge.got(path, "POST", message)[2]
+        assert b"<status>-1</status>" in body, path
+    assert on_disk(file_bridge.folder) == {}
+    assert b"<status>0</status>" in file_bridge.got(url_of(file_bridge, name), "POST", message)[2]
+
+
+@pytest.mark.parametrize("end", [report_success, report_error, bar, delete])
+def test_the_web_server_is_told_that_a_job_ended(file_bridge: Bridge, end: Callable[[Bridge], None]) -> None:
+    end(file_bridge)
+    assert checked(file_bridge, url_of(file_bridge, "u1_0_0"))[0] == "403 Forbidden"
+
+
+def test_a_url_of_an_older_bridge_is_good_until_the_last_of_its_jobs_ends(
+    file_bridge: Bridge, monkeypatch: pytest.MonkeyPatch
+) -> None:
+    monkeypatch.setattr("bsched_bridge.upload_owners.LOOK_SECONDS", 0.0)
+    first, second = hand_out(file_bridge, "ann", 2)
+    tables, plain = file_bridge.store.tables, "/p/file_upload_handler"
+    with tables.transaction() as connection:
+        connection.execute("UPDATE job SET has_url = 0")
+    tokens = file_bridge.application.writer.tokens
+    assert tokens is not None
+    message = upload(first, b"x", tokens.token(first, SIZE))
+    for name in (first, second):
+        file_bridge.restart()
+        assert checked(file_bridge, plain) == ("200 OK", "")
+        assert b"<status>0</status>" in file_bridge.got(plain, "POST", message)[2]
+        HandedOut(file_bridge.store.tables).end([name.rpartition("_")[0]], 1)
+        message = upload(second, b"x", tokens.token(second, SIZE))
+    assert checked(file_bridge, plain)[0] == "403 Forbidden"
+    assert b"<status>-1</status>" in file_bridge.got(plain, "POST", message)[2]
+
+
 # ---- An older file
 
 
@@ -303,8 +388,14 @@ def test_a_file_of_format_1_is_upgraded(tmp_path: Path) -> None:
             ("a..b_0", None, None, None),
             ("w_1", 7, "x", None),
         ]
+        assert HandedOut(tables).has_without_url() is False  # the listing has no files
         tables.close()
     new = UploadTables(tmp_path / "new.db")
+    tables = UploadTables(path)
+    with tables.transaction() as connection:
+        connection.execute("UPDATE listing SET files = '[1]'")
+    assert HandedOut(tables).has_without_url() is True
+    tables.close()
     schema = "SELECT name, sql FROM sqlite_schema WHERE sql LIKE 'CREATE INDEX%' ORDER BY name"
     upgraded = UploadTables(path)
     assert upgraded.rows(schema) == new.rows(schema)

@@ -27,6 +27,7 @@ from uploading import (
     sha256_of,
     tokens_of,
     upload,
+    url_of,
 )
 
 from bsched_bridge import uploads
@@ -62,7 +63,7 @@ def test_a_reply_names_the_output_files(file_bridge: Bridge) -> None:
         ("generated_locally", "1"),
         ("upload_when_present", "1"),
         ("max_nbytes", "20000"),
-        ("url", "http://127.0.0.1:8081/p/file_upload_handler"),
+        ("url", f"http://127.0.0.1:8081{url_of(file_bridge, 'u1_0_0')}"),
     ]
     token, other = (one.findtext("xml_signature", "").strip() for one in (first, second))
     assert len(token) == 64 and token != other
@@ -127,7 +128,8 @@ def test_a_file_is_received(file_bridge: Bridge, data: bytes) -> None:
 def test_a_client_that_asks_for_the_size_sends_all(file_bridge: Bridge) -> None:
     tokens = given(file_bridge)
     for _ in range(2):
-        body = file_bridge.got("/p/file_upload_handler", "POST", ASKS_SIZE.format(name="u1_0_0").encode())[2]
+        question = ASKS_SIZE.format(name="u1_0_0").encode()
+        body = file_bridge.got(url_of(file_bridge, "u1_0_0"), "POST", question)[2]
         root = ElementTree.fromstring(body)
         assert (root.tag, root.findtext("status"), root.findtext("file_size")) == (
             "data_server_reply",
@@ -164,7 +166,7 @@ def test_odd_and_forged_messages_store_nothing(file_bridge: Bridge) -> None:
     tokens = given(file_bridge)
     seen = 0
     for what, message, status in odd_messages(("u1_0_0", "u1_0_1"), tokens["u1_0_0"], tokens["u1_0_1"]):
-        assert sent(file_bridge, message) == status, what
+        assert sent(file_bridge, message, "u1_0_0") == status, what
         assert on_disk(file_bridge.folder) == {}, what
         assert file_bridge.store.upload("u1_0_0") is None and file_bridge.store.tables.used() == 0
         seen += 1
@@ -205,7 +207,7 @@ PIECES = [
 )
 @hypothesis.given(st.lists(st.sampled_from(PIECES), max_size=20).map(b"".join))
 def test_any_message_gets_an_answer_and_stores_nothing(file_bridge: Bridge, message: bytes) -> None:
-    assert sent(file_bridge, message) in (AGAIN, NEVER)
+    assert sent(file_bridge, message, "u1_0_0") in (AGAIN, NEVER)
     assert on_disk(file_bridge.folder) == {}
 
 
@@ -213,7 +215,7 @@ def test_any_message_gets_an_answer_and_stores_nothing(file_bridge: Bridge, mess
 def test_a_message_that_breaks_off_is_sent_again(file_bridge: Bridge, end: int) -> None:
     tokens = given(file_bridge)
     message = upload("u1_0_0", DATA, tokens["u1_0_0"])
-    assert sent(file_bridge, message[:end], CONTENT_LENGTH=str(len(message))) == AGAIN
+    assert sent(file_bridge, message[:end], "u1_0_0", CONTENT_LENGTH=str(len(message))) == AGAIN
     assert on_disk(file_bridge.folder) == {}
 
 
@@ -233,8 +235,10 @@ def test_a_connection_that_fails_is_no_final_answer(file_bridge: Bridge) -> None
 
 
 def test_what_is_no_upload(file_bridge: Bridge) -> None:
-    assert file_bridge.got("/p/file_upload_handler")[0] == "405 Method Not Allowed"
-    assert file_bridge.got("/p/file_upload_handler", "POST", CONTENT_LENGTH="")[0] == "411 Length Required"
+    for path in ("/p/file_upload_handler", url_of(file_bridge, "u1_0_0")):
+        assert file_bridge.got(path)[0] == "405 Method Not Allowed"
+        assert file_bridge.got(path, "POST", CONTENT_LENGTH="")[0] == "411 Length Required"
+    assert file_bridge.got(f"{path}/more", "POST")[0] == "404 Not Found"
 
 
 def test_without_output_files_nothing_is_uploaded(bridge: Bridge) -> None:

@@ -69,9 +69,19 @@ def upload(name: str, data: bytes, token: str, max_nbytes: int | str = 20_000, *
     return HEAD.format(name=name, token=token, max_nbytes=max_nbytes, **values).encode() + data
 
 
-def sent(bridge: Bridge, message: bytes, **more: Any) -> int:
-    """Returns the status in the answer to a message of an upload."""
-    status, fields, body = bridge.got("/p/file_upload_handler", "POST", message, **more)
+def url_of(bridge: Bridge, name: str) -> str:
+    """Returns the path of the URL of a file, as a reply has it."""
+    tokens = bridge.application.writer.tokens
+    assert tokens is not None
+    return f"/p/file_upload_handler/{name}/{tokens.url_token(name)}"
+
+
+def sent(bridge: Bridge, message: bytes, name: Any = "", **more: Any) -> int:
+    """Returns the status in the answer to a message of an upload. It goes to the URL of a file, by default of
+    the one that the message names.
+    """
+    path = url_of(bridge, name or found("<name>(.*?)</name>", message[:8192].decode("latin-1")))
+    status, fields, body = bridge.got(path, "POST", message, **more)
     assert (status, fields["Content-Length"]) == ("200 OK", str(len(body)))
     pattern = r"\A<data_server_reply>\n<status>(-?\d+)</status>\n.*</data_server_reply>\n\Z"
     return int(found(pattern, body.decode(), re.DOTALL))

@@ -44,7 +44,7 @@ http {{
 UNLIMITED = """
         client_max_body_size 16m;
         location / {{ proxy_pass http://127.0.0.1:{bridge}; }}
-        location = /file_upload_handler {{
+        location /file_upload_handler {{
             proxy_pass http://127.0.0.1:{bridge};
             client_max_body_size {most};
             proxy_read_timeout 600s;
@@ -179,6 +179,10 @@ class Project:
         if good not in answer:
             raise TrialFault(repr(answer))
 
+    def url_of(self, name: str) -> str:
+        """Returns the path of the URL of a file, as a reply has it."""
+        return f"/file_upload_handler/{name}/{self.tokens.url_token(name)}"
+
     def upload(self, name: str, nbytes: int) -> None:
         """Uploads a file of this many bytes."""
         blocks, rest = divmod(nbytes, len(BLOCK))
@@ -194,7 +198,7 @@ class Project:
             md5=md5.hexdigest(),
             offset=0,
         )
-        self.sent("/file_upload_handler", head.encode(), blocks, BLOCK[:rest], b"<status>0</status>")
+        self.sent(self.url_of(name), head.encode(), blocks, BLOCK[:rest], b"<status>0</status>")
 
     def call(self, host: str) -> None:
         """Sends a call."""

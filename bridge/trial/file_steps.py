@@ -69,7 +69,7 @@ SMALL_BUFFER = (
 
 def uploads_of(name: str):
     """Returns the test for an upload of a file of a workunit, with its bytes."""
-    return lambda message: message.path == UPLOAD and f"<name>{name}_".encode() in message.body
+    return lambda message: message.path.startswith(UPLOAD) and f"<name>{name}_".encode() in message.body
 
 
 def sha256_of(text: str) -> str:
@@ -251,9 +251,9 @@ class Files(Run):
         tokens = UploadTokens((self.folder / "uploads" / "secret").read_bytes())
         names = ("forged_0_0", "forged_0_1")
         messages = list(odd_messages(names, *(tokens.token(name, 20_000) for name in names)))
-        before = self.on_disk()
+        before, path = self.on_disk(), f"{UPLOAD}/{names[0]}/{tokens.url_token(names[0])}"
         for what, message, status in messages:
-            with urlopen(f"http://127.0.0.1:{BRIDGE_PORT}{UPLOAD}", message, timeout=30) as response:
+            with urlopen(f"http://127.0.0.1:{BRIDGE_PORT}{path}", message, timeout=30) as response:
                 found = re.search(rb"<status>(-?\d+)</status>", response.read())
             wants(found and int(found[1]) == status, f"the answer to {what} is {status}: {found}")
             wants(self.on_disk() == before, f"{what} stores nothing")

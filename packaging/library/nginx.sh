@@ -33,15 +33,24 @@ redirects() {
   answered_location "/" 404
 }
 
+# Prints the line by which browsers use TLS alone for the name of the server. A browser that has read it asks the usual
+# port of TLS, so there is none for another port.
+strict_transport() {
+  [ "$1" = 443 ] || return 0
+  printf '%s\n' "    # browsers use TLS alone for this name, not for names below it; remove it if the name has sites without TLS"
+  printf '%s\n' '    add_header Strict-Transport-Security "max-age=31536000" always;'
+}
+
 # Prints a template of nginx for a project.
 filled() {
-  local template=$1 project=$2 url=$3 site host path port lines
+  local template=$1 project=$2 url=$3 site host path port lines strict
   site=${url%%/"${url#*://*/}"} site=${site%/}
   host=${site#*://} path=${url#"$site"} port=443
   if [[ $host = *:* ]]; then port=${host##*:} host=${host%:*}; fi
-  lines=$(redirects "$url" "$path")
+  lines=$(redirects "$url" "$path") strict=$(strict_transport "$port")
   while IFS= read -r line; do
     line=${line//@REDIRECTS@/$lines}
+    line=${line//@HSTS@/$strict}
     line=${line//@NAME@/$project}
     line=${line//@URL@/$url}
     line=${line//@SITE@/$site}
