@@ -18,7 +18,7 @@ from enum import Enum
 from .barring import Barred, Barring
 from .key_locks import Busy, KeyLocks
 from .languages import gettext_noop
-from .limits import NoPlace, Places, RecentCounts
+from .limits import ClientTurns, NetworkCounts, NoPlace, Places, RecentCounts
 from .members import DayIsFull, EmailTaken, Member, Members
 from .passwords import Passwords, TooBusy, is_client_hash
 from .scheduler import NoAnswer, Refusal, Scheduler
@@ -27,6 +27,7 @@ from .words import WORD, cut_to_bytes, shown_key
 
 HOUR, DAY = 3600, 86400
 MOST_WRONG_PASSWORDS = 10  # in an hour, for each client address and for each e-mail address
+NETWORK_SHARE = 10  # no wide network makes more than this part of a day's accounts
 MOST_NAME = 64  # bytes
 MOST_EMAIL = 254  # characters
 # what the Manager accepts as an e-mail address; its wizard never ends if the project refuses such an address
@@ -113,11 +114,12 @@ def account_import(member: Member) -> bytes:
 
 class AccountPlaces:
     """The few places for messages about accounts, so that clients' calls still find a free thread. A client
-    has one at a time. So nobody can take all of them, for example by messages that wait for one another.
+    has one at a time, and a network of 48 bits has two. So nobody can take all of them, for example by
+    messages that wait for one another.
     """
 
     def __init__(self, places: Places) -> None:
-        self.places, self._clients = places, KeyLocks(0)
+        self.places, self._clients = places, ClientTurns()
 
     @contextmanager
     def taken(self, client: str | None) -> Iterator[None]:
@@ -155,10 +157,11 @@ class Accounts:
         self.barring = barring
         self._operator_key = operator_key
         self._locks = KeyLocks(WAIT_SECONDS)
-        self._new = RecentCounts(settings.most_from_address, DAY)
+        self._new = NetworkCounts(settings.most_from_address, DAY, settings.most_a_day // NETWORK_SHARE)
         # A wrong key costs nothing, so the counts of somebody's many networks may push out others. Those of
         # e-mail addresses are apart: each costs a hash, and an hour is too short for MOST_KEYS of them.
-        self._wrong = {who: RecentCounts(MOST_WRONG_PASSWORDS, HOUR) for who in ("client", "email", "key")}
+        self._wrong = {who: RecentCounts(MOST_WRONG_PASSWORDS, HOUR) for who in ("email", "key")}
+        self._wrong["client"] = NetworkCounts(MOST_WRONG_PASSWORDS, HOUR)
 
     # ---- What clients ask for
 

@@ -3,9 +3,16 @@ import ipaddress
 import threading
 import time
 from collections import OrderedDict
-from collections.abc import Callable, Hashable
+from collections.abc import Callable, Hashable, Iterator
+from contextlib import ExitStack, contextmanager
+
+from .key_locks import KeyLocks
 
 MOST_KEYS = 100_000
+# how many times the limit of a client a network of 56 and of 48 bits has; one customer can have all of it
+SITE = 48
+WIDER = {56: 4, SITE: 10}
+TURNS_OF_SITE = 2  # at once
 
 
 class NoPlace(Exception):
@@ -101,6 +108,77 @@ class RecentCounts:
                 times.pop()
                 if not times:
                     del self._times[key]
+
+
+class NetworkCounts(RecentCounts):
+    """Counts what each client did, and what the networks of 56 and 48 bits did that have it. These are
+    allowed some times the limit of a client, and no more than a limit of their own.
+    """
+
+    def __init__(
+        self,
+        most: int,
+        seconds: float,
+        most_of_network: int | None = None,
+        clock: Callable[[], float] = time.monotonic,
+    ) -> None:
+        super().__init__(most, seconds, clock)
+        self._wider = {}
+        for bits, times in WIDER.items():
+            allowed = most * times if most_of_network is None else min(most * times, most_of_network)
+            self._wider[bits] = RecentCounts(max(most, allowed), seconds, lambda: self.clock())
+
+    def take(self, key: Hashable) -> bool:
+        """Counts one more for a client and its networks. If one of them has reached its limit, counts nothing
+        and returns False.
+        """
+        if not super().take(key):
+            return False
+        taken: list[tuple[RecentCounts, str]] = []
+        for bits, network in networks_above(key).items():
+            if not self._wider[bits].take(network):
+                super().give_back(key)
+                for counts, one in taken:
+                    counts.give_back(one)
+                return False
+            taken.append((self._wider[bits], network))
+        return True
+
+    def give_back(self, key: Hashable) -> None:
+        """Takes back the last count of a client and its networks."""
+        super().give_back(key)
+        for bits, network in networks_above(key).items():
+            self._wider[bits].give_back(network)
+
+
+class ClientTurns:
+    """One turn at a time for each client, and two for all clients of a network of 48 bits. So no network
+    takes all places for itself.
+    """
+
+    def __init__(self) -> None:
+        self._locks = KeyLocks(0)
+
+    @contextmanager
+    def held(self, client: str) -> Iterator[None]:
+        """Has the turn of a client for the block. Raises Busy if it has one already."""
+        with ExitStack() as stack:
+            stack.enter_context(self._locks.held(client))
+            site = networks_above(client).get(SITE)
+            if site is not None:
+                stack.enter_context(self._locks.held((site, hash(client) % TURNS_OF_SITE)))
+            yield
+
+
+def networks_above(client: Hashable) -> dict[int, str]:
+    """Returns the wider networks of a client that is a network of 64 bits, by how many bits they have.
+    Other clients have none that count.
+    """
+    try:
+        network = ipaddress.IPv6Network(client)
+    except ValueError:
+        return {}
+    return {bits: str(network.supernet(new_prefix=bits)) for bits in WIDER}
 
 
 def network_of(address: str) -> str:

@@ -13,8 +13,8 @@ from collections.abc import Iterator
 from contextlib import contextmanager
 from dataclasses import dataclass
 
-from .key_locks import Busy, KeyLocks
-from .limits import RecentCounts
+from .key_locks import Busy
+from .limits import ClientTurns, NetworkCounts
 
 HASH = re.compile("[0-9a-f]{32}")
 SALT_BYTES = 16
@@ -24,6 +24,7 @@ WAIT_SECONDS = 5.0
 # For one client address, right or wrong: 5 seconds of a processor in a minute. So the owner of an account
 # can't keep others from their log-ins.
 MOST_HASHES, MINUTE = 40, 60.0
+MOST_OF_NETWORK = 80  # a tenth of what two at once take in a minute
 
 
 class TooBusy(Exception):
@@ -80,7 +81,7 @@ class Passwords:
     """Makes and checks secrets. It does at most two at once, since each takes memory and time.
 
     Only a few may wait for their turn, so that other messages find a free thread. One client has one turn at
-    a time, and only so many in a minute.
+    a time, and only so many in a minute. A wide network has no more than half of the turns at once.
     """
 
     def __init__(self, cost: Cost = COST) -> None:
@@ -88,19 +89,30 @@ class Passwords:
         self._unknown = Secret(secrets.token_bytes(SALT_BYTES), b"", cost.text())
         self._turns = threading.BoundedSemaphore(AT_ONCE)
         self._places = threading.BoundedSemaphore(AT_ONCE + WAITING)
-        self._clients = KeyLocks(0)
-        self._recent = RecentCounts(MOST_HASHES, MINUTE)
+        self._clients = ClientTurns()
+        self._recent = NetworkCounts(MOST_HASHES, MINUTE, MOST_OF_NETWORK)
 
     @contextmanager
     def _turn(self, client: str) -> Iterator[None]:
         """Takes one of the few turns in which a hash is computed."""
         try:
-            with self._clients.held(client), self._place():
-                if not self._recent.take(client):
-                    raise TooBusy
+            with self._clients.held(client), self._counted(client), self._place():
                 yield
         except Busy:
             raise TooBusy from None
+
+    @contextmanager
+    def _counted(self, client: str) -> Iterator[None]:
+        """Counts a hash for a client, before it waits for a place: one beyond its limit keeps nobody out. If
+        there is no place, it does not count.
+        """
+        if not self._recent.take(client):
+            raise TooBusy
+        try:
+            yield
+        except TooBusy:
+            self._recent.give_back(client)
+            raise
 
     @contextmanager
     def _place(self) -> Iterator[None]:

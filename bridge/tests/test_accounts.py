@@ -7,6 +7,7 @@ import threading
 import time
 import xml.etree.ElementTree as ElementTree
 from collections.abc import Callable
+from contextlib import suppress
 from dataclasses import replace
 from pathlib import Path
 from urllib.parse import urlencode
@@ -274,6 +275,38 @@ def test_addresses_of_one_network_are_one(open_bridge: Bridge) -> None:
     assert isinstance(create(open_bridge, "v@sums.example", client="2001:db8:0:1::1"), str)
 
 
+def test_no_wide_network_makes_all_accounts_of_a_day(open_bridge: Bridge) -> None:
+    """The attack: a customer has 65,536 networks of 64 bits in one of 48, and takes another one each time."""
+    made = [
+        create(open_bridge, f"u{number}@sums.example", client=f"2001:db8:5:{number:x}::1")
+        for number in range(12)
+    ]
+    assert [isinstance(one, str) for one in made] == [True] * 5 + [False] * 7  # a tenth of 50
+    assert made[5:] == [-208] * 7
+    honest = [
+        create(open_bridge, f"v{number}@sums.example", client=f"2001:db8:{number + 6:x}::1")
+        for number in range(9)
+    ]
+    assert all(isinstance(one, str) for one in honest)
+
+
+def test_wrong_passwords_of_a_wide_network(open_bridge: Bridge, monkeypatch: pytest.MonkeyPatch) -> None:
+    """A network of 56 bits tries four times as often as one of 64, and one of 48 ten times."""
+    monkeypatch.setattr(open_bridge.application.accounts.passwords, "_recent", RecentCounts(1000, 1))
+    key, tried = create(open_bridge, client="192.0.2.1"), 0
+
+    def guess(client: str) -> int | str:
+        nonlocal tried
+        tried += 1
+        return look_up(open_bridge, f"nobody{tried}@sums.example", "wrong-1", client=client)
+
+    assert [guess(f"2001:db8:5:{one % 8:x}::1") for one in range(50)] == [-155] * 40 + [-183] * 10
+    assert [guess(f"2001:db8:5:{one % 30 + 1:x}00::1") for one in range(70)] == [-155] * 60 + [-183] * 10
+    assert guess("2001:db8:5:5000::1") == -183
+    assert guess("2001:db8:6::1") == -155
+    assert look_up(open_bridge, client="2001:db8:7::1") == key
+
+
 def test_a_day_takes_so_many_accounts(
     project: Path, open_bridge: Bridge, twin: Twin, caplog: pytest.LogCaptureFixture
 ) -> None:
@@ -507,6 +540,64 @@ def test_two_hashes_at_once_and_few_that_wait(monkeypatch: pytest.MonkeyPatch) -
         thread.join()
     assert max(most) == 2
     hashes.new_secret("0" * 32, "another")
+
+
+def test_a_wide_network_has_half_of_the_hashes_at_once(monkeypatch: pytest.MonkeyPatch) -> None:
+    """The attack: networks of 64 bits of one customer send wrong passwords all the time, and others wait."""
+    monkeypatch.setattr("bsched_bridge.passwords.WAIT_SECONDS", 60.0)
+    hashes, ended = Passwords(Cost(2**4, 8, 1)), threading.Event()
+    monkeypatch.setattr("bsched_bridge.passwords.scrypt", lambda *_words: b"" if ended.wait(60) else b"")
+    ends: list[str] = []
+
+    def ask(client: str) -> None:
+        try:
+            hashes.new_secret("0" * 32, client)
+            ends.append("made")
+        except TooBusy:
+            ends.append("busy")
+
+    threads = [threading.Thread(target=ask, args=(f"2001:db8:5:{n:x}::/64",)) for n in range(40)]
+    for thread in threads:
+        thread.start()
+    wait_until(lambda: len(ends) == 38)
+    honest = [threading.Thread(target=ask, args=(client,)) for client in ("192.0.2.1", "2001:db8:6::/64")]
+    for thread in honest:
+        thread.start()
+    wait_until(lambda: not hashes._places._value)
+    ended.set()
+    for thread in [*threads, *honest]:
+        thread.join()
+    assert (ends.count("busy"), ends.count("made")) == (38, 4)
+
+
+def test_a_wide_network_has_a_tenth_of_the_hashes_of_a_minute(monkeypatch: pytest.MonkeyPatch) -> None:
+    now = [0.0]
+    hashes = Passwords(Cost(2**4, 8, 1))
+    hashes._recent.clock = lambda: now[0]
+    monkeypatch.setattr("bsched_bridge.passwords.scrypt", lambda *_words: b"")
+
+    def made(clients: list[str]) -> int:
+        count = 0
+        for client in clients:
+            with suppress(TooBusy):
+                hashes.new_secret("0" * 32, client)
+                count += 1
+        return count
+
+    assert made([f"2001:db8:5:{n:x}::/64" for n in range(1000)]) == 80
+    assert made(["192.0.2.1"] * 50) == 40
+    assert made(["2001:db8:6::/64"]) == 1
+    now[0] = 61.0
+    assert made(["2001:db8:5:7::/64"]) == 1
+
+
+def test_a_hash_beyond_the_limit_takes_no_place(monkeypatch: pytest.MonkeyPatch) -> None:
+    """Else somebody who is refused would still keep others out while he waits."""
+    hashes = Passwords(Cost(2**4, 8, 1))
+    monkeypatch.setattr(hashes._recent, "take", lambda _client: False)
+    monkeypatch.setattr(hashes, "_place", None)
+    with pytest.raises(TooBusy):
+        hashes.new_secret("0" * 32, CLIENT)
 
 
 def test_one_client_has_one_hash_at_once(open_bridge: Bridge, monkeypatch: pytest.MonkeyPatch) -> None:
