@@ -9,7 +9,7 @@ from typing import NoReturn
 import waitress
 
 from . import client_requests, sweep_command, uploads_command
-from .application import new_application
+from .application import UPLOADS_WAITING, new_application
 from .catalogue import read_catalogue
 from .code_signing import KeyFault, file_md5, read_private_key, signature_text, write_new_keys
 from .digest_programs import DigestFault, check_digest
@@ -114,7 +114,7 @@ def serve(path: Path, only_check: bool, other_catalogue: Path | None = None) -> 
         application,
         host=settings.listen.host,
         port=settings.listen.port,
-        threads=settings.threads,
+        threads=settings.threads + UPLOADS_WAITING,
         connection_limit=MOST_CONNECTIONS,
         max_request_body_size=max(client_requests.MOST_BYTES, most_body(settings.uploads)),
         ident="bsched_bridge",

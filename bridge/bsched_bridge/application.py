@@ -57,6 +57,7 @@ from .uploads import Uploads
 from .volunteer_pages import VolunteerPages
 
 KEPT_THREADS = 2  # for pages and files, which need nothing of bsched
+UPLOADS_WAITING = 16  # for a place; the server has as many threads besides `threads`
 
 log = logging.getLogger(__name__)
 
@@ -85,10 +86,11 @@ class Application:
         self.places = Places(max(1, settings.threads - KEPT_THREADS))
         self.account_places = AccountPlaces(Places(half, self.places))
         self.upload_places = Places(half, self.places)
+        waiting = Places(half + UPLOADS_WAITING)
         self.uploads: Uploads | None = None
         if store is not None:
             owners = UploadOwners(HandedOut(store.tables), partial(is_barred, barring, self.rules))
-            self.uploads = Uploads(store, owners, self.upload_places, measured.uploads)
+            self.uploads = Uploads(store, owners, self.upload_places, waiting, measured.uploads)
         self.downloads = Downloads(current, Places(half, self.places), settings.retry_delay)
         self.accounts: Accounts | None = None
         if settings.accounts is not None and key is not None:

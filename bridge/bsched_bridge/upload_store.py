@@ -17,6 +17,7 @@ import hashlib
 import logging
 import math
 import os
+import re
 import sqlite3
 import time
 from collections.abc import Iterable
@@ -35,6 +36,7 @@ from .upload_tables import UploadTables
 from .upload_tokens import read_secret, write_secret
 
 FILE_MODE = 0o440  # nobody writes a file any more, and nobody runs it
+SHA256 = re.compile("[0-9a-f]{64}")
 BLOCK = 256 * 1024  # bytes that are read at once
 
 log = logging.getLogger(__name__)
@@ -311,6 +313,23 @@ class UploadStore:
             (self.store / sha256).unlink(missing_ok=True)
             connection.execute("DELETE FROM content WHERE sha256 = ?", (sha256,))
         return unused
+
+    def delete_unknown(self, before: float) -> tuple[int, int]:
+        """Deletes files in store/ that no row names, and that have been there since before a moment. A stop,
+        or a full disk, leaves one between its link and its row. Returns how many, and their bytes.
+        """
+        query, count, nbytes = "SELECT 1 FROM content WHERE sha256 = ?", 0, 0
+        with os.scandir(self.store) as entries:
+            names = (entry.name for entry in entries if SHA256.fullmatch(entry.name))
+            unknown = [name for name in names if self.tables.row(query, name) is None]
+        for name in unknown:
+            with self.tables.turn():
+                path, is_named = self.store / name, self.tables.row(query, name) is not None
+                status = path.lstat() if not is_named and mark_of(path) is not None else None
+                if status is not None and status.st_ctime < before:
+                    path.unlink()
+                    count, nbytes = count + 1, nbytes + status.st_size
+        return count, nbytes
 
     def stored_files(self, result: str) -> dict[str, StoredOutput]:
         """Returns the stored files of a result, by their open_names."""

@@ -19,7 +19,7 @@ from typing import TypeVar
 from .upload_store import UploadStore
 
 DAY = 86_400
-ENDED_DAYS = 1  # for which an operator can look at the files of an error
+ENDED_DAYS = 1  # for which an operator can look at files that nobody needs
 LEFT_DAYS = 120  # after which no result comes any more: a client gives up an upload after 90 days
 PART = 200  # rows of a turn; an upload may have to wait for it
 PAGE = 10_000  # rows that are read at once
@@ -71,6 +71,8 @@ def sweep(store: UploadStore, now: int, decisions: Decisions | None, barred: Set
     sweep_jobs(store, now, decisions.contents if decisions is not None else set(), swept)
     if decisions is not None:
         sweep_results(store, now - store.settings.keep_days * DAY, decisions, swept)
+    count, nbytes = store.delete_unknown(now - ENDED_DAYS * DAY)
+    swept.contents, swept.nbytes = swept.contents + count, swept.nbytes + nbytes
     return swept
 
 

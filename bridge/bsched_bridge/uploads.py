@@ -16,6 +16,7 @@ import logging
 import re
 import sqlite3
 from collections.abc import Iterator
+from contextlib import suppress
 from dataclasses import dataclass
 from typing import BinaryIO
 
@@ -23,7 +24,7 @@ from werkzeug.exceptions import Forbidden
 from werkzeug.wrappers import Request, Response
 
 from .http_messages import TEXT, answer, length_of
-from .languages import language_of
+from .languages import Language, language_of
 from .limits import NoPlace, Places
 from .measurements import UploadCounts, UploadEnd
 from .settings import UploadSettings
@@ -112,17 +113,32 @@ def answer_of(status: int, message: str, file_size: int | None = None) -> Respon
     return answer(TEXT, body.encode())
 
 
-def blocks_of(begin: bytes, stream: BinaryIO, nbytes: int) -> Iterator[bytes]:
+class Body:
+    """The body of a message, of which a part is read."""
+
+    def __init__(self, stream: BinaryIO, length: int) -> None:
+        self.stream, self.length, self.left = stream, length, length
+
+    def read(self, most: int) -> bytes:
+        """Reads at most so many of the bytes that are left; none if the client broke off."""
+        block = self.stream.read(min(self.left, most))
+        self.left -= len(block)
+        return block
+
+    def read_on(self, most: int) -> None:
+        """Reads what is left, but no more than so many bytes."""
+        most = min(self.left, most)
+        with suppress(OSError):
+            while most > 0 and (block := self.read(min(most, BLOCK))):
+                most -= len(block)
+
+
+def blocks_of(begin: bytes, body: Body) -> Iterator[bytes]:
     """Yields the bytes of a file: those that were read with the head, and then the rest, in blocks. If the
     client breaks off, they are fewer.
     """
     yield begin
-    left = nbytes - len(begin)
-    while left > 0:
-        block = stream.read(min(left, BLOCK))
-        if not block:
-            return
-        left -= len(block)
+    while block := body.read(BLOCK):
         yield block
 
 
@@ -132,12 +148,17 @@ def most_body(settings: UploadSettings | None) -> int:
 
 
 class Uploads:
-    """Answers the messages of uploads."""
+    """Answers the messages of uploads. Only so many receive a file, and some more wait for a place."""
 
     def __init__(
-        self, store: UploadStore, owners: UploadOwners, places: Places, counts: UploadCounts | None = None
+        self,
+        store: UploadStore,
+        owners: UploadOwners,
+        places: Places,
+        waiting: Places,
+        counts: UploadCounts | None = None,
     ) -> None:
-        self.store, self.owners, self.places = store, owners, places
+        self.store, self.owners, self.places, self.waiting = store, owners, places, waiting
         self.tokens = UploadTokens(store.secret)
         self.counts = counts or UploadCounts()
 
@@ -172,17 +193,25 @@ class Uploads:
     def answer(self, message: Request, name: str | None = None, token: str = "") -> Response:
         """Answers a message, whose URL has the name of a file and a token. It never has a status of HTTP from
         400 on for what a client sends: the client would try again, for 90 days.
+
+        What is left of a body is read before the answer: a proxy, or the client, may not read the answer
+        while it still sends.
         """
-        length, stream = length_of(message.environ), message.environ["wsgi.input"]
-        language = language_of(message)
+        body = Body(message.environ["wsgi.input"], length_of(message.environ))
+        answered = self._answered(body, name, token, language_of(message))
+        body.read_on(most_body(self.store.settings))
+        return answered
+
+    def _answered(self, body: Body, name: str | None, token: str, language: Language) -> Response:
+        """Returns the answer to a message, a part of whose body may be left."""
         try:
             self._owner(name, token)
-            begin = stream.read(min(length, MOST_HEAD))
+            begin = body.read(MOST_HEAD)
             if is_question(begin):
                 return answer_of(DONE, "", file_size=0)
-            if len(begin) < min(length, MOST_HEAD):
+            if len(begin) < min(body.length, MOST_HEAD):
                 raise NotNow("the message is not complete")
-            return self._received(name, begin, stream, length)
+            return self._received(name, begin, body)
         except (BadMessage, Ended) as fault:
             self.counts.record(UploadEnd.REFUSED)
             log.warning("an upload is refused for good: %s", fault)
@@ -196,7 +225,7 @@ class Uploads:
         self.counts.record(UploadEnd.PUT_OFF)
         return answer_of(AGAIN, language.gettext("The project can't take this file at the moment."))
 
-    def _received(self, name: str | None, begin: bytes, stream: BinaryIO, length: int) -> Response:
+    def _received(self, name: str | None, begin: bytes, body: Body) -> Response:
         """Receives a file, which the URL names or not, and returns the answer. Before it reads the file it
         checks all that the head says.
         """
@@ -209,10 +238,10 @@ class Uploads:
             raise BadMessage(f"{head.file.name} has more bytes than it may have")
         if head.offset != 0:
             raise NotNow("it does not begin at the first byte")
-        if length != head.length + head.file.nbytes:
+        if body.length != head.length + head.file.nbytes:
             raise NotNow("its length is not that of its head and its file")
         owner = self.owners.of(head.file.name)
-        with self.places.taken(PLACE_SECONDS):
-            self.store.receive(head.file, owner, blocks_of(begin[head.length :], stream, head.file.nbytes))
+        with self.waiting.taken(), self.places.taken(PLACE_SECONDS):
+            self.store.receive(head.file, owner, blocks_of(begin[head.length :], body))
         self.counts.record(UploadEnd.RECEIVED, head.file.nbytes)
         return answer_of(DONE, "")

@@ -10,6 +10,7 @@ from bsched_bridge import sweep_command
 from bsched_bridge.client_requests import read_request
 from bsched_bridge.hosts import Key
 from bsched_bridge.operator_files import OperatorFault
+from bsched_bridge.output_files import OutputFile
 from bsched_bridge.state_file import StateFault
 from bsched_bridge.upload_sweep import DAY, Decisions, Swept, sweep
 
@@ -113,6 +114,24 @@ def test_files_of_a_job_that_went_out_once_more_and_never_came_back_go(file_brid
 def test_a_file_without_a_row_goes(file_bridge: Bridge) -> None:
     (file_bridge.folder / "uploads" / "pending" / "left").write_bytes(RIGHT)
     assert sweep(file_bridge.store, later(file_bridge, 0), None) == Swept(uploads=1)
+
+
+def test_a_stored_file_without_a_row_goes_after_a_day(
+    file_bridge: Bridge, monkeypatch: pytest.MonkeyPatch
+) -> None:
+    """A full disk or a kill between the link and the row leaves it there."""
+    ran(file_bridge, "ann", RIGHT)
+    result = ran(file_bridge, "bob", WRONG, is_reported=False)
+    upload_of_bob = file_bridge.store.upload(f"{result}_0")
+    (file_bridge.folder / "uploads" / "store" / "notes of the operator").write_text("x")
+    with monkeypatch.context() as patch:
+        patch.setattr(file_bridge.store, "forget_files", None)  # the transaction fails at its first step
+        with pytest.raises(TypeError):
+            file_bridge.store.store_files(result, [(OutputFile("out", 1, False, True), upload_of_bob)])
+    assert stored(file_bridge) == {RIGHT, WRONG, b"x"}
+    assert sweep(file_bridge.store, later(file_bridge, 0) + DAY // 2, None) == Swept()
+    assert sweep(file_bridge.store, later(file_bridge, 2), None) == Swept(contents=1, nbytes=6)
+    assert stored(file_bridge) == {RIGHT, b"x"} and file_bridge.store.upload(f"{result}_0") is not None
 
 
 def test_what_the_sweep_stopped_in_the_middle_of_is_done_the_next_time(

@@ -13,6 +13,7 @@ import hypothesis
 import pytest
 from bridges import Bridge
 from hypothesis import strategies as st
+from joining import wait_until
 from messages import FIRST, jobs, request
 from twin import Twin
 from uploading import (
@@ -31,6 +32,7 @@ from uploading import (
 )
 
 from bsched_bridge import uploads
+from bsched_bridge.application import UPLOADS_WAITING
 from bsched_bridge.catalogue import read_catalogue
 from bsched_bridge.limits import Places
 from bsched_bridge.operator_files import OperatorFault
@@ -258,7 +260,7 @@ def test_thirty_uploads_under_one_name_leave_one_file(
     answers: list[int] = []
     store = file_bridge.application.uploads
     assert store is not None
-    store.places = Places(30)
+    store.places, store.waiting = Places(30), Places(30)
 
     def send(number: int) -> None:
         data = b"content %d" % (number % 3)
@@ -289,6 +291,85 @@ def test_an_upload_waits_for_a_place(file_bridge: Bridge, monkeypatch: pytest.Mo
         waiting.start()
     waiting.join()
     assert answers == [DONE]
+
+
+class Counted(io.RawIOBase):
+    """A body that begins with some bytes and then has zeros without end, and counts what is read of it."""
+
+    def __init__(self, begin: bytes) -> None:
+        self.begin, self.count = io.BytesIO(begin), 0
+
+    def read(self, size: int = -1, /) -> bytes:
+        """Reads some bytes."""
+        block = self.begin.read(size) or bytes(size)
+        self.count += len(block)
+        return block
+
+
+@pytest.mark.parametrize(
+    "what, status", [("forged", NEVER), ("of another URL", NEVER), ("without a place", AGAIN), ("odd", AGAIN)]
+)
+def test_a_body_is_read_before_its_upload_is_refused(
+    file_bridge: Bridge, monkeypatch: pytest.MonkeyPatch, what: str, status: int
+) -> None:
+    """Else nginx, which still sends, makes a broken bridge of it: the client does not read that it shall give
+    up, and sends the file for 90 days.
+    """
+    monkeypatch.setattr(uploads, "PLACE_SECONDS", 0.01)
+    tokens, handler = given(file_bridge), file_bridge.application.uploads
+    assert handler is not None
+    if what == "without a place":
+        handler.places = Places(1)
+        handler.places.take(0)
+    token = "0" * 64 if what == "forged" else tokens["u1_0_0"]
+    message = upload("u1_0_0", bytes(20_000), token, offset=int(what == "odd"))
+    body, name = Counted(message), "u1_0_1" if what == "of another URL" else "u1_0_0"
+    assert sent(file_bridge, message, name, **{"wsgi.input": body}) == status
+    assert body.count == len(message)
+
+
+def test_no_more_of_a_body_is_read_than_an_upload_may_have(file_bridge: Bridge) -> None:
+    tokens = given(file_bridge)
+    path = file_bridge.folder / "bridge.toml"
+    path.write_text(path.read_text() + "most_result_bytes = 21_000\n")
+    file_bridge.restart()
+    message = upload("u1_0_0", bytes(20_000), tokens["u1_0_0"])
+    body = Counted(message)
+    assert sent(file_bridge, message, CONTENT_LENGTH=str(10**15), **{"wsgi.input": body}) == AGAIN
+    assert body.count <= 2 * (8192 + 21_000)
+
+
+def test_uploads_that_wait_leave_threads_for_pages(
+    file_bridge: Bridge, monkeypatch: pytest.MonkeyPatch
+) -> None:
+    """As many threads as the server has without the two for pages are taken: by calls, by uploads, and by
+    uploads that wait. One more upload is asked at once to come again.
+    """
+    monkeypatch.setattr(uploads, "PLACE_SECONDS", 60.0)
+    application, tokens = file_bridge.application, given(file_bridge)
+    assert application.uploads is not None
+    handler, answers = application.uploads, list[int]()
+    threads = application.settings.threads + UPLOADS_WAITING
+    message = upload("u1_0_0", DATA, tokens["u1_0_0"])
+    for _ in range(4):
+        handler.places.take(0)
+        handler.waiting.take(0)
+    waiting = [
+        threading.Thread(target=lambda: answers.append(sent(file_bridge, message)))
+        for _ in range(UPLOADS_WAITING)
+    ]
+    for thread in waiting:
+        thread.start()
+    wait_until(lambda: not handler.waiting._places._value)
+    assert sent(file_bridge, message) == AGAIN
+    for _ in range(2):
+        application.places.take(0)  # calls
+    assert 4 + len(waiting) + 2 == threads - 2
+    for _ in range(4):
+        handler.places.give_back()
+    for thread in waiting:
+        thread.join()
+    assert set(answers) <= {DONE, AGAIN}
 
 
 def test_the_folder_has_a_limit(file_bridge: Bridge, caplog: pytest.LogCaptureFixture) -> None:
