@@ -173,7 +173,9 @@ class Uploads:
             owner = self._owner(found[1], found[2] or "")
         except (BadMessage, Ended) as fault:
             self.counts.record(UploadEnd.REFUSED)
-            log.info("an upload is refused for good before it is read: %s", fault)
+            # anybody can send a URL that is none, so the log has only those of jobs
+            level = logging.INFO if isinstance(fault, Ended) else logging.DEBUG
+            log.log(level, "an upload is refused for good before it is read: %s", fault)
             raise Forbidden from None
         account = "" if owner is None else self.tokens.account_digits(owner.key.authenticator)
         return answer(TEXT, b"", {ACCOUNT_FIELD: account})

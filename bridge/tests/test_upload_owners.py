@@ -306,29 +306,29 @@ def test_the_web_server_asks_about_a_url(file_bridge: Bridge) -> None:
     assert not any("ann" in account for account in accounts)
 
 
-@pytest.mark.parametrize(
-    "change",
-    [
-        lambda url: url[:-1] + ("0" if url[-1] != "0" else "1"),
-        lambda url: url.upper(),
-        lambda url: url[:-32],
-        lambda url: url[:-33],
-        lambda url: url.replace("w", "x"),
-        lambda url: url.replace("_0/", "_1/"),
-        lambda url: f"{url}/",
-        lambda url: f"{url}?x=1",
-        lambda url: f"{url}\n",
-        lambda url: url.rpartition("/")[0] + "/\u00e9" * 16,
-        lambda url: "/p/file_upload_handler/",
-        lambda url: "/p/file_upload_handler//",
-        lambda url: "",
-    ],
-)
-def test_a_url_that_no_reply_has_is_refused_before_its_body_is_read(
-    file_bridge: Bridge, change: Callable[[str], str]
-) -> None:
+# What a stranger, or a member with the URL of another file, may ask for
+FORGED_URLS: dict[str, Callable[[str], str]] = {
+    "a digit is guessed": lambda url: url[:-1] + ("0" if url[-1] != "0" else "1"),
+    "in capitals": lambda url: url.upper(),
+    "no token": lambda url: url[:-32],
+    "the name alone": lambda url: url[:-33],
+    "the token for another result": lambda url: url.replace("w", "x"),
+    "the token for another file of the result": lambda url: url.replace("_0/", "_1/"),
+    "a further slash": lambda url: f"{url}/",
+    "a query": lambda url: f"{url}?x=1",
+    "a line end": lambda url: f"{url}\n",
+    "a token beyond ASCII": lambda url: url.rpartition("/")[0] + "/\u00e9" * 16,
+    "no name": lambda url: "/p/file_upload_handler/",
+    "an empty name": lambda url: "/p/file_upload_handler//",
+    "nothing": lambda url: "",
+    "the URL of an older bridge, of which no job is out": lambda url: "/p/file_upload_handler",
+}
+
+
+@pytest.mark.parametrize("what", FORGED_URLS)
+def test_a_url_that_no_reply_has_is_refused_before_its_body_is_read(file_bridge: Bridge, what: str) -> None:
     (name,) = hand_out(file_bridge, "ann", 1)
-    url = change(url_of(file_bridge, name))
+    url = FORGED_URLS[what](url_of(file_bridge, name))
     assert checked(file_bridge, url.encode().decode("latin-1"))[0] == "403 Forbidden"
 
 
