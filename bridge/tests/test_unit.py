@@ -4,6 +4,8 @@ from pathlib import Path
 
 import pytest
 
+from bsched_bridge.application import UPLOADS_WAITING
+
 DEBIAN = Path(__file__).resolve().parents[2] / "debian"
 UNIT = DEBIAN / "bsched-tools@.bsched-bridge.service"
 
@@ -15,6 +17,12 @@ def test_a_worker_may_load_as_long_as_the_check() -> None:
     unit = UNIT.read_text()
     limits = re.findall(r"^ExecStart=.* --timeout (\d+) .*$|^TimeoutStartSec=(\d+)$", unit, re.MULTILINE)
     assert limits == [("600", ""), ("", "600")]
+
+
+def test_gunicorn_has_threads_for_uploads_that_wait() -> None:
+    """Without them, uploads that wait would keep pages waiting."""
+    (threads,) = re.findall(r"^ExecStart=.* --threads (\d+) .*$", UNIT.read_text(), re.MULTILINE)
+    assert int(threads) == 8 + UPLOADS_WAITING  # 8 is the default of `threads`
 
 
 UNITS = sorted(path.name for path in DEBIAN.glob("*@*.service"))
