@@ -1,17 +1,15 @@
 """Messages of HTTP: what a browser or a client sends, and what it gets. Werkzeug reads and writes them.
 
-What a stranger sends is hostile. So a body is read only after its length was allowed, Werkzeug gets a form
-only as a whole and within the limits, and no form has files.
+What a stranger sends is hostile. So a body is read only after its length was allowed, a query and a form are
+read only within the limits, and no form has files.
 """
-import io
 import logging
 import re
 import traceback
 from collections.abc import Iterator, Mapping
-from urllib.parse import urlsplit
+from urllib.parse import parse_qsl, urlsplit
 from wsgiref.types import StartResponse, WSGIEnvironment
 
-from werkzeug.datastructures import MultiDict
 from werkzeug.exceptions import (
     BadRequest,
     Forbidden,
@@ -21,7 +19,6 @@ from werkzeug.exceptions import (
     RequestEntityTooLarge,
     UnsupportedMediaType,
 )
-from werkzeug.formparser import FormDataParser
 from werkzeug.wrappers import Request, Response
 
 from .limits import is_loopback
@@ -162,28 +159,23 @@ def blocks_of(environ: WSGIEnvironment, length: int) -> Iterator[bytes]:
         yield block
 
 
-def refuse_many_fields(text: bytes) -> None:
-    """Raises BadRequest if a query or a form has too many fields. They are counted before they are read."""
+def fields_of(text: bytes) -> dict[str, str]:
+    """Returns the fields of a query or a form. If a field comes twice, the last one counts. Bytes that are
+    not UTF-8 become U+FFFD. Raises BadRequest if there are too many fields, which are counted before they
+    are read.
+    """
     if text.count(b"&") >= MOST_FIELDS:
         raise BadRequest
-
-
-def last_values(fields: MultiDict[str, str]) -> dict[str, str]:
-    """Returns fields by their names. If a field comes twice, the last one counts."""
-    return {name: values[-1] for name, values in fields.lists()}
+    return dict(parse_qsl(text.decode(errors="replace"), keep_blank_values=True, errors="replace"))
 
 
 def query_of(message: Request) -> dict[str, str]:
-    """Returns the fields of the query. Bytes that are not UTF-8 become U+FFFD."""
-    refuse_many_fields(message.query_string)
-    return last_values(message.args)
+    """Returns the fields of the query."""
+    return fields_of(message.query_string)
 
 
 def form_of(message: Request) -> dict[str, str]:
     """Returns the fields of a form that was posted, in the one form that has no files."""
     if message.environ.get("CONTENT_TYPE", "").partition(";")[0].strip().lower() != FORM:
         raise UnsupportedMediaType
-    body = body_of(message, MOST_FORM)
-    refuse_many_fields(body)
-    parser = FormDataParser(max_form_memory_size=MOST_FORM, max_content_length=MOST_FORM, silent=False)
-    return last_values(parser.parse(io.BytesIO(body), FORM, len(body))[1])
+    return fields_of(body_of(message, MOST_FORM))

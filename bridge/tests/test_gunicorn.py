@@ -84,27 +84,34 @@ def test_the_operators_pages_are_for_this_machine(project: Path, twin: Twin) -> 
                 assert exchanged(port, f"{head}{field}\r\n\r\n").startswith(b"HTTP/1.1 404")
 
 
-@pytest.mark.parametrize(
-    "fields, status",
-    [
-        ("", b"200"),
-        ("SCRIPT_NAME: /elsewhere\r\n", b"500"),
-        ("SCRIPT_NAME: /p/lookup_account.php\r\n", b"200"),
-        ("SCRIPT_NAME\r\n", b"400"),
-        ("Transfer-Encoding: carl%40sums.example 5ecre7\r\n", b"500"),
-        ("Content-Length: carl%40sums.example 5ecre7\r\n", b"400"),
-    ],
-)
-def test_no_log_has_an_address(project: Path, twin: Twin, fields: str, status: bytes) -> None:
-    """gunicorn itself logs the URL of a message with a wrong SCRIPT_NAME."""
+def test_no_log_has_an_address(project: Path, twin: Twin) -> None:
+    """gunicorn itself logs the URL of a message with a wrong SCRIPT_NAME, and newer versions log the faults
+    of messages that they refuse.
+    """
+    faulty = f"GET /p/{QUERY} {HEAD}"
+    messages = {
+        f"{faulty}\r\n": ("200",),
+        f"{faulty}SCRIPT_NAME: /elsewhere\r\n\r\n": ("500",),
+        # newer versions drop a field whose name has an underscore
+        f"{faulty}SCRIPT_NAME: /p/lookup_account.php\r\n\r\n": ("200",),
+        f"{faulty}SCRIPT_NAME\r\n\r\n": ("400",),
+        f"{faulty}Transfer-Encoding: carl%40sums.example 5ecre7\r\n\r\n": ("500", "501", "400"),
+        f"{faulty}Content-Length: carl%40sums.example 5ecre7\r\n\r\n": ("400",),
+        f"{faulty}carl%40sums.example 5ecre7: x\r\n\r\n": ("400",),
+        f"GET /p/{QUERY}\r\n\r\n": ("400",),
+        f"GET /p/{QUERY} HTTP/7.carl%40sums.example\r\n\r\n": ("400",),
+        f"{QUERY} /p/ {HEAD}\r\n": ("400",),
+    }
     with served(project, twin) as (port, process):
-        answer = exchanged(port, f"GET /p/{QUERY} {HEAD}{fields}\r\n")
-        assert answer.startswith(b"HTTP/1.1 " + status)
+        for message, statuses in messages.items():
+            status = exchanged(port, message)[:12].decode()
+            assert status.removeprefix("HTTP/1.1 ") in statuses, message
         assert exchanged(port, f"GET /p/ {HEAD}\r\n").startswith(b"HTTP/1.1 200")
         process.terminate()
         log, _ = process.communicate(timeout=60)
     assert "Listening at" in log and not any(secret in log for secret in SECRETS), log
-    assert ("could not handle a message" in log) == ("/elsewhere" in fields)
+    assert "127.0.0.1" not in log.replace("http://127.0.0.1", ""), log
+    assert re.search("gunicorn (could not handle|refused) a message", log), log
 
 
 # ---- Several clients, a slow one, and the end
