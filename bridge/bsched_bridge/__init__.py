@@ -43,6 +43,7 @@ upload_tables    the rows of the files, in SQLite
 handed_out       the jobs that went out, with their files
 report_checks    whether a reported result has its files
 digest_programs  what is compared if equal files are too much to ask for
+digest_queue     when digest programs run, and for whom
 upload_sweep     what the daily sweep deletes (sweep_command)
 uploads_command  what the operator sees of files that are not reported
 

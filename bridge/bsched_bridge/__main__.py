@@ -10,9 +10,9 @@ import waitress
 
 from . import client_requests, sweep_command, uploads_command
 from .application import UPLOADS_WAITING, new_application
-from .catalogue import read_catalogue
+from .catalogue import App, read_catalogue
 from .code_signing import KeyFault, file_md5, read_private_key, signature_text, write_new_keys
-from .digest_programs import DigestFault, check_digest
+from .digest_programs import DigestFault, DigestProgram, check_digest, tried_on_odd_files
 from .operator_files import OperatorFault, OperatorFile
 from .operator_orders import ORDERS, OrderFault, add_orders, run_order
 from .scheduler import WRONG_KEY, NoAnswer, Scheduler
@@ -40,6 +40,7 @@ def command_parser() -> argparse.ArgumentParser:
     parser.add_argument("--config", type=Path, metavar="FILE", help="the settings (TOML); serves them")
     parser.add_argument("--version", action="version", version=f"bsched-bridge {version()}")
     parser.add_argument("--check", action="store_true", help="only checks the settings and the catalogue")
+    parser.add_argument("--without-digests", action="store_true", help="--check runs no digest program")
     parser.add_argument("--catalogue", type=Path, metavar="FILE", help="--check takes it for the catalogue")
     orders = parser.add_subparsers(dest="order", metavar="ORDER")
     keygen = orders.add_parser("keygen", help="makes a pair of keys for code signing")
@@ -85,29 +86,40 @@ def check_scheduler(path: Path, settings: Settings) -> None:
         print(f"{place} gives no answer ({failure}), so operator_key was not compared")
 
 
-def serve(path: Path, only_check: bool, other_catalogue: Path | None = None) -> None:
-    """Serves the settings of a file with waitress until it is stopped. With only_check it only reads and
-    checks them, maybe with another catalogue.
+def check_digest_of(app: App, program: DigestProgram, with_odd_files: bool) -> None:
+    """Checks the digest program of an application, and prints what it does with its example, and with odd
+    files.
     """
+    try:
+        text = check_digest(program, app.output_files)
+    except DigestFault as fault:
+        raise OperatorFault(program.path, None, str(fault)) from None
+    if text is not None:
+        print(f"the digest program of {app.name} prints {text!r} for its example, twice")
+    if with_odd_files:
+        for line in tried_on_odd_files(program, app.output_files):
+            print(f"the digest program of {app.name}, {line}")
+
+
+def check(path: Path, other_catalogue: Path | None, has_digests: bool) -> None:
+    """Checks the settings of a file and their catalogue, or another one, maybe with its digest programs."""
     settings = read_settings(path)
-    if only_check:
-        catalogue = read_catalogue(other_catalogue or settings.catalogue)
-        check_uploads(settings, catalogue)
-        for name, app in catalogue.apps.items():
-            if app.digest is not None:
-                try:
-                    text = check_digest(app.digest, app.output_files)
-                except DigestFault as fault:
-                    raise OperatorFault(app.digest.path, None, str(fault)) from None
-                if text is not None:
-                    print(f"the digest program of {name} prints {text!r} for its example, twice")
-        counts = len(catalogue.apps), len(catalogue.versions), len(catalogue.works)
-        print("good: {} applications, {} versions, {} workunits".format(*counts))
-        if settings.accounts is not None:
-            limits = settings.accounts.most_a_day, settings.accounts.most_from_address
-            print("volunteers make accounts: at most {} a day, {} from one address".format(*limits))
-        check_scheduler(path, settings)
-        return
+    catalogue = read_catalogue(other_catalogue or settings.catalogue)
+    check_uploads(settings, catalogue)
+    for app in catalogue.apps.values():
+        if app.digest is not None and has_digests:
+            check_digest_of(app, app.digest, with_odd_files=other_catalogue is None)
+    counts = len(catalogue.apps), len(catalogue.versions), len(catalogue.works)
+    print("good: {} applications, {} versions, {} workunits".format(*counts))
+    if settings.accounts is not None:
+        limits = settings.accounts.most_a_day, settings.accounts.most_from_address
+        print("volunteers make accounts: at most {} a day, {} from one address".format(*limits))
+    check_scheduler(path, settings)
+
+
+def serve(path: Path) -> None:
+    """Serves the settings of a file with waitress until it is stopped."""
+    settings = read_settings(path)
     application = new_application(path)
     print(f"serving {settings.url} on {settings.listen.host}:{settings.listen.port}", flush=True)
     waitress.serve(
@@ -140,8 +152,10 @@ def main() -> int:
             run_order(args)
         elif args.config is None:
             parser.error("--config FILE or a command is needed: see --help")
+        elif args.check:
+            check(args.config, args.catalogue, not args.without_digests)
         else:
-            serve(args.config, args.check, args.catalogue)
+            serve(args.config)
     except (OperatorFault, StateFault, OrderFault) as fault:
         print(f"bsched-bridge: {fault}", file=sys.stderr)
         return FAULT

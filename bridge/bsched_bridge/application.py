@@ -1,6 +1,7 @@
 """The WSGI application: it makes what answers messages, and what answers at each URL."""
 import atexit
 import logging
+import threading
 from collections.abc import Callable, Iterable
 from functools import partial
 from pathlib import Path
@@ -19,7 +20,8 @@ from .call_numbers import CallNumbers
 from .catalogue import Catalogue
 from .client_replies import ReplyWriter
 from .credit_days import CreditDays
-from .current_catalogue import CatalogueReader
+from .current_catalogue import CatalogueFaults, CatalogueReader
+from .digest_queue import DigestQueue
 from .directory import Directory
 from .downloads import Downloads
 from .exchange import Exchange, Resending
@@ -74,8 +76,10 @@ class Application:
         rules: Callable[[], HostRules] | None = None,
         passwords: Passwords | None = None,
         store: UploadStore | None = None,
+        faults: CatalogueFaults | None = None,
     ):
         self.settings, self.scheduler, self.store = settings, scheduler, store
+        self.faults = faults or CatalogueFaults()
         self.current = current = (lambda: catalogue) if isinstance(catalogue, Catalogue) else catalogue
         key, archives, barring = settings.operator_key, read_archives(settings.archives), Barring(file)
         hosts, self.members, recent = Hosts(file), Members(file), RecentCredit(settings.averages)
@@ -99,7 +103,9 @@ class Application:
             )
         reports: ReportChecks | None = None
         if store is not None and key is not None:
-            reports = ReportChecks(current, store, HandedOut(store.tables), hosts, scheduler, key)
+            jobs = HandedOut(store.tables)
+            digests = DigestQueue(store, jobs, store.settings.digest_seconds)
+            reports = ReportChecks(current, store, jobs, hosts, scheduler, key, digests, measured.put_offs)
         self.exchange = Exchange(
             hosts,
             CallNumbers(file),
@@ -192,7 +198,7 @@ class Application:
         """Returns what answers at the operator's URLs. They do not exist for messages from elsewhere."""
         settings, key = self.settings, self.settings.operator_key
         probe = SchedulerProbe(self.scheduler, key)
-        overviews = Overviews(settings, self.file, self.store, self.measurements, probe)
+        overviews = Overviews(settings, self.file, self.store, self.measurements, probe, self.faults)
         routes = [Route("operator/metrics", self._for_operator(Metrics(overviews).answer))]
         if key is not None:
             board = Board(
@@ -249,7 +255,10 @@ def new_application(path: Path) -> Application:
     rules = HostRuleReader(path, settings.host_rules)
     file = StateFile(settings.state)  # no other bridge has it from now on, nor the folder of uploads
     store = open_store(settings, catalogues.current())
-    application = Application(settings, catalogues.current, file, scheduler, rules.rules, store=store)
+    application = Application(
+        settings, catalogues.current, file, scheduler, rules.rules, store=store, faults=catalogues.faults
+    )
+    threading.Thread(target=catalogues.check_digests, name="digest check", daemon=True).start()
     resend_accounts = application.accounts.resend_open if application.accounts else None
     Resending(application.exchange, settings.retry_delay, resend_accounts).start()
     WaitingWrites(file).start()

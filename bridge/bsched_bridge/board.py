@@ -27,6 +27,7 @@ from .words import shown_key
 MOST_WRONG_KEYS, WRONG_SECONDS = 10, 60.0
 MOST_HOSTS = 20  # with the most errors
 MINUTES, HOUR = 5, 60  # the minutes of the two spans for which calls are shown
+PUT_OFF_SECONDS = 3600  # within which a report that was put off is worth a warning
 HEALTH_SECONDS = 30 * 60  # after which the findings of bsched-tools health are too old
 NUMBER = re.compile("[1-9][0-9]{0,8}")
 ACTIONS = {"bar": bar_account, "unbar": unbar_account}
@@ -225,6 +226,7 @@ class Board:
             median=seconds_text(lately.quantile(0.5)),
             slowest=seconds_text(lately.quantile(0.99)),
             reports=measurements.reports.totals(),
+            put_off=sum(measurements.put_offs.totals().values()),
             uploads=uploads,
             upload_bytes=nbytes,
             rooms=list(self._rooms(overview)),
@@ -246,6 +248,7 @@ class Board:
             yield Part("scheduler", "critical", f"gives no answer{when} ({probe.why}){unit}")
         started = self.overviews.measurements.started_at
         yield Part("bridge", "good", f"serves since {moment_text(started)} UTC")
+        yield from self._catalogue_parts(overview)
         for timer in overview.timers:
             yield self._timer_part(timer, overview.moment)
         if overview.timers and overview.findings is not None:
@@ -254,6 +257,21 @@ class Board:
             yield self._timer_part(health, overview.moment)
         if not overview.timers:
             yield Part("timers", "unknown", "this bridge is in no folder of bsched-project")
+
+    def _catalogue_parts(self, overview: Overview) -> Iterator[Part]:
+        """Yields what is wrong with the catalogue and its digest programs, and with reports."""
+        if overview.faults.edit is None:
+            yield Part("catalogue", "good", "the last edit counts")
+        else:
+            yield Part("catalogue", "critical", f"it stays as it was: {overview.faults.edit}")
+        for name, text in sorted(overview.faults.digests.items()):
+            yield Part(f"digest program of {name}", "critical", f"its reports wait: {text}")
+        fault = self.overviews.measurements.put_offs.latest_fault()
+        if fault is not None:
+            when, text = fault
+            is_new = overview.moment - when < PUT_OFF_SECONDS
+            text = f"put off last {age_text(overview.moment - when)}: {text}"
+            yield Part("reports", "warning" if is_new else "good", text)
 
     def _timer_part(self, timer: Timer, now: float) -> Part:
         """Returns whether a timer elapses."""

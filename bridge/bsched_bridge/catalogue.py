@@ -240,6 +240,7 @@ def read_app(entry: Entry, folder: FileFolder) -> App:
     title = entry.text("title", name)
     if not title or not title.isprintable():
         entry.fault("title is empty, or has a character that can't be printed", "title")
+    output_files = read_output_files(entry)
     app = App(
         name=name,
         title=title,
@@ -248,8 +249,8 @@ def read_app(entry: Entry, folder: FileFolder) -> App:
         fpops_bound_factor=entry.whole("fpops_bound_factor", 1, 10**6, 10),
         is_reported_at_once=entry.flag("report_immediately"),
         work=read_work(entry, folder, True),
-        output_files=read_output_files(entry),
-        digest=read_digest(entry),
+        output_files=output_files,
+        digest=read_digest(entry, output_files),
     )
     if app.digest is not None and not app.output_files:
         entry.fault("digest needs output_files", "digest")
@@ -257,14 +258,17 @@ def read_app(entry: Entry, folder: FileFolder) -> App:
     return app
 
 
-def read_digest(entry: Entry) -> DigestProgram | None:
-    """Reads the digest program of an application, if it has one."""
+def read_digest(entry: Entry, files: tuple[OutputFile, ...]) -> DigestProgram | None:
+    """Reads the digest program of an application with output files, if it has one."""
     if "digest" not in entry.members:
         return None
     path = entry.existing("digest")
     if not path.is_file() or not os.access(path, os.X_OK):
         entry.fault(f"digest: {path} is not a file that may be run", "digest")
     example = entry.existing("digest_example") if "digest_example" in entry.members else None
+    if example is not None:
+        for file in files:
+            entry.note(example / file.open_name)
     return DigestProgram(path, entry.whole("digest_seconds", 1, 60, 10), example)
 
 

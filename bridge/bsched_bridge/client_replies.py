@@ -58,6 +58,8 @@ class NeededFile:
 Files = dict[str, NeededFile]  # by name
 
 
+AGAIN_SECONDS = 120  # within which a client calls again whose reports were put off
+
 # ---- Answers of a few elements, which come once for each account
 
 
@@ -184,12 +186,15 @@ class ReplyWriter:
             xml.add("hostid", hostid)
         if notice is not None:
             xml.add_message(language.text(notice), "notice")
+        acknowledged = frozenset(reply.result_ack)
         for what, names in (("result_ack", reply.result_ack), ("result_abort", reply.result_abort)):
             for name in names:
                 with xml.inside(what):
                     xml.add("name", name)
         if request.has_messages:
             xml.add("message_ack", 1)
+        if any(report.name not in acknowledged for report in request.results):
+            xml.add("next_rpc_delay", f"{AGAIN_SECONDS:.6f}")
         preferences = read_preferences(reply.preferences)
         if preferences is not None:
             preferences.add_to(xml, self.url, request.preferences_time)

@@ -45,6 +45,16 @@ class End(StrEnum):
     FAILED = "failed"  # by a fault of the bridge
 
 
+class WhyPutOff(StrEnum):
+    """Why the report of a result is put off: its client reports it again."""
+
+    DIGEST_WAITS = "digest_waits"  # its digest program did not run yet
+    DIGEST_FAILED = "digest_failed"
+    DIGEST_LIMIT = "digest_limit"  # the programs of its account took long, or many results wait
+    DIGEST_CANNOT_RUN = "digest_cannot_run"  # bubblewrap can't run
+    STORAGE = "storage"  # a fault of the disk
+
+
 class UploadEnd(StrEnum):
     """How an upload ends."""
 
@@ -188,6 +198,32 @@ class Reports:
         return heapq.nlargest(most, hosts, key=lambda host: host[1])
 
 
+class PutOffs:
+    """Counts the reports that are put off since the start, and has the latest reason that is a fault."""
+
+    def __init__(self) -> None:
+        self._lock = threading.Lock()
+        self._counts: Counter[WhyPutOff] = Counter()
+        self._fault: tuple[float, str] | None = None
+
+    def record(self, why: WhyPutOff, text: str) -> None:
+        """Counts a report."""
+        with self._lock:
+            self._counts[why] += 1
+            if why is not WhyPutOff.DIGEST_WAITS:
+                self._fault = time.time(), text
+
+    def totals(self) -> dict[WhyPutOff, int]:
+        """Returns how many reports were put off for each reason."""
+        with self._lock:
+            return {why: self._counts[why] for why in WhyPutOff}
+
+    def latest_fault(self) -> tuple[float, str] | None:
+        """Returns when a report was put off last for another reason than the turn of its program, and why."""
+        with self._lock:
+            return self._fault
+
+
 class UploadCounts:
     """Counts uploads since the start."""
 
@@ -214,3 +250,4 @@ class Measurements:
     def __init__(self) -> None:
         self.started_at = time.time()
         self.calls, self.reports, self.uploads = Calls(), Reports(), UploadCounts()
+        self.put_offs = PutOffs()

@@ -59,6 +59,8 @@ def measured(measurements: Measurements) -> Iterator[Metric]:
     files = {end.value: count for end, count in uploads.items()}
     yield counter("uploads", "Uploads by how they ended.", "end", files)
     yield CounterMetricFamily("bsched_bridge_upload_bytes", "The bytes of files that were received.", nbytes)
+    put_off = {why.value: count for why, count in measurements.put_offs.totals().items()}
+    yield counter("reports_put_off", "Reports that their clients send again, by the reason.", "why", put_off)
     yield from gauge("bridge_start_time_seconds", "When the bridge started.", measurements.started_at)
 
 
@@ -77,6 +79,10 @@ def of_bridge(overview: Overview) -> Iterator[Metric]:
         yield from gauge("bridge_uploads_pending", "Files whose results are not reported yet.", pending)
         yield from gauge("bridge_uploads_used_bytes", "The bytes of all uploaded files.", room.used)
         yield from gauge("bridge_uploads_limit_bytes", "How many bytes they may have.", room.most)
+    good = float(overview.faults.edit is None)
+    yield from gauge("bridge_catalogue_good", "Whether the last edit of the catalogue counts.", good)
+    faulty = float(len(overview.faults.digests))
+    yield from gauge("bridge_faulty_digest_programs", "Digest programs that failed their check.", faulty)
     if (accounts := overview.new_accounts) is not None:
         text = "Accounts that volunteers made in 24 hours."
         yield from gauge("bridge_new_accounts", text, accounts.used)

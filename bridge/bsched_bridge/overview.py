@@ -5,6 +5,7 @@ from dataclasses import dataclass
 from pathlib import Path
 from typing import cast
 
+from .current_catalogue import CatalogueFaults
 from .measurements import Measurements
 from .members import DAY, MADE_BETWEEN
 from .scheduler_probe import Probe, SchedulerProbe
@@ -50,6 +51,7 @@ class Overview:
     limits: dict[str, Limit]  # of the tables
     findings: Findings | None  # of bsched-tools health
     timers: list[Timer]
+    faults: CatalogueFaults
 
 
 def disk_of(folder: Path) -> Disk:
@@ -68,7 +70,9 @@ class Overviews:
         store: UploadStore | None,
         measurements: Measurements,
         probe: SchedulerProbe,
+        faults: CatalogueFaults | None = None,
     ) -> None:
+        self.faults = faults or CatalogueFaults()
         self.settings, self.file, self.store = settings, file, store
         self.measurements, self.probe = measurements, probe
 
@@ -92,6 +96,7 @@ class Overviews:
             read_limits(settings.counts),
             read_findings(settings.health),
             timers_of(settings.project, now),
+            CatalogueFaults(self.faults.edit, dict(self.faults.digests)),
         )
 
     def _disks(self) -> dict[str, Disk]:

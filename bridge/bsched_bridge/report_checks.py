@@ -10,22 +10,20 @@ import logging
 import sqlite3
 import time
 from collections.abc import Callable
-from dataclasses import dataclass, replace
+from dataclasses import dataclass, field, replace
 from functools import cached_property
 
 from .calls import MOST_REPORTS
 from .catalogue import Catalogue
 from .client_requests import UPLOAD_STATUS, ClientRequest, Report, ReportedFile
-from .digest_programs import BadFiles, DigestFault, DigestProgram, compared_files, digest_of
+from .digest_queue import DigestQueue, DigestWaits
 from .handed_out import HandedJob, HandedOut, Outcome
 from .hosts import Hosts, Key
+from .measurements import PutOffs, WhyPutOff
 from .output_files import MOST_OUTPUT, OutputFile, compared_text, upload_name
-from .scheduler import Job, Scheduler
+from .scheduler import Job, NoAnswer, Scheduler
 from .upload_store import Upload, UploadStore
 from .words import cut_to_bytes
-
-DIGEST_SECONDS = 20.0  # after which no further digest program begins for a request
-BAD_FILES_STATUS = 1  # the exit status of a result whose files a digest program refuses
 
 log = logging.getLogger(__name__)
 
@@ -45,7 +43,9 @@ class HostStatement:
         if hostid is None or not scheduler.has_host(self.key.authenticator, self.key.host_cpid, hostid):
             return {}
         statement = scheduler.statement(hostid, self.checks.operator_key)
-        lines = csv.reader((statement or "").splitlines())
+        if statement is None:
+            raise NoAnswer("the statement of a host is refused")
+        lines = csv.reader(statement.splitlines())
         return {line[0]: line[1] for line in lines if len(line) > 1}
 
 
@@ -63,6 +63,8 @@ class ReportChecks:
     hosts: Hosts
     scheduler: Scheduler
     operator_key: str
+    digests: DigestQueue
+    put_offs: PutOffs = field(default_factory=PutOffs)
 
     def hand_out(self, key: Key, jobs: list[Job]) -> list[Job]:
         """Notes which jobs a reply has, before it goes out, and returns them. If that fails, for example on a
@@ -96,26 +98,38 @@ class ReportChecks:
         count as lost.
         """
         reports, put_off = [], [report.name for report in request.results[MOST_REPORTS:]]
-        ends, statement = time.monotonic() + DIGEST_SECONDS, HostStatement(self, key)
+        statement, faults = HostStatement(self, key), list[tuple[str, DigestWaits]]()
         for report in request.results[:MOST_REPORTS]:
             try:
-                reports.append(self._checked(statement, report, ends))
-            except (OSError, sqlite3.Error, DigestFault) as fault:
-                log.error("the report of %r is put off: %s", report.name, fault)
-                put_off.append(report.name)
+                reports.append(self._checked(statement, report))
+            except DigestWaits as waits:
+                faults.append((report.name, waits))
+            except (OSError, sqlite3.Error) as fault:
+                faults.append((report.name, DigestWaits(WhyPutOff.STORAGE, str(fault))))
+        self._note_put_off(faults)
+        put_off += [name for name, _ in faults]
         other = None if request.other_results is None else (*request.other_results, *put_off)
         return replace(request, results=tuple(reports), other_results=other)
 
-    def _checked(self, statement: "HostStatement", report: Report, ends: float) -> Report:
-        """Returns what bsched gets of a report. Raises DigestFault if a digest program fails, or if it would
-        begin after a moment.
-        """
+    def _note_put_off(self, faults: list[tuple[str, DigestWaits]]) -> None:
+        """Counts the reports of a call that are put off, and logs a line for each reason that is a fault."""
+        lines: dict[str, list[str]] = {}
+        for name, waits in faults:
+            self.put_offs.record(waits.why, str(waits))
+            if waits.why is not WhyPutOff.DIGEST_WAITS:
+                lines.setdefault(str(waits), []).append(name)
+        for text, names in lines.items():
+            more = f" (and {len(names) - 1} more)" if len(names) > 1 else ""
+            log.error("the report of %r%s is put off: %s", names[0], more, text)
+
+    def _checked(self, statement: "HostStatement", report: Report) -> Report:
+        """Returns what bsched gets of a report. Raises DigestWaits if a digest program did not run yet."""
         if report.exit_status != 0:
             return report
         job = self._job(statement, report.name)
         if job is None or not job.files:
             return report
-        outcome = job.outcome or self._outcome(job, report, ends)
+        outcome = job.outcome or self._outcome(job, report)
         return Report(report.name, outcome.exit_status, outcome.output)
 
     def _job(self, statement: "HostStatement", result: str) -> HandedJob | None:
@@ -133,8 +147,8 @@ class ReportChecks:
         self.jobs.add([job])
         return job
 
-    def _outcome(self, job: HandedJob, report: Report, ends: float) -> Outcome:
-        """Stores the files of a report, and returns what bsched gets of it."""
+    def _outcome(self, job: HandedJob, report: Report) -> Outcome:
+        """Stores the files of a report, and returns what bsched gets of it. Raises DigestWaits."""
         if not job.is_stored:
             try:
                 files = self._complete(job, {file.name: file for file in report.files})
@@ -149,22 +163,7 @@ class ReportChecks:
         app = self.catalogue().apps.get(job.app)
         if app is None or app.digest is None:
             return Outcome(0, compared_text(job.files, self.store.stored_files(job.result)))
-        return self._digested(job, app.digest, ends)
-
-    def _digested(self, job: HandedJob, program: DigestProgram, ends: float) -> Outcome:
-        """Returns what bsched gets of a result whose files are stored, by the digest program."""
-        if time.monotonic() > ends:
-            raise DigestFault("the digest programs of earlier reports took long")
-        files = compared_files(job.files, self.store.stored_paths(job.result))
-        try:
-            outcome = Outcome(0, digest_of(program, files))
-        except BadFiles as fault:
-            log.warning("the files of %s are bad: %r", job.result, str(fault))
-            outcome = Outcome(BAD_FILES_STATUS, str(fault))
-        except DigestFault as fault:
-            raise DigestFault(f"{program.path}: {fault}") from None
-        self.jobs.set_outcome(job.result, outcome)
-        return outcome
+        raise self.digests.ask(job, app.digest)
 
     def _complete(self, job: HandedJob, reported: dict[str, ReportedFile]) -> list[tuple[OutputFile, Upload]]:
         """Returns the files of a report in the order of the catalogue. Each must have come as it is

@@ -53,6 +53,7 @@ class UploadSettings:
     most_bytes: int  # of all files in the folder
     most_account_bytes: int  # of the files of an account whose results are not reported
     keep_days: int  # how long the sweep keeps files of a result that is not the canonical one
+    digest_seconds: int = 1800  # of the digest programs of one account in an hour
 
 
 @dataclass(frozen=True, slots=True)
@@ -190,6 +191,7 @@ def read_uploads(file: OperatorFile, has_key: bool) -> UploadSettings | None:
             "most_account_bytes", 1, 10**18, max(1, most_bytes // ACCOUNT_SHARE)
         ),
         keep_days=entry.whole("keep_days", LEAST_KEPT_DAYS, 36_500, 30),
+        digest_seconds=entry.whole("digest_seconds_an_hour", 1, 10**6, 1800),
     )
     if not uploads.folder.parent.is_dir():
         entry.fault(f"folder: {uploads.folder.parent} is not a folder", "folder")

@@ -67,7 +67,8 @@ class Bridge:
         """Starts the bridge with what its file has."""
         path = self.folder / "bridge.toml"
         settings = read_settings(path)
-        self.file, catalogues = StateFile(settings.state), CatalogueReader(settings)
+        self.file = StateFile(settings.state)
+        self.catalogues = catalogues = CatalogueReader(settings)
         self.store: Any = open_store(settings, catalogues.current())  # None without [uploads]
         self.application = Application(
             settings,
@@ -77,6 +78,7 @@ class Bridge:
             HostRuleReader(path, settings.host_rules).rules,
             Passwords(Cost(2**4, 8, 1)),
             self.store,
+            catalogues.faults,
         )
         self.application.statements.wait_seconds = 60  # tests look at what a page shows after the reading
         self.hosts, self.numbers = self.application.exchange.hosts, self.application.exchange.numbers

@@ -3,6 +3,8 @@ import os
 import shutil
 import socket
 import subprocess
+import tempfile
+import threading
 import time
 from collections.abc import Callable
 from contextlib import suppress
@@ -12,13 +14,23 @@ from typing import Any
 import pytest
 from bridges import Bridge
 from joining import wait_until
-from messages import FIRST, names
+from messages import FIRST, names, value
 from test_report_checks import reported, worked
 from uploading import on_disk, report, sha256_of
 
-from bsched_bridge import digest_programs
+from bsched_bridge import __main__ as command
+from bsched_bridge import current_catalogue, digest_programs, digest_queue
 from bsched_bridge.catalogue import read_catalogue
-from bsched_bridge.digest_programs import BadFiles, DigestFault, DigestProgram, check_digest, digest_of
+from bsched_bridge.digest_programs import (
+    BadFiles,
+    CannotRun,
+    DigestFault,
+    DigestProgram,
+    check_digest,
+    digest_of,
+    tried_on_odd_files,
+)
+from bsched_bridge.digest_queue import DigestQueue
 from bsched_bridge.operator_files import OperatorFault
 from bsched_bridge.output_files import OutputFile
 
@@ -97,7 +109,9 @@ def test_what_a_program_can_reach(
 @pytest.mark.parametrize(
     "script, fault",
     [
+        ("echo no; exit 1", "its status is 1"),
         ("exit 2", "its status is 2"),
+        ("python3 -c 'bytes(600 << 20)'", "its status is 1"),
         ("kill -9 $$", "its status is 137"),
         ("head -c 1025 /dev/urandom | tr -c a a", "more than 1024 bytes"),
         ("printf '\\377'", "not UTF-8"),
@@ -146,23 +160,82 @@ def test_1024_bytes_are_read(program: Callable[..., Any], out: list[tuple[str, P
 
 def test_bad_files(program: Callable[..., Any], out: list[tuple[str, Path]]) -> None:
     with pytest.raises(BadFiles, match="^too few words$"):
-        digest_of(program("echo too few words; exit 1"), out)
+        digest_of(program("echo too few words; exit 65"), out)
     with pytest.raises(BadFiles, match="says that the files are bad"):
-        digest_of(program("exit 1"), out)
+        digest_of(program("exit 65"), out)
 
 
 def test_a_fault_of_the_sandbox_is_no_fault_of_the_files(
     program: Callable[..., Any], out: list[tuple[str, Path]], tmp_path: Path, monkeypatch: pytest.MonkeyPatch
 ) -> None:
-    with pytest.raises(DigestFault, match="could not start it"):
+    with pytest.raises(DigestFault, match="could not start it: see whether it is executable") as fault:
         digest_of(program("echo good"), [("out", tmp_path / "none")])
+    assert not isinstance(fault.value, CannotRun)
     path = program("echo good").path
     path.chmod(0o644)
     with pytest.raises(DigestFault, match="could not start it|its status"):
         digest_of(DigestProgram(path, 10, None), out)
-    monkeypatch.setattr(digest_programs, "PRLIMIT", "/none/prlimit")
-    with pytest.raises(DigestFault, match="can't be run"):
+    monkeypatch.setattr(digest_programs, "CHOOM", "/none/choom")
+    with pytest.raises(CannotRun, match="bubblewrap can't run here.*can't be run"):
         digest_of(program("echo good"), out)
+
+
+def test_the_true_reason_is_said_if_bubblewrap_may_not_run(
+    program: Callable[..., Any], out: list[tuple[str, Path]], monkeypatch: pytest.MonkeyPatch
+) -> None:
+    monkeypatch.setattr(digest_programs, "SANDBOX", ("--ro-bind", "/none", "/usr"))
+    with pytest.raises(CannotRun, match="^bubblewrap can't run here; allow it to the unit"):
+        digest_of(program("echo good"), out)
+
+
+def as_another_user(program: DigestProgram) -> bytes:
+    """Returns what a program prints that a user without rights runs: processes of root are not counted."""
+    user = None if os.getuid() else 65534
+    with tempfile.TemporaryFile() as status:
+        words = digest_programs.command(program, [], status.fileno())
+        groups: list[int] | None = None if user is None else []
+        ended = subprocess.run(
+            words,
+            stdout=subprocess.PIPE,
+            pass_fds=[status.fileno()],
+            cwd="/",
+            user=user,
+            group=user,
+            extra_groups=groups,
+        )
+    return bytes(ended.stdout)
+
+
+def test_processes_are_counted(out: list[tuple[str, Path]]) -> None:
+    """A program of many processes gets no more of them, and those of others don't count."""
+    script = (
+        "import os, time\n"
+        "count = 0\n"
+        "try:\n"
+        "    while count < 100:\n"
+        "        if os.fork() == 0:\n"
+        "            time.sleep(60)\n"
+        "            os._exit(0)\n"
+        "        count += 1\n"
+        "except OSError:\n"
+        "    pass\n"
+        "print(count)\n"
+    )
+    with tempfile.TemporaryDirectory() as folder:
+        Path(folder).chmod(0o755)
+        path = Path(folder) / "program"
+        path.write_text(f"#!/usr/bin/python3\n{script}")
+        path.chmod(0o755)
+        printed = as_another_user(DigestProgram(path, 60, None))
+    assert 1 <= int(printed) < digest_programs.MOST_PROCESSES
+
+
+def test_memory_runs_out_for_a_program_first(program: Callable[..., Any]) -> None:
+    with tempfile.TemporaryFile() as status:
+        words = digest_programs.command(program("true"), [], status.fileno())
+    place = words.index("--")
+    score = subprocess.run([*words[: place + 1], "cat", "/proc/self/oom_score_adj"], capture_output=True)
+    assert score.stdout == b"1000\n"
 
 
 # ---- The examples
@@ -188,6 +261,10 @@ def test_numbers_are_rounded(tmp_path: Path) -> None:
         example("rounded", tmp_path, "1\nx\n")
     with pytest.raises(BadFiles, match="nan is not a number"):
         example("rounded", tmp_path, "nan\n")
+    with pytest.raises(BadFiles, match="in0, line 2: it is not ASCII"):
+        example("rounded", tmp_path, "1\n\u00e9\n")
+    with pytest.raises(BadFiles, match="in0, line 2: the line has more than 100000 bytes"):
+        example("rounded", tmp_path, "1\n" + "1 " * 60_000)
 
 
 def test_lines_in_any_order(tmp_path: Path) -> None:
@@ -221,19 +298,61 @@ def replaced(bridge: Bridge, text: str) -> None:
     (bridge.folder / "digests" / "any_order").write_text(f"#!/bin/sh\n{text}\n")
 
 
+def queue_of(bridge: Bridge) -> DigestQueue:
+    """Returns the queue of digest programs of a bridge."""
+    checks = bridge.application.exchange.reports
+    assert checks is not None
+    return checks.digests
+
+
+def put_off(bridge: Bridge, body: str, result: str = "u1_0") -> None:
+    """Sends a report that is put off, and waits for the end of its digest program."""
+    reply = bridge.call(body)
+    assert names(reply, "result_ack") == []
+    assert bridge.twin.calls()[-1]["other_results"] == [result]
+    assert value(reply, "next_rpc_delay") == "120.000000"
+    wait_until(lambda: queue_of(bridge).waiting() == 0)
+
+
+def decided(bridge: Bridge, body: str, result: str = "u1_0") -> tuple[int, str]:
+    """Sends a report, which is put off, and sends it again once its digest program has ended. Returns what
+    bsched got.
+    """
+    put_off(bridge, body, result)
+    return reported(bridge, body)
+
+
 def test_results_agree_by_their_digests(digest_bridge: Bridge) -> None:
     reports = []
     for place, (client, data) in enumerate((("ann", b"one\ntwo\n"), ("bob", b"two\none\n"))):
         infos = worked(digest_bridge, data, key=f"{client}-key", cpid=client)
         body = report(f"u1_{place}", infos, hostid=FIRST + place, key=f"{client}-key", cpid=client)
-        reports.append(reported(digest_bridge, body))
+        reports.append(decided(digest_bridge, body, f"u1_{place}"))
     assert reports[0] == reports[1]
     assert reports[0][0] == 0 and reports[0][1].startswith("any_order sha256:")
     assert len(on_disk(digest_bridge.folder)) == 2  # the files are those of each
 
 
 def test_bad_files_are_an_error(digest_bridge: Bridge) -> None:
-    assert reported(digest_bridge, report("u1_0", worked(digest_bridge, b""))) == (1, "the file has no line")
+    assert decided(digest_bridge, report("u1_0", worked(digest_bridge, b""))) == (1, "the file has no line")
+
+
+def test_no_call_waits_for_a_program(digest_bridge: Bridge) -> None:
+    """The program ends only after the calls have their answers."""
+    replaced(digest_bridge, "while [ ! -e /files/out/x ]; do sleep 60; done")
+    body = report("u1_0", worked(digest_bridge, b"one\n"))
+    for _ in range(3):
+        assert names(digest_bridge.call(body), "result_ack") == []
+        assert queue_of(digest_bridge).waiting() == 1
+    wait_until(lambda: queue_of(digest_bridge).waiting() == 0)  # it takes more than its 10 seconds
+
+
+def test_the_outcome_outlives_the_bridge(digest_bridge: Bridge) -> None:
+    body = report("u1_0", worked(digest_bridge, b"one\n"))
+    put_off(digest_bridge, body)
+    digest_bridge.restart()
+    replaced(digest_bridge, "echo another")
+    assert reported(digest_bridge, body)[1].startswith("any_order sha256:")
 
 
 def test_a_program_that_fails_puts_the_report_off(
@@ -241,28 +360,189 @@ def test_a_program_that_fails_puts_the_report_off(
 ) -> None:
     infos = worked(digest_bridge, b"one\n")
     body = report("u1_0", infos)
-    replaced(digest_bridge, "exit 2")
+    replaced(digest_bridge, "exit 1")
     for _ in range(2):
-        assert names(digest_bridge.call(body), "result_ack") == []
-        assert digest_bridge.twin.calls()[-1]["other_results"] == ["u1_0"]
-    assert "the report of 'u1_0' is put off: " in caplog.text and "its status is 2" in caplog.text
+        put_off(digest_bridge, body)
+    assert "any_order fails for u1_0 (1): its status is 1" in caplog.text
+    assert "fails for u1_0 (2)" not in caplog.text  # it rests before the next attempt
+    assert "the report of 'u1_0' is put off: " in caplog.text and "it is tried again in" in caplog.text
     replaced(digest_bridge, "echo mended")
-    assert reported(digest_bridge, body) == (0, "mended")
+    assert decided(digest_bridge, body) == (0, "mended")
     replaced(digest_bridge, "echo another")  # it runs once for each reported result
     assert reported(digest_bridge, body) == (0, "mended")
     digest_bridge.restart()
     assert reported(digest_bridge, body) == (0, "mended")
 
 
-def test_programs_take_a_limited_time_of_a_request(
+def test_after_three_failures_the_result_is_an_error(
     digest_bridge: Bridge, monkeypatch: pytest.MonkeyPatch
 ) -> None:
-    monkeypatch.setattr("bsched_bridge.report_checks.DIGEST_SECONDS", -1.0)
+    monkeypatch.setattr(digest_queue, "FAILURE_PAUSES", (0.0, 0.0))
     body = report("u1_0", worked(digest_bridge, b"one\n"))
-    assert names(digest_bridge.call(body), "result_ack") == []
+    replaced(digest_bridge, "exit 1")
+    for _ in range(3):
+        put_off(digest_bridge, body)
+    why = "the digest program failed 3 times for these files: its status is 1"
+    assert reported(digest_bridge, body) == (1, why)
+
+
+def test_a_machine_without_bubblewrap_is_no_fault_of_the_files(
+    digest_bridge: Bridge, monkeypatch: pytest.MonkeyPatch, caplog: pytest.LogCaptureFixture
+) -> None:
+    monkeypatch.setattr(digest_queue, "FAILURE_PAUSES", (0.0, 0.0))
+    monkeypatch.setattr(digest_programs, "SANDBOX", ("--ro-bind", "/none", "/usr"))
+    body = report("u1_0", worked(digest_bridge, b"one\n"))
+    for _ in range(4):
+        put_off(digest_bridge, body)
+    assert "the report of 'u1_0' is put off: bubblewrap can't run here; allow it to the unit" in caplog.text
+    assert caplog.text.count("no digest program runs for 60 seconds") == 1
     monkeypatch.undo()
     monkeypatch.setattr("bsched_bridge.scheduler.PAUSE_SECONDS", 0.0)
-    assert reported(digest_bridge, body)[0] == 0
+    digest_bridge.restart()
+    assert decided(digest_bridge, body)[0] == 0
+
+
+# ---- The catalogue
+
+
+@pytest.fixture
+def looks_each_time(monkeypatch: pytest.MonkeyPatch) -> None:
+    """Has each request look at all files that the catalogue names."""
+    monkeypatch.setattr(current_catalogue, "LOOK_SECONDS", 0.0)
+
+
+def with_example(bridge: Bridge) -> Path:
+    """Gives the application's digest program an example, and returns the catalogue."""
+    example = bridge.folder / "digests" / "example"
+    example.mkdir()
+    (example / "out").write_text("one\n")
+    path = bridge.folder / "catalogue.toml"
+    path.write_text(
+        path.read_text().replace(
+            "\noutput_files =", '\ndigest_example = "digests/example"\noutput_files =', 1
+        )
+    )
+    return path
+
+
+def read_again(bridge: Bridge) -> None:
+    """Has the bridge look at its catalogue, and waits for the end of a check."""
+    bridge.application.current()
+    wait_until(lambda: not bridge.catalogues._is_checking)
+
+
+def test_an_edited_catalogue_waits_for_the_check_of_its_digest_programs(
+    looks_each_time: None, digest_bridge: Bridge, caplog: pytest.LogCaptureFixture
+) -> None:
+    bridge = digest_bridge
+    with_example(bridge)
+    read_again(bridge)
+    former = bridge.application.catalogue
+    assert former.apps["sum"].digest is not None and former.apps["sum"].digest.example is not None
+    replaced(bridge, "head -c 8 /dev/urandom | sha256sum")
+    read_again(bridge)
+    assert bridge.application.catalogue is former
+    assert "the catalogue stays as it was: " in caplog.text and "prints two texts" in caplog.text
+    path = bridge.folder / "catalogue.toml"
+    path.write_text(path.read_text() + '\n[[app]]\nname = "plain"\n')
+    read_again(bridge)
+    assert bridge.application.catalogue is former  # the same fault
+    board = bridge.application.faults.edit
+    assert board is not None and "prints two texts" in board
+    replaced(bridge, 'cat "$1"')
+    read_again(bridge)
+    assert "plain" in bridge.application.catalogue.apps
+    assert bridge.application.faults.edit is None
+
+
+def test_a_request_has_the_former_catalogue_during_a_check(
+    looks_each_time: None, digest_bridge: Bridge, monkeypatch: pytest.MonkeyPatch
+) -> None:
+    go = threading.Event()
+
+    def slow(*_args: object) -> None:
+        assert go.wait(60)
+
+    monkeypatch.setattr(current_catalogue, "check_digest", slow)
+    former = digest_bridge.application.catalogue
+    with_example(digest_bridge)
+    for _ in range(3):
+        assert digest_bridge.application.catalogue is former
+    go.set()
+    read_again(digest_bridge)
+    assert digest_bridge.application.catalogue is not former
+
+
+def test_a_faulty_digest_program_stops_no_other_application(
+    looks_each_time: None, digest_bridge: Bridge, monkeypatch: pytest.MonkeyPatch
+) -> None:
+    """Neither at a start, nor when an entry of another application is edited."""
+    monkeypatch.setattr(digest_programs, "SANDBOX", ("--ro-bind", "/none", "/usr"))
+    body = report("u1_0", worked(digest_bridge, b"one\n"))
+    digest_bridge.restart()
+    digest_bridge.catalogues.check_digests()
+    fault = digest_bridge.application.faults.digests["sum"]
+    assert "any_order: bubblewrap can't run here; allow it to the unit" in fault
+    put_off(digest_bridge, body)
+    path = digest_bridge.folder / "catalogue.toml"
+    path.write_text(path.read_text() + '\n[[app]]\nname = "plain"\n')
+    read_again(digest_bridge)
+    assert "plain" in digest_bridge.application.catalogue.apps
+    assert digest_bridge.application.faults.digests == {"sum": fault}
+
+
+def test_the_board_and_the_metrics_say_what_waits(
+    digest_bridge: Bridge, monkeypatch: pytest.MonkeyPatch
+) -> None:
+    monkeypatch.setattr(digest_programs, "SANDBOX", ("--ro-bind", "/none", "/usr"))
+    body = report("u1_0", worked(digest_bridge, b"one\n"))
+    for _ in range(2):
+        put_off(digest_bridge, body)
+    digest_bridge.catalogues.check_digests()
+    digest_bridge.application.faults.edit = "line 7 is wrong"
+    fields: Any = {"REMOTE_ADDR": "127.0.0.1"}
+    numbers = digest_bridge.got("/p/operator/metrics", **fields)[2].decode()
+    assert 'bsched_bridge_reports_put_off_total{why="digest_waits"} 1.0' in numbers
+    assert 'bsched_bridge_reports_put_off_total{why="digest_cannot_run"} 1.0' in numbers
+    assert "bsched_bridge_catalogue_good 0.0" in numbers
+    assert "bsched_bridge_faulty_digest_programs 1.0" in numbers
+    form: Any = {"CONTENT_TYPE": "application/x-www-form-urlencoded", **fields}
+    board = digest_bridge.got("/p/operator/board", "POST", b"key=change-this-key", **form)[2].decode()
+    assert "it stays as it was: line 7 is wrong" in board
+    assert "digest program of sum" in board and "its reports wait: " in board
+    assert "bubblewrap can&#39;t run here" in board and "<dt>reports put off</dt><dd>2</dd>" in board
+
+
+def test_the_command_checks_digest_programs(
+    digest_bridge: Bridge, capsys: pytest.CaptureFixture[str]
+) -> None:
+    with_example(digest_bridge)
+    settings = digest_bridge.folder / "bridge.toml"
+    command.check(settings, None, True)
+    printed = capsys.readouterr().out
+    assert "the digest program of sum prints 'any_order sha256:" in printed
+    assert "the digest program of sum, an empty file: it says that the files are bad" in printed
+    assert "the digest program of sum, a large file: it prints 'any_order" in printed
+    replaced(digest_bridge, "exit 1")
+    with pytest.raises(OperatorFault, match="its status is 1"):
+        command.check(settings, None, True)
+    command.check(settings, None, False)  # as the unit does before its start
+    assert "good: 1 applications" in capsys.readouterr().out
+
+
+def test_a_disk_that_is_full_puts_the_report_off(
+    digest_bridge: Bridge, monkeypatch: pytest.MonkeyPatch, caplog: pytest.LogCaptureFixture
+) -> None:
+    def full(*_args: object) -> None:
+        raise OSError(28, "No space left on device")
+
+    body = report("u1_0", worked(digest_bridge, b"one\n"))
+    monkeypatch.setattr(queue_of(digest_bridge).jobs.__class__, "set_outcome", full)
+    put_off(digest_bridge, body)
+    assert "the digest of u1_0 is not stored: [Errno 28] No space left on device" in caplog.text
+    monkeypatch.undo()
+    monkeypatch.setattr("bsched_bridge.scheduler.PAUSE_SECONDS", 0.0)
+    assert decided(digest_bridge, body)[0] == 0
 
 
 @pytest.mark.parametrize(
@@ -296,7 +576,7 @@ def test_the_check_runs_the_program_twice_on_its_example(program: Callable[..., 
     with pytest.raises(DigestFault, match="two texts for the same files"):
         check_digest(program("head -c 8 /dev/urandom | sha256sum", example=folder), OUT)
     with pytest.raises(DigestFault, match="says that its example is bad: no"):
-        check_digest(program("echo no; exit 1", example=folder), OUT)
+        check_digest(program("echo no; exit 65", example=folder), OUT)
 
 
 def test_the_check_says_if_bubblewrap_can_not_run(
@@ -308,3 +588,22 @@ def test_the_check_says_if_bubblewrap_can_not_run(
     monkeypatch.setattr(digest_programs, "BWRAP", "/none/bwrap")
     with pytest.raises(DigestFault, match="install it"):
         check_digest(program("true"), OUT)
+
+
+def test_the_check_tries_odd_files(program: Callable[..., Any], tmp_path: Path) -> None:
+    """Empty files, those of the example without their ends, and large ones."""
+    folder = tmp_path / "example"
+    folder.mkdir()
+    (folder / "out").write_text("some words\n")
+    files = OutputFile("out", 50, False, True), OutputFile("log", 1000, True, False)
+    script = 'size=$(stat -c %s "$1"); [ $size != 0 ] || { echo none; exit 65; }; [ $size != 50 ] || exit 1'
+    made = program(f'{script}; cat "$1"', example=folder)
+    assert list(tried_on_odd_files(made, files)) == [
+        "an empty file: it says that the files are bad ('none'), so the result is an error",
+        "the first half of its example: it prints 'some'",
+        "a large file: it fails (its status is 1), so the report waits; bad files need status 65",
+    ]
+    assert [line.partition(":")[0] for line in tried_on_odd_files(program("echo x"), files)] == [
+        "an empty file",
+        "a large file",
+    ]

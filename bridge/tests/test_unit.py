@@ -71,3 +71,18 @@ def test_the_scheduler_may_make_a_log() -> None:
     unit = (DEBIAN / "bsched@.service").read_text()
     filters = re.findall(r"^SystemCallFilter=(.*)$", unit, re.MULTILINE)
     assert filters.index("fchown") > filters.index("~@privileged @resources")
+
+
+def test_the_bridge_may_run_digest_programs() -> None:
+    """bubblewrap makes namespaces, mounts in them, and sets their loopback up. If memory runs out, the kernel
+    ends a program, and the unit goes on. A program that fails its check stops no start.
+    """
+    unit = UNIT.read_text()
+    for line in (
+        "RestrictNamespaces=user mnt pid net ipc uts cgroup",
+        "RestrictAddressFamilies=AF_INET AF_UNIX AF_NETLINK",
+        "SystemCallFilter=@system-service @mount",
+        "OOMPolicy=continue",
+        "ExecStartPre=/usr/bin/bsched-bridge --config bridge.toml --check --without-digests",
+    ):
+        assert f"\n{line}\n" in unit
