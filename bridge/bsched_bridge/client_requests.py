@@ -203,13 +203,20 @@ def reported_file(file: Fields) -> ReportedFile:
     return ReportedFile(name, file.whole("nbytes", 0, MOST_NUMBER, 0), md5)
 
 
+def without_words(status: int, state: int) -> str:
+    """Returns what is known of a result that failed and of which neither program nor client said a word."""
+    if status:
+        return f"exit status {status}"
+    return f"the client says that it failed (state {state}), and sent no exit status"
+
+
 def report_of(result: Element) -> Report | None:
     """Returns the report of a finished result, or None if its name can't be a result's name."""
     fields = Fields(result)
     name = fields.text("name")
     if name is None or not is_result_name(name):
         return None
-    status = fields.whole("exit_status", LEAST_STATUS, MOST_STATUS, 0)
+    sent = status = fields.whole("exit_status", LEAST_STATUS, MOST_STATUS, 0)
     state = fields.whole("state", 0, 100, 0)
     if status == 0 and state != FINISHED:
         status = WITHOUT_STATUS
@@ -217,8 +224,7 @@ def report_of(result: Element) -> Report | None:
     fault = upload_fault(files)
     if status == 0 and fault is not None:
         return Report(name, UPLOAD_STATUS, fault)
-    # a program may end with an error and say nothing
-    output = output_of(result) or ("" if status == 0 else f"exit status {status}")
+    output = output_of(result) or ("" if status == 0 else without_words(sent, state))
     return Report(name, status, output, tuple(map(reported_file, files)))
 
 

@@ -11,6 +11,7 @@ client that sends no list can't say what it lacks, so none of its jobs goes out 
 """
 import logging
 import threading
+from collections import OrderedDict
 from collections.abc import Callable, Iterable
 from dataclasses import dataclass, replace
 
@@ -39,6 +40,7 @@ from .words import shown_key
 
 COUNT_ATTEMPTS = 3  # calls of one request, if bsched's count is ahead or it has lost the account
 HOUR, DAY = 3600, 86400
+MOST_CPIDS = 20_000  # host_cpids that hosts may have besides their own, of which the bridge knows
 END_SECONDS = 60.0  # for the message that is being sent at the end
 
 log = logging.getLogger(__name__)
@@ -144,6 +146,26 @@ def not_taken(names: list[str]) -> Text:
 Found = tuple[Key | None, dict[str, Key]]
 
 
+class KnownPairs:
+    """Pairs of a host and a host_cpid that its client may have, as many as were found last."""
+
+    def __init__(self, most: int) -> None:
+        self.most, self._lock = most, threading.Lock()
+        self._pairs: OrderedDict[tuple[Key, str], None] = OrderedDict()
+
+    def has(self, pair: tuple[Key, str]) -> bool:
+        """Returns whether a pair is known."""
+        with self._lock:
+            return pair in self._pairs
+
+    def add(self, pair: tuple[Key, str]) -> None:
+        """Adds a pair. If there are too many, the oldest one is forgotten."""
+        with self._lock:
+            self._pairs[pair] = None
+            if len(self._pairs) > self.most:
+                self._pairs.popitem(last=False)
+
+
 class StateChanged(Exception):
     """Raised if the state of a key is another one by now than the one that was read before the key was
     held.
@@ -175,6 +197,7 @@ class Exchange:
         self.archives = archives
         self.counted = counted or Reports()
         self._locks = KeyLocks(wait_seconds=2 * scheduler.answer_seconds)
+        self._cpids = KnownPairs(MOST_CPIDS)
 
     def answer(self, request: ClientRequest) -> Answered | PutOff:
         """Returns the reply to a request, with the jobs that were in hand. If the request is put off, returns
@@ -193,6 +216,9 @@ class Exchange:
             return refused
         try:
             if known is not None and request.rpc_seqno >= known.client_seqno:
+                other = self._of_another(request, known.key)
+                if other is not None:
+                    return other
                 reply = self._call(known.key, request, ClientState(seqno=request.rpc_seqno), known.state)
                 return reply if isinstance(reply, PutOff) else Answered(reply)
             with self._locks.held((request.authenticator, request.hostid, request.host_cpid)):
@@ -215,6 +241,47 @@ class Exchange:
             return None
         return with_detail(BARRED, self.contact) if self.contact else BARRED
 
+    # ---- Clients whose number may be that of another host
+
+    def _of_another(self, request: ClientRequest, key: Key) -> Answered | PutOff | None:
+        """Returns the reply to a client that sends the number of another computer of its account, or None if
+        the number is its own. After a loss of the state file a number may have been given a second time.
+
+        A host_cpid that is not that of the host may have changed. So what the client has or reports says
+        which host it is. Once its results are known to be those of the host, it may have this host_cpid.
+        """
+        names = {*names_of(request.results), *(request.other_results or ())}
+        pair = key, request.host_cpid
+        if request.host_cpid == key.host_cpid or not names or self.search.operator_key is None:
+            return None
+        if self._cpids.has(pair):
+            return None
+        holders = self.search.holders(key, names)
+        if holders.keys() == names and set(holders.values()) == {key}:
+            self._cpids.add(pair)
+            return None
+        with self._locks.held((request.authenticator, request.hostid, request.host_cpid)):
+            return self._unless_its_own(request, key)
+
+    def _unless_its_own(self, request: ClientRequest, key: Key) -> Answered | PutOff | None:
+        """Does the same for a client that has results which its host does not have, as far as is known. bsched
+        may have a host that the bridge does not know: a call tells it.
+        """
+        client = Key(request.authenticator, request.host_cpid)
+        if not self._has_host(client):
+            asked = self._call_aside(client, request, ())
+            if isinstance(asked, PutOff):
+                return None if asked.end is End.TOO_MANY_HOSTS else asked
+        found = self._host_of(request)
+        if isinstance(found, PutOff):
+            return found
+        own, holders = found
+        if not set(holders.values()) - {key}:
+            self._cpids.add((key, request.host_cpid))
+            return None  # nobody else has them: bsched lost them
+        log.warning("host %d is another computer than its number says", request.hostid)
+        return self._of_found(request, own, holders, None)
+
     # ---- Clients that don't send the number of their host
 
     def _of_unknown(self, request: ClientRequest, original: KnownHost | None) -> Answered | PutOff:
@@ -222,7 +289,6 @@ class Exchange:
         host that it is a copy of. A client is the host that its host_cpid names, unless another one has its
         results. Then it is a new host, and so is a copy, as in BOINC.
         """
-        client = ClientState()
         if original is None:
             found = self._host_of(request)
         else:
@@ -230,7 +296,15 @@ class Exchange:
             found = self._host_of_copy(request, original)
         if isinstance(found, PutOff):
             return found
-        key, holders = found
+        return self._of_found(request, *found, original)
+
+    def _of_found(
+        self, request: ClientRequest, key: Key | None, holders: dict[str, Key], original: KnownHost | None
+    ) -> Answered | PutOff:
+        """Returns the reply to a client that gets a number, if it is known which host it is and which one has
+        each of its results.
+        """
+        client = ClientState()
         if key is None:
             key = self.hosts.key_for_copy(request.authenticator, request.hostid)
             client = ClientState(copy_of=request.hostid)

@@ -2,8 +2,9 @@
 
 bsched knows a host by its key, an authenticator and a host_cpid. Its number of a host belongs to one set of
 tables. A further file numbers the hosts anew, and tables that were restored from a copy give a number a
-second time. So clients get a hostid of the bridge's own, which is never given twice. A client is compared
-with it alone, and bsched's number is for statements only.
+second time. So clients get a hostid of the bridge's own, a random number that no other host in the state file
+has. After a loss of that file a number can be given again, but hardly ever to a host of the same account; if
+it is, the exchange finds it out by the host_cpid. bsched's number is for statements only.
 """
 import secrets
 import sqlite3
@@ -13,9 +14,8 @@ from typing import cast
 
 from .state_file import StateFile
 
-MOST_NUMBER = 2**31 - 1
-# 2026-01-01. Numbers are above the seconds since then: see number_by_clock.
-FIRST_SECOND, LAST_BY_CLOCK = 1_767_225_600, 2**30
+# Hostids have 31 bits. Former versions told clients bsched's numbers, which are at most 100,000.
+LEAST_NUMBER, MOST_NUMBER = 100_001, 2**31 - 1
 HEARD = "authenticator, host_cpid, hostid, scheduler_hostid, user_name, user_credit, host_credit, heard_at"
 # the hosts that count for `most_hosts`: those that bsched has, or may have by now
 COUNTED = "(scheduler_hostid IS NOT NULL OR open_call IS NOT NULL)"
@@ -29,6 +29,7 @@ class Key:
     host_cpid: str
 
 
+IS_USED = "SELECT 1 FROM host WHERE hostid = ?1 UNION ALL SELECT 1 FROM host_day WHERE hostid = ?1"
 FIRST_KEY = Key("", "")  # before all keys
 
 
@@ -51,20 +52,15 @@ class HeardHost:
         return Key(self.authenticator, self.host_cpid)
 
 
-def number_by_clock() -> int:
-    """Returns the seconds since 2026, at most half of all numbers.
-
-    New numbers are above it. So a state file that was lost, or restored from a copy, gives no number again
-    that an earlier one gave, unless the project got more than one new host a second on average.
-    """
-    return max(0, min(int(time.time()) - FIRST_SECOND, LAST_BY_CLOCK))
+def random_number() -> int:
+    """Returns a random hostid."""
+    return LEAST_NUMBER + secrets.randbelow(MOST_NUMBER - LEAST_NUMBER + 1)
 
 
 def new_hostid(connection: sqlite3.Connection) -> int:
-    """Returns a number that no client was ever told, within a transaction."""
-    last = cast(int, connection.execute("SELECT last_hostid FROM numbers").fetchone()[0])
-    number = max(last, number_by_clock()) + 1
-    connection.execute("UPDATE numbers SET last_hostid = ?", (number,))
+    """Returns a random hostid that the state file has nowhere, within a transaction."""
+    while connection.execute(IS_USED, (number := random_number(),)).fetchone() is not None:
+        pass
     return number
 
 
@@ -78,10 +74,11 @@ class Hosts:
 
     def key_for_copy(self, authenticator: str, hostid: int) -> Key:
         """Returns the key for a client that sends the number of another host, or an unknown one. It is a new
-        one, unless no client was told the number of an earlier such host: then its call had no answer.
+        one, unless no client has used the number of an earlier such host: then its reply was lost.
         """
         row = self.file.row(
-            "SELECT host_cpid FROM host WHERE authenticator = ? AND copy_of = ? AND hostid IS NULL",
+            "SELECT host_cpid FROM host WHERE authenticator = ? AND copy_of = ? AND client_seqno IS NULL "
+            "ORDER BY rowid LIMIT 1",
             authenticator,
             hostid,
         )

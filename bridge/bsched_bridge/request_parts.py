@@ -34,6 +34,8 @@ OVERLAP = 128  # bytes; what is searched for is not longer
 # The client puts what a program wrote to its standard error between these tags, after lines of its own. Only
 # bytes beyond ASCII are changed: each is written as a character reference.
 TEXT_BEGINS, TEXT_ENDS = b"<stderr_txt>", b"</stderr_txt>"
+# Why a result failed, in the client's own words, if it is the client that says so.
+MESSAGE_BEGINS, MESSAGE_TEXT_ENDS = b"<message>", b"</message>"
 BYTE = re.compile(rb"&#(12[89]|1[3-9][0-9]|2[0-4][0-9]|25[0-5]);")
 # A program may mark its answer, in case something else writes to its standard error too.
 ANSWER_BEGINS, ANSWER_ENDS = b"<answer>", b"</answer>"
@@ -163,10 +165,13 @@ def between(text: bytes, begins: bytes, ends: bytes, to_the_last: bool = False) 
 
 def output_of(text: bytes) -> str:
     """Returns what a program wrote to its standard error, without blanks around it. If the program marked an
-    answer in it, only that is returned. Bytes that are not UTF-8, and characters that XML does not allow, are
-    U+FFFD.
+    answer in it, only that is returned. If it wrote nothing, the message of the client is returned, which
+    says why the result failed. Bytes that are not UTF-8, and characters that XML does not allow, are U+FFFD.
     """
     inner = between(text, TEXT_BEGINS, TEXT_ENDS, to_the_last=True)
+    if inner is not None and not inner.strip(BLANKS):
+        inner = between(text[: text.find(TEXT_BEGINS)], MESSAGE_BEGINS, MESSAGE_TEXT_ENDS)
+        inner = inner or b""
     text = text if inner is None else inner
     marked = between(text, ANSWER_BEGINS, ANSWER_ENDS)
     text = (text if marked is None else marked).lstrip(BLANKS)[:MOST_LOOKED_AT]

@@ -44,7 +44,7 @@ CREATE INDEX host_of_stranger ON host (authenticator)
   WHERE open_call IS NOT NULL AND scheduler_hostid IS NULL AND hostid IS NULL;
 CREATE INDEX host_heard ON host (heard_at) WHERE scheduler_hostid IS NOT NULL;
 """
-# The numbers that clients were told. Up to version 2 they were told bsched's, which are at most 100,000.
+# Former bridges counted hostids here. They are random, and the row stays as it is.
 NUMBERS = """
 CREATE TABLE numbers (last_hostid INTEGER NOT NULL) STRICT;
 INSERT INTO numbers (last_hostid) VALUES (100000);

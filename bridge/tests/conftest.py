@@ -8,6 +8,7 @@ from typing import Any
 
 import pytest
 from bridges import ACCOUNTS, Bridge, new_project
+from numbering import NEW_HOSTID, rising
 from tool_outputs import KEYS, write_tool_outputs
 from twin import Twin
 
@@ -28,8 +29,8 @@ def tmp_path() -> Iterator[Path]:
 
 @pytest.fixture(autouse=True)
 def numbers_from_the_first(monkeypatch: pytest.MonkeyPatch) -> None:
-    """Has bridges give the first number to the first host, whatever the time is."""
-    monkeypatch.setattr("bsched_bridge.hosts.number_by_clock", lambda: 0)
+    """Has bridges give the first number to the first host, and the following ones to the next hosts."""
+    monkeypatch.setattr(NEW_HOSTID, rising(lambda: 0))
 
 
 @pytest.fixture(scope="session")

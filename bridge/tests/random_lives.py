@@ -16,6 +16,7 @@ import plain
 from bridges import Bridge
 from joining import Stopped, Stops
 from messages import jobs, names, request, value
+from numbering import NEW_HOSTID, rising
 from twin import IMPORTS, Twin
 
 ABORTED = -221  # the exit status that BOINC's client reports for a job that it was told to abort
@@ -41,7 +42,7 @@ class SimulatedClock:
 
     def replaces(self, set_attribute: Callable[..., Any]) -> None:
         """Replaces the clock of the bridge, its pauses, and a limit by the minute."""
-        set_attribute("bsched_bridge.hosts.number_by_clock", self)
+        set_attribute(NEW_HOSTID, rising(self))
         set_attribute("bsched_bridge.scheduler.PAUSE_SECONDS", 0.0)
         set_attribute("bsched_bridge.host_search.MOST_SEARCHES", 10**9)
 

@@ -183,7 +183,33 @@ def test_exit_statuses(exit_elements: str, status: int) -> None:
     body = request(reports=[("u1_0", "")]).replace("0</exit_status><state>5", exit_elements)
     (report,) = read_request(body.encode()).results
     assert report.exit_status == status
-    assert report.output == ("" if status == 0 else f"exit status {status}")
+    sent = int(exit_elements.partition("<")[0])
+    if sent == 0 != status:
+        assert report.output == "the client says that it failed (state 3), and sent no exit status"
+    else:
+        assert report.output == ("" if status == 0 else f"exit status {status}")
+
+
+TOO_LARGE = "upload failure: <file_xfer_error>\n  <error_code>-131 (file size too big)</error_code>\n"
+
+
+@pytest.mark.parametrize(
+    "text, message, output",
+    [
+        ("", TOO_LARGE, TOO_LARGE.strip()),
+        (" \n\t\n", TOO_LARGE, TOO_LARGE.strip()),
+        ("no numbers", TOO_LARGE, "no numbers"),
+        ("<message>mine</message>", TOO_LARGE, "<message>mine</message>"),
+        ("", "", "the client says that it failed (state 3), and sent no exit status"),
+        ("", "process exited with code 3 (0x3)", "process exited with code 3 (0x3)"),
+    ],
+)
+def test_a_result_whose_program_says_nothing(text: str, message: str, output: str) -> None:
+    """The client says why an output file is too large, and its exit status is 0."""
+    body = request(reports=[("u1_0", text)]).replace("0</exit_status><state>5", "0</exit_status><state>3")
+    body = body.replace("<stderr_txt>", f"<message>\n{message}\n</message>\n<stderr_txt>")
+    (report,) = read_request(body.encode()).results
+    assert (report.exit_status, report.output) == (1, output)
 
 
 def test_a_result_that_can_have_no_name_is_passed_over() -> None:

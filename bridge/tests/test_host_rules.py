@@ -6,6 +6,7 @@ from pathlib import Path
 import pytest
 from bridges import Bridge
 from messages import FIRST, request, value
+from numbering import NEW_HOSTID, rising
 from twin import Twin
 
 FULL = "Your account has 3 computers at this project, and may have no more."
@@ -133,7 +134,7 @@ def test_without_the_state_file_the_hosts_that_call_count(
     small.file.close()
     for path in project.glob("bridge.db*"):
         path.unlink()
-    monkeypatch.setattr("bsched_bridge.hosts.number_by_clock", lambda: FIRST + 99)
+    monkeypatch.setattr(NEW_HOSTID, rising(lambda: FIRST + 99))
     small.start()
     assert [called(small, number) for number in (7, 8, 9)] == ["101", "102", "103"]
     assert FULL in called(small, 0, hostid=FIRST)

@@ -6,11 +6,14 @@ from pathlib import Path
 import pytest
 from bridges import Bridge
 from messages import FIRST, jobs, names, request, value
+from numbering import NEW_HOSTID, rising
 from random_lives import further_file
 from twin import Twin
 
+from bsched_bridge import hosts
 from bsched_bridge.host_search import MOST_SEARCHES
-from bsched_bridge.hosts import FIRST_SECOND, LAST_BY_CLOCK, Key
+from bsched_bridge.hosts import Key
+from bsched_bridge.state_file import StateFile
 
 A, B = FIRST, FIRST + 1  # two computers of Ann
 
@@ -29,7 +32,7 @@ def loses_state(bridge: Bridge, monkeypatch: pytest.MonkeyPatch, later: int = 10
     bridge.file.close()
     for path in bridge.folder.glob("bridge.db*"):
         path.unlink()
-    monkeypatch.setattr("bsched_bridge.hosts.number_by_clock", lambda: FIRST + later)
+    monkeypatch.setattr(NEW_HOSTID, rising(lambda: FIRST + later))
     bridge.start()
 
 
@@ -48,14 +51,71 @@ def test_numbers_rise_and_are_those_of_the_bridge(two: Bridge, twin: Twin) -> No
     assert [host.number for host in twin.service.machine.hosts.values()] == [1, 2, 3]
 
 
-def test_numbers_are_above_those_of_an_earlier_file(bridge: Bridge, monkeypatch: pytest.MonkeyPatch) -> None:
-    from bsched_bridge import hosts
+def test_numbers_are_random_whatever_the_clock_says(tmp_path: Path, monkeypatch: pytest.MonkeyPatch) -> None:
+    """Neither a burst of computers nor a clock of 1970 makes a number that another state file will give."""
+    monkeypatch.undo()
+    monkeypatch.setattr("time.time", lambda: 0.0)
+    given = []
+    for name in ("first", "second"):
+        file = StateFile(tmp_path / name)
+        with file.transaction() as connection:
+            for number in range(1000):
+                given.append(hosts.new_hostid(connection))
+                connection.execute(
+                    "INSERT INTO host (authenticator, host_cpid, last_number, hostid) VALUES ('a', ?, 1, ?)",
+                    (str(number), given[-1]),
+                )
+        file.close()
+    assert min(given) >= hosts.LEAST_NUMBER and max(given) <= 2**31 - 1
+    assert len(set(given)) > 1990  # of 2,000: with 31 bits hardly one is given twice
+    assert max(given) - min(given) > 2**28
 
-    assert hosts.LAST_BY_CLOCK <= hosts.MOST_NUMBER // 2 + 1
-    for moment, number in ((FIRST_SECOND - 5, 0), (FIRST_SECOND + 7, 7), (2**40, LAST_BY_CLOCK)):
-        monkeypatch.undo()
-        monkeypatch.setattr("bsched_bridge.hosts.time.time", lambda moment=moment: moment)
-        assert hosts.number_by_clock() == number
+
+def test_a_number_that_is_used_is_not_given(tmp_path: Path, monkeypatch: pytest.MonkeyPatch) -> None:
+    numbers = iter([200_001, 200_002, 200_001, 200_003])
+    monkeypatch.setattr("bsched_bridge.hosts.random_number", numbers.__next__)
+    file = StateFile(tmp_path / "bridge.db")
+    with file.transaction() as connection:
+        insert = "INSERT INTO host (authenticator, host_cpid, last_number, hostid) VALUES ('a', 'c', 1, ?)"
+        connection.execute(insert, (hosts.new_hostid(connection),))
+        connection.execute("INSERT INTO host_day (hostid, day, credit) VALUES (200002, 1, 1)")
+        assert hosts.new_hostid(connection) == 200_003
+    file.close()
+
+
+COMPUTERS = 12
+
+
+@pytest.mark.parametrize("is_reversed", [True, False])
+def test_numbers_that_are_given_a_second_time(
+    project: Path, twin: Twin, monkeypatch: pytest.MonkeyPatch, is_reversed: bool
+) -> None:
+    """Some computers of an account have a job each. The state file is lost, and the new one gives the very
+    same numbers again, to other computers. No report is acknowledged that is not recorded.
+    """
+    monkeypatch.setattr("bsched_bridge.scheduler.PAUSE_SECONDS", 0.0)
+    monkeypatch.setattr("bsched_bridge.host_search.MOST_SEARCHES", 10**6)
+    twin.statement = None
+    bridge = Bridge(project, twin)
+    numbers, held = {}, {}
+    for place in range(COMPUTERS):
+        reply = bridge.call(request(cpid=f"c{place}"))
+        numbers[place], held[place] = int(value(reply, "hostid") or 0), jobs(reply)
+    holders = [place for place in held if held[place]]
+    assert len(holders) > 2
+    loses_state(bridge, monkeypatch, later=-1)
+    order = list(range(COMPUTERS))
+    for place in reversed(order) if is_reversed else order[1:] + order[:1]:
+        bridge.call(request(hostid=numbers[place], cpid=f"c{place}", seqno=3, listed=held[place], seconds=0))
+    for place in holders:
+        reports = [(name, "42") for name in held[place]]
+        reply = bridge.call(
+            request(hostid=numbers[place], cpid=f"c{place}", seqno=4, reports=reports, seconds=0)
+        )
+        acknowledged = set(names(reply, "result_ack"))
+        assert acknowledged == set(held[place])
+        assert {recorded(twin, name) for name in acknowledged} == {f"c{place}"}
+    bridge.file.close()
 
 
 def test_a_further_file_in_which_the_numbers_are_exchanged(two: Bridge, twin: Twin) -> None:
@@ -279,6 +339,11 @@ def test_a_copy_whose_call_gets_no_answer_is_one_host(two: Bridge, twin: Twin) -
         twin.faults = []
     assert value(two.call(request(hostid=A, cpid="a", seqno=2)), "hostid") == str(FIRST + 2)
     assert len(twin.service.machine.hosts) == 3
+    # the reply was lost: the number is the same until it was used
+    for _ in range(3):
+        assert value(two.call(request(hostid=A, cpid="a", seqno=2)), "hostid") == str(FIRST + 2)
+    assert len(twin.service.machine.hosts) == 3
+    assert value(two.call(request(hostid=FIRST + 2, cpid="a2", seqno=0)), "hostid") is None
     # another copy of the same computer
     assert value(two.call(request(hostid=A, cpid="a", seqno=2)), "hostid") == str(FIRST + 3)
 

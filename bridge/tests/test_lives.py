@@ -4,6 +4,7 @@ import json
 import random
 import threading
 import time
+from collections.abc import Set
 from pathlib import Path
 from typing import Any, Protocol
 
@@ -66,7 +67,7 @@ class Client:
 
 @pytest.mark.parametrize("seed", range(12))
 def test_a_life(bridge: Bridge, twin: Twin, seed: int) -> None:
-    chance = random.Random(seed)
+    chance, twin.statement = random.Random(seed), None
     clients = [Client("ann-key", "c1", True), Client("bob-key", "c2", True)]
     for step in range(120):
         client = chance.choice(clients)
@@ -87,10 +88,11 @@ def test_a_life(bridge: Bridge, twin: Twin, seed: int) -> None:
         assert value(reply, "user_total_credit") == "40.000"
         assert not client.working and not client.finished
     assert len(twin.service.machine.hosts) == 2
-    looked_at_numbers(twin)
+    # a question about a host that bsched has, since its host_cpid has changed, is refused as stale
+    looked_at_numbers(twin, {"stale"})
 
 
-def looked_at_numbers(twin: Twin) -> None:
+def looked_at_numbers(twin: Twin, questions: Set[str] = frozenset()) -> None:
     """Checks that the numbers of a key rise, that only the same bytes repeat a number, and that no call was
     refused.
     """
@@ -104,7 +106,7 @@ def looked_at_numbers(twin: Twin) -> None:
         assert call["rpc_seqno"] > number or (call["rpc_seqno"] == number and body == before)
         last[key] = call["rpc_seqno"], body
     refusals = {json.loads(answer)["error"] for answer in twin.answers if '"error"' in answer}
-    assert refusals <= {"unavailable", "bad_host"}  # a question of the bridge is refused as bad_host
+    assert refusals <= {"unavailable", "bad_host", *questions}
 
 
 @pytest.mark.parametrize("seed", range(6))
