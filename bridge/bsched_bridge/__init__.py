@@ -13,6 +13,7 @@ client_requests  what a client's XML says
 exchange         one request and its answer: resends, whose host a client is, what it reads after a refusal
 hosts            the hosts that the bridge knows, and the numbers that their clients were told
 host_search      which host has a result, by bsched's statements
+held_back        which hosts get fewer jobs, after errors
 call_numbers     the numbers of calls, and the calls without an answer
 calls            the JSON text of a call
 archives         the credit from earlier files of the project, which is added to replies

@@ -119,6 +119,7 @@ class Application:
             reports,
             settings.contact,
             measured.reports,
+            measured.held_back,
         )
         tokens = None if store is None else UploadTokens(store.secret)
         self.writer = ReplyWriter(

@@ -88,8 +88,9 @@ class ErrorHost:
 
     computer: Computer
     account: str  # the front of its key
-    errors: int
+    errors: int  # of the last day
     reports: int
+    allowed: int | None  # jobs that it may get in a day; None if it is not held back
 
 
 @dataclass(frozen=True, slots=True)
@@ -306,8 +307,10 @@ class Board:
             yield room_of(f"disk of {disk.folder.resolve()}", limit, is_bytes=True)
 
     def _error_hosts(self) -> Iterator[ErrorHost]:
-        """Yields the computers that reported the most errors since the start."""
+        """Yields the computers that reported the most errors in the last day."""
+        held_back = self.overviews.measurements.held_back
         for key, errors, reports in self.overviews.measurements.reports.worst(MOST_HOSTS):
             computer = self.directory.computer_of_key(key.authenticator, key.host_cpid)
             if computer is not None:
-                yield ErrorHost(computer, shown_key(key.authenticator), errors, reports)
+                allowed = held_back.allowed(key) if self.rules().holds_back else None
+                yield ErrorHost(computer, shown_key(key.authenticator), errors, reports, allowed)

@@ -28,6 +28,7 @@ from .call_numbers import (
 )
 from .calls import call_text
 from .client_requests import ClientRequest, Report
+from .held_back import HeldBack
 from .host_search import HostSearch, TooManySearches
 from .hosts import FIRST_KEY, Hosts, Key
 from .key_locks import Busy, KeyLocks
@@ -189,13 +190,14 @@ class Exchange:
         reports: ReportChecks | None = None,
         contact: str | None = None,
         counted: Reports | None = None,
+        held_back: HeldBack | None = None,
     ):
         self.hosts, self.numbers, self.scheduler, self.search = hosts, numbers, scheduler, search
         self.retry_delay, self.rules, self.barring, self.contact = retry_delay, rules, barring, contact
         self.reports = reports  # None if no application has output files
         self.import_again = import_again  # imports an account again that bsched has lost
         self.archives = archives
-        self.counted = counted or Reports()
+        self.counted, self.held_back = counted or Reports(), held_back or HeldBack()
         self._locks = KeyLocks(wait_seconds=2 * scheduler.answer_seconds)
         self._cpids = KnownPairs(MOST_CPIDS)
 
@@ -220,7 +222,10 @@ class Exchange:
                 if other is not None:
                     return other
                 reply = self._call(known.key, request, ClientState(seqno=request.rpc_seqno), known.state)
-                return reply if isinstance(reply, PutOff) else Answered(reply)
+                if isinstance(reply, PutOff):
+                    return reply
+                notice = self.held_back.notice(known.key, request) if self.rules().holds_back else None
+                return Answered(reply, notice=notice)
             with self._locks.held((request.authenticator, request.hostid, request.host_cpid)):
                 return self._of_unknown(request, known)
         except NoAnswer:
@@ -264,8 +269,8 @@ class Exchange:
             return self._unless_its_own(request, key)
 
     def _unless_its_own(self, request: ClientRequest, key: Key) -> Answered | PutOff | None:
-        """Does the same for a client that has results which its host does not have, as far as is known. bsched
-        may have a host that the bridge does not know: a call tells it.
+        """Does the same for a client that has results which its host does not have, as far as is known.
+        bsched may have a host that the bridge does not know: a call tells it.
         """
         client = Key(request.authenticator, request.host_cpid)
         if not self._has_host(client):
@@ -500,6 +505,8 @@ class Exchange:
         """
         if self._is_made_up(key, state):
             return put_off_by(Refusal("bad_account"))
+        if self.rules().holds_back:
+            request = self.held_back.limited(key, request)
         listed = {*(request.other_results or ()), *names_of(request.results)}
         in_hand = state.jobs_but(listed)
         names, seconds = [job.name for job in in_hand], sum(job.estimate for job in in_hand)
@@ -520,6 +527,8 @@ class Exchange:
                 jobs = [] if request.other_results is None else answer.results
                 self.numbers.record_answer(key, answer, jobs, state, request.about, seqno)
                 self.counted.record(key, request.results, answer.result_ack)
+                self.held_back.gave(key, len(answer.results))
+                self.held_back.record(key, request.results, answer.result_ack)
                 if self.reports is not None:
                     self.reports.end(answer.result_ack)
                 return shown(answer, state.account, in_hand)

@@ -15,12 +15,14 @@ from dataclasses import dataclass, field
 from enum import StrEnum
 
 from .client_requests import Report
+from .held_back import HeldBack
 from .hosts import Key
 
 # the upper bounds of the bins of durations, in seconds; a last bin has what is longer
 BOUNDS = (0.001, 0.0025, 0.005, 0.01, 0.025, 0.05, 0.1, 0.25, 0.5, 1.0, 2.5, 5.0, 10.0, 30.0)
 MINUTE, MINUTES = 60, 60  # seconds of a minute; minutes that are kept one by one
 MOST_HOSTS = 1000  # whose errors are counted
+HOUR, HOURS = 3600, 24  # seconds of an hour; hours for which the errors of hosts are counted
 
 
 class End(StrEnum):
@@ -146,10 +148,21 @@ class Calls:
 
 @dataclass(slots=True)
 class HostReports:
-    """What a host reported since its first error."""
+    """What a host reported since its first error, by hours, for the last day."""
 
-    reports: int = 0
-    errors: int = 0
+    hours: deque[tuple[int, int, int]] = field(default_factory=lambda: deque(maxlen=HOURS + 1))
+
+    def add(self, hour: int, reports: int, errors: int) -> None:
+        """Counts reports, and how many of them are errors."""
+        if self.hours and self.hours[-1][0] == hour:
+            _, former, former_errors = self.hours.pop()
+            reports, errors = former + reports, former_errors + errors
+        self.hours.append((hour, reports, errors))
+
+    def of_day(self, hour: int) -> tuple[int, int]:
+        """Returns the reports of the last day, and how many of them are errors."""
+        lately = [one for one in self.hours if one[0] > hour - HOURS]
+        return sum(one[1] for one in lately), sum(one[2] for one in lately)
 
 
 class Reports:
@@ -157,8 +170,8 @@ class Reports:
     can make up hosts, so at most MOST_HOSTS are kept: those whose errors are the latest.
     """
 
-    def __init__(self) -> None:
-        self._lock = threading.Lock()
+    def __init__(self, clock: Callable[[], float] = time.monotonic) -> None:
+        self._lock, self._clock = threading.Lock(), clock
         self._reports = self._errors = 0
         self._hosts: OrderedDict[Key, HostReports] = OrderedDict()
 
@@ -183,8 +196,7 @@ class Reports:
                 return
             if errors:
                 self._hosts.move_to_end(key)
-            host.reports += reports
-            host.errors += errors
+            host.add(int(self._clock() // HOUR), reports, errors)
 
     def totals(self) -> tuple[int, int]:
         """Returns how many results were reported without an error, and how many with one."""
@@ -192,9 +204,13 @@ class Reports:
             return self._reports - self._errors, self._errors
 
     def worst(self, most: int) -> list[tuple[Key, int, int]]:
-        """Returns the hosts with the most errors, each with how many it had and of how many results."""
+        """Returns the hosts with the most errors of the last day, each with how many it had and of how many
+        results.
+        """
         with self._lock:
-            hosts = [(key, one.errors, one.reports) for key, one in self._hosts.items()]
+            hour = int(self._clock() // HOUR)
+            counted = [(key, one.of_day(hour)) for key, one in self._hosts.items()]
+        hosts = [(key, errors, reports) for key, (reports, errors) in counted if errors]
         return heapq.nlargest(most, hosts, key=lambda host: host[1])
 
 
@@ -250,4 +266,4 @@ class Measurements:
     def __init__(self) -> None:
         self.started_at = time.time()
         self.calls, self.reports, self.uploads = Calls(), Reports(), UploadCounts()
-        self.put_offs = PutOffs()
+        self.put_offs, self.held_back = PutOffs(), HeldBack()

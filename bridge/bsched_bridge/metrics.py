@@ -79,6 +79,8 @@ def of_bridge(overview: Overview) -> Iterator[Metric]:
         yield from gauge("bridge_uploads_pending", "Files whose results are not reported yet.", pending)
         yield from gauge("bridge_uploads_used_bytes", "The bytes of all uploaded files.", room.used)
         yield from gauge("bridge_uploads_limit_bytes", "How many bytes they may have.", room.most)
+    text = "Computers that get fewer jobs, since they reported errors."
+    yield from gauge("bridge_held_back_hosts", text, overview.held_back)
     good = float(overview.faults.edit is None)
     yield from gauge("bridge_catalogue_good", "Whether the last edit of the catalogue counts.", good)
     faulty = float(len(overview.faults.digests))

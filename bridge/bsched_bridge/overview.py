@@ -52,6 +52,7 @@ class Overview:
     findings: Findings | None  # of bsched-tools health
     timers: list[Timer]
     faults: CatalogueFaults
+    held_back: int  # computers that get fewer jobs
 
 
 def disk_of(folder: Path) -> Disk:
@@ -97,6 +98,7 @@ class Overviews:
             read_findings(settings.health),
             timers_of(settings.project, now),
             CatalogueFaults(self.faults.edit, dict(self.faults.digests)),
+            self.measurements.held_back.count(),
         )
 
     def _disks(self) -> dict[str, Disk]:

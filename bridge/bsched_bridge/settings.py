@@ -62,6 +62,7 @@ class HostRules:
 
     most_hosts: int  # of one account
     barred: frozenset[str]  # keys of accounts
+    holds_back: bool = True  # whether computers that report errors get fewer jobs
 
 
 @dataclass(frozen=True, slots=True)
@@ -201,7 +202,9 @@ def read_uploads(file: OperatorFile, has_key: bool) -> UploadSettings | None:
 
 def read_host_rules(file: OperatorFile) -> HostRules:
     """Reads the members that are read again while the bridge runs."""
-    return HostRules(file.whole("most_hosts", 1, 100_000, 20), file.words("barred"))
+    return HostRules(
+        file.whole("most_hosts", 1, 100_000, 20), file.words("barred"), file.flag("hold_back", True)
+    )
 
 
 def read_contact(file: Entry) -> str | None:
