@@ -54,6 +54,7 @@ pages            the project's page and the status page
 account_pages    an account, for its owner
 volunteer_pages  users and computers, for everybody
 team_pages       teams, for everybody
+names            names of users and teams
 teams            what users do with teams (team_rows), and teams by credit and by name
 page_numbers     long lists on several pages
 directory        users and computers by credit and by name

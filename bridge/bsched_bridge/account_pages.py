@@ -12,11 +12,12 @@ from werkzeug.exceptions import BadRequest
 from werkzeug.wrappers import Request, Response
 
 from .account_messages import LEAST_PASSWORD, client_of
-from .accounts import AccountFault, AccountPlaces, Accounts, Fault, clean_name, is_email
+from .accounts import AccountFault, AccountPlaces, Accounts, Fault, is_email
 from .directory import Directory
 from .http_messages import form_of, query_of, refuse_other_sites
 from .languages import Language, Text, gettext_lazy, gettext_noop, language_of
 from .members import Member
+from .names import clean_name
 from .passwords import client_hash
 from .preferences import PreferenceFault, read_preferences, typed
 from .settings import Settings

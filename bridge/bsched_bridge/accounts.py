@@ -9,7 +9,6 @@ import logging
 import re
 import secrets
 import time
-import unicodedata
 from collections.abc import Iterator
 from contextlib import ExitStack, contextmanager
 from dataclasses import dataclass
@@ -20,20 +19,19 @@ from .key_locks import Busy, KeyLocks
 from .languages import gettext_noop
 from .limits import ClientTurns, NetworkCounts, NoPlace, Places, RecentCounts
 from .members import DayIsFull, EmailTaken, Member, Members
+from .names import clean_name
 from .passwords import Passwords, TooBusy, is_client_hash
 from .scheduler import NoAnswer, Refusal, Scheduler
 from .settings import AccountSettings
-from .words import WORD, cut_to_bytes, shown_key
+from .words import WORD, shown_key
 
 HOUR, DAY = 3600, 86400
 MOST_WRONG_PASSWORDS = 10  # in an hour, for each client address and for each e-mail address
 NETWORK_SHARE = 10  # no wide network makes more than this part of a day's accounts
-MOST_NAME = 64  # bytes
 MOST_EMAIL = 254  # characters
 # what the Manager accepts as an e-mail address; its wizard never ends if the project refuses such an address
 MANAGER_EMAIL = re.compile(r"[^@]+@[^@.]+\.[^@]{2,}")
 NO_EMAIL = re.compile(r"[\s\x00-\x1f\x7f\ufffd]")
-NO_NAME = re.compile("[\\s\x00-\x1f\x7f-\x9f\ufffd]+")
 WAIT_SECONDS = 3.0  # for another message about the same address
 
 log = logging.getLogger(__name__)
@@ -91,14 +89,6 @@ class AccountFault(Exception):
 def is_email(email: str) -> bool:
     """Returns whether a text looks like an e-mail address."""
     return bool(MANAGER_EMAIL.fullmatch(email)) and not NO_EMAIL.search(email) and len(email) <= MOST_EMAIL
-
-
-def clean_name(name: str) -> str:
-    """Returns a name in the form that bsched accepts, on one line. It may be empty. Characters that can't be
-    seen, or that turn the text around them, are left out (category Cf of Unicode).
-    """
-    seen = "".join(one for one in name if unicodedata.category(one) != "Cf")
-    return cut_to_bytes(NO_NAME.sub(" ", seen).strip(), MOST_NAME).strip()
 
 
 def made_name() -> str:

@@ -21,6 +21,24 @@ def one_line(text: str) -> str:
     return " ".join(front.split())[:MOST_TEXT].rstrip()
 
 
+def system_of(name: str, version: str) -> str:
+    """Returns a system with its version. Versions of Linux begin with words that the name ends with. If it is
+    too long, the library after the kernel is left out, and then the kernel.
+    """
+    words, of_version = name[: 4 * MOST_TEXT].split(), version[: 4 * MOST_TEXT].split()
+    for count in range(min(len(words), len(of_version)), 0, -1):
+        if words[-count:] == of_version[:count]:
+            words = words[:-count]
+            break
+    text = " ".join([*words, *of_version])
+    kernel, bar, _ = text.partition("|")
+    if len(text) > MOST_TEXT and bar and "[" in kernel:
+        text = f"{kernel}]"
+        if len(text) > MOST_TEXT:
+            text = kernel.partition("[")[0]
+    return one_line(text)
+
+
 @dataclass(frozen=True, slots=True)
 class Description:
     """What a computer says of itself."""
@@ -70,7 +88,7 @@ def described(
     return Description(
         model if model.lower().startswith(vendor.lower()) else one_line(f"{vendor} {model}"),
         processors,
-        one_line(f"{host.text('os_name') or ''} {host.text('os_version') or ''}"),
+        system_of(host.text("os_name") or "", host.text("os_version") or ""),
         one_line(".".join(filter(None, map(request.text, VERSION)))),
         memory,
         disk,

@@ -255,11 +255,11 @@ class Exchange:
         A host_cpid that is not that of the host may have changed. So what the client has or reports says
         which host it is. Once its results are known to be those of the host, it may have this host_cpid.
         """
-        names = {*names_of(request.results), *(request.other_results or ())}
         pair = key, request.host_cpid
-        if request.host_cpid == key.host_cpid or not names or self.search.operator_key is None:
+        if request.host_cpid == key.host_cpid or self.search.operator_key is None or self._cpids.has(pair):
             return None
-        if self._cpids.has(pair):
+        names = {*names_of(request.results), *(request.other_results or ())}
+        if not names:
             return None
         holders = self.search.holders(key, names)
         if holders.keys() == names and set(holders.values()) == {key}:

@@ -179,7 +179,15 @@ def make_private(path: Path) -> None:
 
 
 def held(path: Path) -> int:
-    """Locks the lock file of a state file, and returns its descriptor. The lock ends with the process."""
+    """Locks the lock file of a state file, and returns its descriptor. The lock ends with the process. It is
+    next to the file itself, also if a link leads to the file. A file with two names could have two locks, so
+    it is refused.
+    """
+    path = path.resolve()
+    if path.stat().st_nlink > 1:
+        raise StateFault(
+            f"{path}: the file has a second name (a hard link): remove that one, or copy the file"
+        )
     descriptor = os.open(path.with_name(f"{path.name}.lock"), os.O_RDWR | os.O_CREAT | os.O_CLOEXEC, 0o600)
     try:
         fcntl.flock(descriptor, fcntl.LOCK_EX | fcntl.LOCK_NB)

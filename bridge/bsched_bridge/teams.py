@@ -4,16 +4,15 @@ The founder can remove members. If the founder leaves, the member with the lowes
 then on. A team without members is forgotten. The credit of a team is that of its members.
 """
 import sqlite3
-import unicodedata
 from dataclasses import dataclass
 from enum import Enum
 from typing import cast
 
-from .accounts import clean_name
 from .directory import USER, User, pattern_of, user_of
 from .languages import gettext_noop
 from .limits import RecentCounts
 from .members import Member
+from .names import clean_name, fold
 from .state_file import StateFile
 from .team_rows import leave
 
@@ -57,9 +56,15 @@ class Team:
     members: int
 
 
-def fold(name: str) -> str:
-    """Returns what names that look alike have in common."""
-    return unicodedata.normalize("NFKC", unicodedata.normalize("NFKC", name).casefold())
+def like(connection: sqlite3.Connection, name: str) -> int | None:
+    """Returns the number of the team whose name looks like another one, or None. Former bridges folded names
+    in another way, so the names themselves are compared.
+    """
+    folded = fold(name)
+    for number, other in connection.execute("SELECT id, name FROM team ORDER BY id"):
+        if fold(other) == folded:
+            return cast(int, number)
+    return None
 
 
 class Teams:
@@ -121,7 +126,7 @@ class Teams:
             require_no_team(connection, member)
             if connection.execute("SELECT count(*) FROM team").fetchone()[0] >= MOST_TEAMS:
                 raise TeamFault(Why.FULL.value)
-            if connection.execute("SELECT 1 FROM team WHERE folded = ?", (fold(name),)).fetchone():
+            if like(connection, name) is not None:
                 raise TeamFault(Why.TAKEN.value)
             if not self._new.take(member.id):
                 raise TeamFault(Why.TOO_MANY.value)
@@ -138,14 +143,11 @@ class Teams:
         name = clean_name(text)
         with self.file.transaction() as connection:
             require_no_team(connection, member)
-            row = connection.execute(
-                "SELECT id, CAST(id AS TEXT) = ?2 AS is_number FROM team WHERE folded = ?1 OR is_number "
-                "ORDER BY is_number DESC",
-                (fold(name), name),
-            ).fetchone()
-            if row is None:
+            row = connection.execute("SELECT id FROM team WHERE CAST(id AS TEXT) = ?", (name,)).fetchone()
+            number = like(connection, name) if row is None else cast(int, row[0])
+            if number is None:
                 raise TeamFault(Why.NO_TEAM.value)
-            connection.execute("UPDATE member SET team = ? WHERE id = ?", (row[0], member.id))
+            connection.execute("UPDATE member SET team = ? WHERE id = ?", (number, member.id))
 
     def leave(self, member: Member) -> None:
         """Lets a user leave a team."""

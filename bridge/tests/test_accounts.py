@@ -31,9 +31,10 @@ from messages import FIRST, request, value
 from twin import Twin
 
 from bsched_bridge import passwords
-from bsched_bridge.accounts import AccountFault, Fault, account_import, clean_name, is_email
+from bsched_bridge.accounts import AccountFault, Fault, account_import, is_email
 from bsched_bridge.limits import RecentCounts, is_loopback, network_of
 from bsched_bridge.members import DayIsFull, EmailTaken, Member
+from bsched_bridge.names import clean_name
 from bsched_bridge.passwords import (
     COST,
     Cost,
@@ -184,8 +185,26 @@ def test_a_creation_is_for_no_head_and_no_browser(open_bridge: Bridge, twin: Twi
         ("x" * 65, "x" * 64),
         ("é" * 33, "é" * 32),
         ("x" * 63 + " y", "x" * 63),
-        ('"', '"'),
+        ('"a"', '"a"'),
         ("<b>", "<b>"),
+        # what can't be seen: fillers, a joiner, a variation selector, an inherent vowel, a blank of Braille
+        ("\u3164\u115f", ""),
+        ("Te\u034fam\ufe0f \u17b4A", "Team A"),
+        ("\u2800", ""),
+        ("a\u2800b", "a b"),
+        ("\U000e0101a", "a"),
+        # no letter and no digit
+        ('"', ""),
+        ("\U0001f600 -", ""),
+        ("\u0301\u0302", ""),
+        ("7", "7"),
+        # marks
+        ("a" + "\u0301" * 40, "a" + "\u0301" * 4),
+        (" \u0301a", "a"),
+        (
+            "\u0645\u064f\u062d\u064e\u0645\u0651\u064e\u062f",
+            "\u0645\u064f\u062d\u064e\u0645\u0651\u064e\u062f",
+        ),
         ("\u200b\ufeff", ""),
         ("An\u202en", "Ann"),
     ],

@@ -161,6 +161,24 @@ def test_one_bridge_has_the_file(tmp_path: Path) -> None:
     file.close()
 
 
+def test_one_bridge_has_the_file_by_any_name(tmp_path: Path) -> None:
+    """A symbolic link leads to the same lock, and a file with a second name is refused."""
+    path, link, other = (tmp_path / name for name in ("state.db", "link.db", "other.db"))
+    file = StateFile(path)
+    link.symlink_to(path)
+    with pytest.raises(StateFault, match="no other bridge"):
+        StateFile(link)
+    other.hardlink_to(path)
+    with pytest.raises(StateFault, match=r"other\.db: the file has a second name \(a hard link\): remove"):
+        StateFile(other)
+    file.close()
+    with pytest.raises(StateFault, match="second name"):
+        StateFile(path)
+    other.unlink()
+    StateFile(link).close()
+    assert not (tmp_path / "link.db.lock").exists()
+
+
 def test_a_spoiled_file_is_told_at_the_start(tmp_path: Path) -> None:
     path = tmp_path / "state.db"
     file = StateFile(path)

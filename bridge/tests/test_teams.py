@@ -12,7 +12,7 @@ from test_pages import page_of, posted
 from test_volunteers import people
 
 from bsched_bridge import teams
-from bsched_bridge.teams import fold
+from bsched_bridge.names import fold
 
 
 def acted(bridge: Bridge, key: str, action: str, **fields: str) -> str:
@@ -201,6 +201,21 @@ def test_no_accounts_no_teams(bridge: Bridge) -> None:
 
 def test_names_that_look_alike() -> None:
     assert fold("Straße") == fold("STRASSE") and fold("ﬁne") == fold("FINE") and fold("a") != fold("b")
+    assert fold("Team A") == fold("TEAM  \u0410") == fold("T\u03b5am \u0391") and fold("TeamA") == fold(
+        "Team\u034fA"
+    )
+    assert fold("\u041e\u0421\u0410") == fold("\u043e\u0441\u0430") and fold("M\u00fcller") != fold("Muller")
+
+
+def test_a_name_that_looks_like_that_of_a_former_bridge_is_taken(open_bridge: Bridge) -> None:
+    """A former bridge folded names in another way."""
+    (ann, ann_id), (bob, _) = accounts(open_bridge, 2)
+    with open_bridge.file.transaction() as connection:
+        insert = "INSERT INTO team (name, folded, founder, created_at) VALUES (?, ?, ?, 1)"
+        connection.execute(insert, ("Team\u034fA", "team\u034fa", ann_id))
+    assert "Another team has this name" in acted(open_bridge, bob, "make", team="TeamA")
+    acted(open_bridge, bob, "join", team="teama")
+    assert [team.members for team in open_bridge.application.teams.teams(0, 9)] == [1]
 
 
 def test_the_operator_lists_the_teams(project: Path, open_bridge: Bridge) -> None:

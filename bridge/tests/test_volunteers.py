@@ -16,7 +16,7 @@ from twin import Twin
 
 from bsched_bridge.charts import chart_of
 from bsched_bridge.credit_days import DAY, CreditDay, CreditDays
-from bsched_bridge.descriptions import Description, one_line, read_description
+from bsched_bridge.descriptions import Description, one_line, read_description, system_of
 from bsched_bridge.hosts import Key
 from bsched_bridge.scheduler import Reply
 
@@ -216,6 +216,35 @@ def test_a_description_is_short() -> None:
     assert empty.written() == "{}" and read_description("{}") == read_description(None) == empty
     full = Description("p", 2, "s", "7", 1, 2, 3, ["1 × NVIDIA"])
     assert read_description(full.written()) == full
+
+
+@pytest.mark.parametrize(
+    "name, version, system",
+    [
+        ("Linux", "6.1", "Linux 6.1"),
+        ("", "", ""),
+        (
+            "Linux Debian GNU/Linux",
+            "Debian GNU/Linux 12 (bookworm) [6.1.0-9-amd64|libc 2.36]",
+            "Linux Debian GNU/Linux 12 (bookworm) [6.1.0-9-amd64|libc 2.36]",
+        ),
+        (
+            "Linux Debian",
+            "Debian GNU/Linux 12 (bookworm) [6.18.44-fc-v973|libc 2.36 (Debian GLIBC 2.36-9+deb12u10)]",
+            "Linux Debian GNU/Linux 12 (bookworm) [6.18.44-fc-v973]",
+        ),
+        ("Linux Fedora", f"Fedora Linux 44 [{'6' * 80}|libc 2.40]", "Linux Fedora Linux 44"),
+        (
+            "Microsoft Windows 11",
+            "Core x64 Edition, (10.00.22631.00)",
+            "Microsoft Windows 11 Core x64 Edition, (10.00.22631.00)",
+        ),
+        ("a a", "a a b", "a a b"),
+        ("x" * 10_000, "x" * 10_000, "x" * 80),
+    ],
+)
+def test_a_system_is_named_once(name: str, version: str, system: str) -> None:
+    assert system_of(name, version) == system
 
 
 def test_a_description_that_is_hostile_is_bounded(bridge: Bridge) -> None:

@@ -128,7 +128,7 @@ def make(folder: Path, url: str, bridge_port: int, scheduler_port: int, pause: i
     (folder / "files" / "text.txt").write_text(TEXT)
     (folder / "bridge.toml").write_text(
         f'name = "Trial"\nurl = "{url}"\nlisten = "127.0.0.1:{bridge_port}"\n'
-        f'scheduler = "127.0.0.1:{scheduler_port}"\noperator_key = "change-this-key"\n'
+        f'scheduler = "127.0.0.1:{scheduler_port}"\noperator_key = "change-this-key"\nhold_back = false\n'
         f'catalogue = "catalogue.toml"\nstate = "bridge.db"\nretry_delay = 2\n{UPLOADS}'
     )
     (folder / "catalogue.toml").write_text(catalogue(pause))
