@@ -5,6 +5,7 @@ boards. A form does only what the bridge may do anyhow. For the rest the page sa
 """
 import hmac
 import re
+from collections import Counter
 from collections.abc import Callable, Iterator
 from dataclasses import dataclass, replace
 
@@ -88,8 +89,9 @@ class ErrorHost:
 
     computer: Computer
     account: str  # the front of its key
-    errors: int  # of the last day
+    errors: int  # of the last day, of so many reports; 0 if none was an error
     reports: int
+    invalid: int  # results that were sent in the last day, as far as statements were read
     allowed: int | None  # jobs that it may get in a day; None if it is not held back
 
 
@@ -307,10 +309,16 @@ class Board:
             yield room_of(f"disk of {disk.folder.resolve()}", limit, is_bytes=True)
 
     def _error_hosts(self) -> Iterator[ErrorHost]:
-        """Yields the computers that reported the most errors in the last day."""
-        held_back = self.overviews.measurements.held_back
-        for key, errors, reports in self.overviews.measurements.reports.worst(MOST_HOSTS):
+        """Yields the computers with the most errors and invalid results of the last day."""
+        measurements, holds_back = self.overviews.measurements, self.rules().holds_back
+        failed = {key: (errors, reports) for key, errors, reports in measurements.reports.worst(MOST_HOSTS)}
+        hosts = self.statements.status().recent.hosts
+        invalid = {one.host.key: one.invalid for one in hosts if one.invalid}
+        worst = Counter({key: errors for key, (errors, _) in failed.items()}) + Counter(invalid)
+        for key, _ in worst.most_common(MOST_HOSTS):
+            errors, reports = failed.get(key, (0, 0))
             computer = self.directory.computer_of_key(key.authenticator, key.host_cpid)
             if computer is not None:
-                allowed = held_back.allowed(key) if self.rules().holds_back else None
-                yield ErrorHost(computer, shown_key(key.authenticator), errors, reports, allowed)
+                account, wrong = shown_key(key.authenticator), invalid.get(key, 0)
+                allowed = measurements.held_back.allowed(key) if holds_back else None
+                yield ErrorHost(computer, account, errors, reports, wrong, allowed)

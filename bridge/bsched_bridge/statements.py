@@ -33,7 +33,8 @@ MOST_RESULTS, MOST_KEPT_RESULTS = 500, 50  # results of a host on its page, and 
 MOST_READ, MOST_READING = 120, 2
 MOST_COUNTS = 1_048_576  # bytes of a file of counts
 MOST_MOMENT = 250_000_000_000  # seconds; years have four digits
-NO_REPLY, SUCCESS = "4", "1"
+NO_REPLY, SUCCESS, INVALID = "4", "1", "2"
+DAY = 86_400
 
 
 @dataclass(frozen=True, slots=True)
@@ -47,6 +48,7 @@ class HostStatus:
     done: int = 0
     late: int = 0
     failed: int = 0
+    invalid: int = 0  # of those that were sent within the last day: others agree on another output
 
 
 @dataclass(frozen=True, slots=True)
@@ -125,7 +127,7 @@ def words_of(row: dict[str, str], state: str) -> str:
     """
     if state != "failed":
         return REASONS[state]
-    if row["validate_state"] == "2":
+    if row["validate_state"] == INVALID:
         return gettext_noop("Invalid: enough other results of the same work agree, and this one differs.")
     if row["validate_state"] == "3":
         return gettext_noop("Not compared: the work had failed before the report.")
@@ -157,8 +159,12 @@ def read_results(text: str) -> list[Result]:
 def read_statement(host: HeardHost, text: str) -> HostStatus:
     """Reads the status of a host from its statement. The last line is the credit, not a result."""
     rows = list(csv.DictReader(io.StringIO(text)))
+    yesterday = time.strftime("%Y-%m-%d %H:%M:%S", time.gmtime(time.time() - DAY))
     try:
         counted = Counter(map(standing, rows[:-1]))
+        counted["invalid"] = sum(
+            row["validate_state"] == INVALID and row["sent"] >= yesterday for row in rows[:-1]
+        )
         credit = int(Decimal(rows[-1]["credit"]) * 1000)
     except (IndexError, KeyError, TypeError, InvalidOperation):
         raise NoAnswer("the statement of a host can't be read") from None

@@ -193,7 +193,7 @@ def test_calls_and_reports(bridge: Bridge) -> None:
     assert (found["calls since the start"], found["open calls"]) == ("3", "0")
     assert (found["good results reported"], found["errors reported"]) == ("1", "1")
     assert re.fullmatch(r"[0-9.]+ m?s", found["median of an answer, last hour"])
-    assert row(answer, str(FIRST)) == ["Ann", "ann..", "1", "2", "any", row(answer, str(FIRST))[-1]]
+    assert row(answer, str(FIRST)) == ["Ann", "ann..", "1", "2", "0", "any", row(answer, str(FIRST))[-1]]
 
 
 def test_times_of_answers(bridge: Bridge) -> None:

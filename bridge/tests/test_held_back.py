@@ -1,5 +1,7 @@
 """Computers that report errors get fewer jobs: what the bridge asks bsched for, and what volunteers read."""
 import json
+import time
+from typing import Any
 
 import pytest
 from bridges import Bridge
@@ -138,16 +140,33 @@ def test_a_call_that_is_repeated_has_the_same_bytes(bridge: Bridge, twin: Twin) 
     assert len(sent) == 4 and len(set(sent)) == 1
 
 
+def test_the_board_shows_who_has_invalid_results(bridge: Bridge, twin: Twin) -> None:
+    """A cheat reports no errors: the statement of its computer has them. Those of former days don't count."""
+    now, former = (
+        time.strftime("%Y-%m-%d %H:%M:%S", time.gmtime(time.time() - ago)) for ago in (600, 90_000)
+    )
+    head = "result,app,sent,deadline,server_state,outcome,validate_state,credit\n"
+    lines = [(now, "1,2"), (now, "1,2"), (former, "1,2"), (now, "3,3"), (now, "1,1")]
+    text = "".join(f"u{place}_0,sum,{sent},{now},5,{end},0.000\n" for place, (sent, end) in enumerate(lines))
+    twin.statement = f"{head}{text}total,,,,,,,5.000\n"
+    bridge.call(request())
+    board = shown_board(bridge)
+    assert "Computers with errors or invalid results of the last day" in board
+    cells = '<td>ann..</td><td class="number">0</td><td class="number">0</td><td class="number">2</td>'
+    assert cells in board
+
+
+def shown_board(bridge: Bridge) -> str:
+    """Returns the operator's board."""
+    kind = "application/x-www-form-urlencoded"
+    fields: Any = {"CONTENT_TYPE": kind, "REMOTE_ADDR": "127.0.0.1"}
+    return bridge.got("/p/operator/board", "POST", b"key=change-this-key", **fields)[2].decode()
+
+
 def test_the_board_shows_what_a_computer_may_get(bridge: Bridge) -> None:
     (name,) = jobs(bridge.call(request()))
     assert names(failed(bridge, name), "result_ack") == [name]
-    board = bridge.got(
-        "/p/operator/board",
-        "POST",
-        b"key=change-this-key",
-        CONTENT_TYPE="application/x-www-form-urlencoded",
-        REMOTE_ADDR="127.0.0.1",
-    )[2].decode()
+    board = shown_board(bridge)
     assert '<th scope="col" class="number">jobs a day</th>' in board and '<td class="number">32</td>' in board
     numbers = bridge.got("/p/operator/metrics", REMOTE_ADDR="127.0.0.1")[2].decode()
     assert "bsched_bridge_held_back_hosts 1.0" in numbers
