@@ -193,7 +193,7 @@ class ReplyWriter:
                     xml.add("name", name)
         if request.has_messages:
             xml.add("message_ack", 1)
-        if any(report.name not in acknowledged for report in request.results):
+        if notice is None and any(report.name not in acknowledged for report in request.results):
             xml.add("next_rpc_delay", f"{AGAIN_SECONDS:.6f}")
         preferences = read_preferences(reply.preferences)
         if preferences is not None:

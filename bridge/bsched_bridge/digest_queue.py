@@ -133,17 +133,24 @@ class DigestQueue:
         """
         task, mark = Task(job, program), mark_of(program)
         with self._lock:
-            if job.result in self._asked:
-                return DigestWaits(WhyPutOff.DIGEST_WAITS, "its digest program waits for its turn, or runs")
-            refused = self._refused(task, mark)
-            if refused is not None:
-                return refused
-            self._asked.add(job.result)
-            self._waiting.setdefault(task.account, deque()).append(task)
-            if self._threads < MOST_AT_ONCE:
-                self._threads += 1
-                threading.Thread(target=self._work, name="digest programs", daemon=True).start()
-        return DigestWaits(WhyPutOff.DIGEST_WAITS, "its digest program has its turn")
+            if job.result not in self._asked:
+                refused = self._refused(task, mark)
+                if refused is not None:
+                    return refused
+                self._asked.add(job.result)
+                self._waiting.setdefault(task.account, deque()).append(task)
+            if self._waiting and self._threads < MOST_AT_ONCE:
+                self._start_thread()
+        return DigestWaits(WhyPutOff.DIGEST_WAITS, "its digest program waits for its turn, or runs")
+
+    def _start_thread(self) -> None:
+        """Starts a thread. If the unit may have no more of them, a later report starts it."""
+        try:
+            threading.Thread(target=self._work, name="digest programs", daemon=True).start()
+        except RuntimeError as fault:
+            log.error("digest programs wait: %s", fault)
+        else:
+            self._threads += 1
 
     def _refused(self, task: Task, mark: Mark) -> DigestWaits | None:
         """Returns why a program may not run now, or None if it may."""

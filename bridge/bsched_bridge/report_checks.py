@@ -112,15 +112,17 @@ class ReportChecks:
         return replace(request, results=tuple(reports), other_results=other)
 
     def _note_put_off(self, faults: list[tuple[str, DigestWaits]]) -> None:
-        """Counts the reports of a call that are put off, and logs a line for each reason that is a fault."""
-        lines: dict[str, list[str]] = {}
+        """Counts the reports of a call that are put off, and logs a line for each kind of reason that is a
+        fault, with the first report that has it.
+        """
+        kinds: dict[WhyPutOff, list[tuple[str, DigestWaits]]] = {}
         for name, waits in faults:
             self.put_offs.record(waits.why, str(waits))
             if waits.why is not WhyPutOff.DIGEST_WAITS:
-                lines.setdefault(str(waits), []).append(name)
-        for text, names in lines.items():
-            more = f" (and {len(names) - 1} more)" if len(names) > 1 else ""
-            log.error("the report of %r%s is put off: %s", names[0], more, text)
+                kinds.setdefault(waits.why, []).append((name, waits))
+        for (name, waits), *others in kinds.values():
+            more = f" (and {len(others)} more)" if others else ""
+            log.error("the report of %r%s is put off: %s", name, more, waits)
 
     def _checked(self, statement: "HostStatement", report: Report) -> Report:
         """Returns what bsched gets of a report. Raises DigestWaits if a digest program did not run yet."""

@@ -166,6 +166,21 @@ def test_the_seconds_of_an_account_are_limited(stored: Stored, runs: Runs) -> No
     assert runs.results[-1] == "a3"
 
 
+def test_a_thread_that_can_not_start_is_started_later(
+    stored: Stored, runs: Runs, monkeypatch: pytest.MonkeyPatch
+) -> None:
+    def refused(_thread: threading.Thread) -> None:
+        raise RuntimeError("can't start new thread")
+
+    made = queue(stored, runs)
+    with monkeypatch.context() as patch:
+        patch.setattr(threading.Thread, "start", refused)
+        assert made.ask(job("a0"), PROGRAM).why is WhyPutOff.DIGEST_WAITS
+    made.ask(job("a0"), PROGRAM)
+    end(made, runs)
+    assert runs.results == ["a0"]
+
+
 def test_what_waits_is_limited(stored: Stored, runs: Runs, monkeypatch: pytest.MonkeyPatch) -> None:
     monkeypatch.setattr(digest_queue, "MOST_OF_ACCOUNT", 3)
     monkeypatch.setattr(digest_queue, "MOST_WAITING", 5)
