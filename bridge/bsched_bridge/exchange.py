@@ -218,7 +218,7 @@ class Exchange:
             return refused
         try:
             if known is not None and request.rpc_seqno >= known.client_seqno:
-                other = self._of_another(request, known.key)
+                other = self._of_another(request, known)
                 if other is not None:
                     return other
                 reply = self._call(known.key, request, ClientState(seqno=request.rpc_seqno), known.state)
@@ -248,14 +248,14 @@ class Exchange:
 
     # ---- Clients whose number may be that of another host
 
-    def _of_another(self, request: ClientRequest, key: Key) -> Answered | PutOff | None:
+    def _of_another(self, request: ClientRequest, known: KnownHost) -> Answered | PutOff | None:
         """Returns the reply to a client that sends the number of another computer of its account, or None if
         the number is its own. After a loss of the state file a number may have been given a second time.
 
         A host_cpid that is not that of the host may have changed. So what the client has or reports says
         which host it is. Once its results are known to be those of the host, it may have this host_cpid.
         """
-        pair = key, request.host_cpid
+        key, pair = known.key, (known.key, request.host_cpid)
         if request.host_cpid == key.host_cpid or self.search.operator_key is None or self._cpids.has(pair):
             return None
         names = {*names_of(request.results), *(request.other_results or ())}
@@ -266,11 +266,14 @@ class Exchange:
             self._cpids.add(pair)
             return None
         with self._locks.held((request.authenticator, request.hostid, request.host_cpid)):
-            return self._unless_its_own(request, key)
+            return self._unless_its_own(request, known)
 
-    def _unless_its_own(self, request: ClientRequest, key: Key) -> Answered | PutOff | None:
+    def _unless_its_own(self, request: ClientRequest, known: KnownHost) -> Answered | PutOff | None:
         """Does the same for a client that has results which its host does not have, as far as is known.
         bsched may have a host that the bridge does not know: a call tells it.
+
+        If nobody has the results, bsched lost them. But if the client's count is not the next one of the host
+        either, it is another computer, whose host the bridge does not know.
         """
         client = Key(request.authenticator, request.host_cpid)
         if not self._has_host(client):
@@ -281,9 +284,10 @@ class Exchange:
         if isinstance(found, PutOff):
             return found
         own, holders = found
-        if not set(holders.values()) - {key}:
-            self._cpids.add((key, request.host_cpid))
-            return None  # nobody else has them: bsched lost them
+        is_next = request.rpc_seqno <= known.client_seqno + 1
+        if not set(holders.values()) - {known.key} and is_next:
+            self._cpids.add((known.key, request.host_cpid))
+            return None
         log.warning("host %d is another computer than its number says", request.hostid)
         return self._of_found(request, own, holders, None)
 

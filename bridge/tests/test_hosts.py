@@ -118,6 +118,22 @@ def test_numbers_that_are_given_a_second_time(
     bridge.file.close()
 
 
+def test_a_number_that_is_given_again_and_a_changed_host_cpid(
+    two: Bridge, twin: Twin, monkeypatch: pytest.MonkeyPatch
+) -> None:
+    """A has the number that B got from the new state file, and nobody knows A's host. Only its count shows
+    that it is not B.
+    """
+    loses_state(two, monkeypatch, later=-1)
+    assert value(two.call(request(hostid=B, cpid="b", seqno=3, listed=["u2_0"], seconds=0)), "hostid") == str(
+        A
+    )
+    for _ in range(2):
+        reply = two.call(request(hostid=A, cpid="new", seqno=7, reports=[("u1_0", "42")], seconds=0))
+        assert names(reply, "result_ack") == [] and recorded(twin, "u1_0") is None
+        assert "can't tell which computer got u1_0" in value(reply, "message")
+
+
 def test_a_further_file_in_which_the_numbers_are_exchanged(two: Bridge, twin: Twin) -> None:
     twin.service = further_file(twin.service, 1)
     assert jobs(two.call(request(hostid=B, cpid="b", listed=["u2_0"]))) == ["f1u1_0"]
