@@ -28,6 +28,7 @@ amounts, inputs       amounts as a person writes them, and what a batch of work 
 submitting            a batch of work: its record, its staged inputs, and its imports
 progress, collecting  how far the work is, and its outputs in a folder
 bars                  progress bars on a terminal
-health                what answers, and what is old or nearly full
+levels, health        findings and their levels: what answers, and what is old or nearly full
+mailing               mail about what changed in them
 command_line          the arguments of the command line (work_options, work_commands: of those that make work)
 """

@@ -3,6 +3,7 @@ import argparse
 import os
 import signal
 import sys
+import time
 from collections.abc import Callable, Iterable
 from io import TextIOWrapper
 from pathlib import Path
@@ -17,11 +18,13 @@ from .exports import export
 from .faults import Ended, Fault
 from .files import replace_file
 from .handing import hand_on
-from .health import findings_of, mail_changes, worst_of, write_findings
+from .health import findings_of, write_findings
 from .history import History
 from .import_files import KINDS, ImportFile, checked
 from .imports import import_file
 from .jobs import host_lines, workunit_lines
+from .levels import Finding, Level, worst_of
+from .mailing import mail_changes
 from .members import agreed_in
 from .projects import PROGRAM, Project, project_of
 from .results import write_results
@@ -210,18 +213,27 @@ def report(args: Arguments) -> None:
 
 def health(args: Arguments) -> int:
     """Prints what is found, and returns the level of the worst finding. The project's owner also keeps it for
-    the bridge. A full disk, for example, does not stop the mail about it."""
-    project = project_named(args) or project_of(args.project)
-    units = project.units()
-    found = findings_of(project, units)
+    the bridge. Nothing that fails on the way changes what is found."""
+    project = project_of(args.project)
+    found: list[Finding] = []
+    try:
+        units = project.units()
+    except Fault as fault:
+        found.append(Finding("settings", Level.CRITICAL, str(fault)))
+        units = project.units_by(project.folder / "units.toml", {})
+    project.become_owner()
+    found += findings_of(project, units)
     print_lines(one.line for one in found)
+    sys.stdout.flush()
+    to = args.mail or units.mail
+    if to and (fault_of_mail := mail_changes(project, found, to, int(time.time()))) is not None:
+        found.append(fault_of_mail)
+        print_lines([fault_of_mail.line])
     if os.geteuid() == project.folder.stat().st_uid:
         try:
             write_findings(project, units, found)
         except (Fault, OSError) as fault:
             print(f"{NAME}: the bridge's board does not show this: {fault}", file=sys.stderr)
-    if to := args.mail or units.mail:
-        mail_changes(project, units, found, to)
     return worst_of(found)
 
 
@@ -305,7 +317,7 @@ def main() -> int:
         sys.stdout.flush()
     except (Fault, Ended) as fault:
         print(f"{NAME}: {fault}", file=sys.stderr)
-        return FAULT
+        return Level.UNKNOWN if args.command == "health" else FAULT
     except OSError as error:
         where = f"{error.filename}: " if error.filename else "standard output: "
         print(f"{NAME}: {where}{error.strerror}", file=sys.stderr)

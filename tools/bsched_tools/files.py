@@ -1,12 +1,58 @@
 """Files that are written whole or not at all."""
+import fcntl
 import gzip
+import hashlib
 import os
 from collections.abc import Iterable
 from contextlib import suppress
+from dataclasses import dataclass
 from pathlib import Path
 from typing import BinaryIO
 
 from .faults import Fault
+
+FICLONE = 0x40049409  # ioctl: the blocks of one file become those of another, too
+PART = 1 << 20  # bytes that are copied at once
+BLOCK = 4096  # bytes that a file system gives a file at once
+
+
+@dataclass(frozen=True, slots=True)
+class Copied:
+    """What was read from a file."""
+
+    nbytes: int
+    sha256: str
+    fault: str = ""  # why it could not be read to its end
+
+
+def copy_bytes(source: int, target: int, most: int) -> Copied:
+    """Copies an open file into a new one, up to some bytes more than `most`, and returns what was copied. The
+    copy shares the blocks of the file where the file system can.
+    """
+    try:
+        fcntl.ioctl(target, FICLONE, source)
+    except OSError:
+        return copy_parts(source, target, most)
+    with open(f"/proc/self/fd/{target}", "rb") as file:
+        return Copied(os.fstat(target).st_size, hashlib.file_digest(file, "sha256").hexdigest())
+
+
+def copy_parts(source: int, target: int, most: int) -> Copied:
+    """Copies an open file a part at a time."""
+    sha256, nbytes = hashlib.sha256(), 0
+    while nbytes <= most:
+        try:
+            part = os.read(source, PART)
+        except OSError as error:
+            return Copied(nbytes, "", error.strerror or "it can't be read")
+        if not part:
+            break
+        sha256.update(part)
+        nbytes += len(part)
+        left = memoryview(part)
+        while left:
+            left = left[os.write(target, left) :]
+    return Copied(nbytes, sha256.hexdigest())
 
 
 def sync(path: Path) -> None:
@@ -46,6 +92,33 @@ def replace_file(path: Path, parts: Iterable[bytes], packed_at: int | None = Non
         if isinstance(error, OSError):
             raise Fault(f"{path}: {error.strerror}") from None
         raise
+
+
+def keep_file(path: Path, data: bytes, mode: int) -> None:
+    """Replaces a file that must be kept also while the disk is full. Blanks after its text fill its last
+    block. If there is no room for a new file, the text is written over the blocks that the file has."""
+    padded = data + b" " * (-len(data) % BLOCK)
+    try:
+        replace_file(path, [padded], mode=mode)
+    except Fault:
+        try:
+            write_over(path, padded)
+        except OSError:
+            pass
+        else:
+            return
+        raise
+
+
+def write_over(path: Path, data: bytes) -> None:
+    """Writes a file within the room that it has. A stop meanwhile leaves a part of the new text."""
+    with open(os.open(path, os.O_WRONLY | os.O_NOFOLLOW), "wb") as file:
+        size = os.fstat(file.fileno()).st_size
+        if size < len(data):
+            raise OSError
+        file.write(data.ljust(size))
+        file.flush()
+        os.fsync(file.fileno())
 
 
 def append_line(path: Path, line: bytes) -> None:

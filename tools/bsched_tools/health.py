@@ -1,8 +1,4 @@
-"""Whether a project is well: what answers, how old the newest copy is, and what is nearly full.
-
-The levels and the exit status are those that monitors such as Nagios know: 0 good, 1 warning, 2 critical,
-3 unknown.
-"""
+"""Whether a project is well: what answers, how old the newest copy is, and what is nearly full."""
 import http.client
 import json
 import shutil
@@ -11,14 +7,13 @@ import ssl
 import subprocess
 import time
 from collections.abc import Callable, Iterable, Iterator
-from dataclasses import dataclass
-from enum import IntEnum
 from pathlib import Path
 from urllib.parse import urlsplit
 
 from .counts import counted
 from .faults import Fault
-from .files import replace_file
+from .files import keep_file
+from .levels import Finding, Level
 from .projects import Project, UnitSettings
 from .tables import copies_in, moment_of
 
@@ -31,35 +26,6 @@ USED_SHARE = 0.9, 1.0  # of a limit: more is a warning, and critical
 STAMPS = Path("/var/lib/systemd/timers")
 TICK_MINUTES = 12, 30  # since the last tick: more is a warning, and critical; one is sent each five minutes
 COPIES_LATE = 8  # times the hours of the settings: an older copy is critical
-SENDMAIL = Path("/usr/sbin/sendmail")
-
-
-class Level(IntEnum):
-    """How bad a finding is."""
-
-    GOOD = 0
-    WARNING = 1
-    CRITICAL = 2
-    UNKNOWN = 3
-
-    @property
-    def badness(self) -> int:
-        """The order of levels: what is unknown is worse than good, and better than a warning."""
-        return {Level.GOOD: 0, Level.UNKNOWN: 1, Level.WARNING: 2, Level.CRITICAL: 3}[self]
-
-
-@dataclass(frozen=True, slots=True)
-class Finding:
-    """What a check found."""
-
-    check: str
-    level: Level
-    text: str
-
-    @property
-    def line(self) -> str:
-        """The finding in a line."""
-        return f"{self.level.name.lower():8}  {self.check:11}  {self.text}"
 
 
 Check = Callable[[Project, UnitSettings], Iterator[Finding]]
@@ -260,11 +226,6 @@ def findings_of(project: Project, settings: UnitSettings) -> list[Finding]:
     return found
 
 
-def worst_of(found: Iterable[Finding]) -> Level:
-    """Returns the worst level."""
-    return max((one.level for one in found), key=lambda level: level.badness, default=Level.UNKNOWN)
-
-
 # ---- For the bridge
 
 
@@ -284,55 +245,4 @@ def write_findings(project: Project, settings: UnitSettings, found: Iterable[Fin
         },
     }
     path = project.made(project.work, 0o700) / "findings.json"
-    replace_file(path, [json.dumps(fields).encode()], mode=0o600)
-
-
-# ---- Mail
-
-
-def levels_of(found: Iterable[Finding]) -> dict[str, str]:
-    """Returns the worst level of each check, as it is kept from one run to the next."""
-    levels: dict[str, Level] = {}
-    for one in found:
-        levels[one.check] = max(levels.get(one.check, Level.GOOD), one.level, key=lambda level: level.badness)
-    return {check: level.name for check, level in levels.items()}
-
-
-def is_changed(path: Path, found: list[Finding]) -> bool:
-    """Returns whether the levels differ from those in a file. Without a file, all was good."""
-    try:
-        before = json.loads(path.read_text())
-    except (OSError, ValueError):
-        before = {}
-    now = levels_of(found)
-    names = {*now, *before} if isinstance(before, dict) else set(now)
-    return any(now.get(name, "GOOD") != before.get(name, "GOOD") for name in names)
-
-
-def mail_changes(project: Project, settings: UnitSettings, found: list[Finding], to: str) -> bool:
-    """Sends a mail if a level changed since the last mail, and returns whether it did. The levels are kept
-    after the mailer has taken the mail. So a change is never lost, and after a stop may come twice."""
-    folder = project.made(project.work, 0o700)
-    path = folder / "health.json"
-    if not is_changed(path, found):
-        return False
-    send(f"{project.name}: {worst_of(found).name.lower()}", [one.line for one in found], to)
-    replace_file(path, [json.dumps(levels_of(found)).encode()], mode=0o600)
-    return True
-
-
-def send(subject: str, lines: Iterable[str], to: str) -> None:
-    """Hands a mail to the system's mailer."""
-    if "\n" in to or not to.strip():
-        raise Fault(f"{to!r} is no address for mail")
-    text = "\n".join([f"To: {to}", f"Subject: [bsched] {subject}", "", *lines, ""])
-    command = str(SENDMAIL)
-    try:
-        completed = subprocess.run(
-            [command, "-t"], input=text, text=True, capture_output=True, timeout=SECONDS
-        )
-    except (OSError, subprocess.TimeoutExpired) as error:
-        reason = getattr(error, "strerror", None) or error
-        raise Fault(f"{command}: {reason}: install a mailer, such as postfix or msmtp-mta") from None
-    if completed.returncode:
-        raise Fault(f"{command}: status {completed.returncode}: {completed.stderr.strip()}")
+    keep_file(path, json.dumps(fields).encode(), 0o600)

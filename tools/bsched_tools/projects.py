@@ -167,7 +167,10 @@ class Project:
     def units(self) -> UnitSettings:
         """Reads `units.toml`. What it does not say has its default."""
         path = self.folder / "units.toml"
-        tables_of_file = toml_of(path) if path.exists() else {}
+        return self.units_by(path, toml_of(path) if path.exists() else {})
+
+    def units_by(self, path: Path, tables_of_file: dict[str, Any]) -> UnitSettings:
+        """Returns what the tables of `units.toml` say."""
         copy, results, page, statistics, health = (
             Table(path, name, tables_of_file.pop(name, {})) for name in UNIT_TABLES
         )

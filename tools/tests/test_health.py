@@ -1,4 +1,4 @@
-"""Tests `health`: each check good and bad, its status, and the mail of what changed."""
+"""Tests `health`: each check good and bad, and its status."""
 import os
 import shutil
 import ssl
@@ -13,12 +13,12 @@ from pathlib import Path
 
 import pytest
 from made_project import SETTINGS, MadeProject
+from small_project import tools
 
 from bsched_bridge.tool_files import read_findings
 from bsched_tools import __main__ as main
 from bsched_tools import health
-from bsched_tools.faults import Fault
-from bsched_tools.health import Finding, Level
+from bsched_tools.levels import Finding, Level
 from bsched_tools.projects import Project
 from bsched_tools.tables import moment_of
 
@@ -210,33 +210,6 @@ def test_the_command(made: MadeProject) -> None:
     assert (status, fault) == (2, "") and output.splitlines()[0].startswith("critical  scheduler    port ")
 
 
-def test_mail_of_changes(made: MadeProject, tmp_path: Path, monkeypatch: pytest.MonkeyPatch) -> None:
-    """One mail when it becomes bad, none while it stays so, and one when it is good again. If the mailer
-    fails, the mail comes at the next run."""
-    mailer, sent = tmp_path / "sendmail", tmp_path / "sent"
-    mailer.write_text(f"#!/bin/sh\ntest ! -e {tmp_path}/broken || exit 75\ncat >> {sent}\n")
-    mailer.chmod(0o755)
-    monkeypatch.setattr(health, "SENDMAIL", mailer)
-    project = Project(made.folder)
-    good = [Finding("scheduler", Level.GOOD, "answers")]
-    bad = [Finding("scheduler", Level.CRITICAL, "gives no answer")]
-
-    def mailed(findings: list[Finding]) -> bool:
-        return health.mail_changes(project, project.units(), findings, "op@sums.example")
-
-    assert not mailed(good) and not sent.exists()
-    (tmp_path / "broken").touch()
-    with pytest.raises(Fault, match="status 75"):
-        mailed(bad)
-    os.remove(tmp_path / "broken")
-    assert mailed(bad) and not mailed(bad)
-    assert sent.read_text() == (
-        "To: op@sums.example\nSubject: [bsched] sums: critical\n\ncritical  scheduler    gives no answer\n"
-    )
-    assert mailed(good) and not mailed(good)
-    assert sent.read_text().count("Subject: ") == 2
-
-
 # ---- For the bridge
 
 
@@ -270,10 +243,24 @@ def test_findings_that_can_not_be_kept(made: MadeProject) -> None:
     assert fault.count("\n") == 1 and "the bridge's board does not show this: " in fault
 
 
+def test_settings_that_can_not_be_read(made: MadeProject) -> None:
+    """They are a critical finding, and the other checks go on."""
+    (made.folder / "units.toml").write_text("[copy\n")
+    status, output, fault = made.tools("health")
+    assert (status, fault) == (2, "") and "units.toml: it is not TOML" in output.splitlines()[0]
+    assert "good      scheduler" in output
+
+
+def test_a_project_that_is_none(tmp_path: Path) -> None:
+    """A monitor gets the status of what is unknown."""
+    status, output, fault = tools("health", "--project", f"{tmp_path}/none/")
+    assert (status, output) == (3, "") and "it is no project of bsched-project" in fault
+
+
 def test_another_user_keeps_nothing(made: MadeProject, monkeypatch: pytest.MonkeyPatch) -> None:
     """Whoever is in the project's group may look, and may not write."""
     monkeypatch.setattr("bsched_tools.__main__.os.geteuid", lambda: made.folder.stat().st_uid + 1)
-    monkeypatch.setattr("bsched_tools.__main__.project_named", lambda _args: Project(made.folder))
+    monkeypatch.setattr(Project, "become_owner", lambda _project: None)
     args = Namespace(project=str(made.folder), mail=None, command="health")
     assert main.health(args) in (Level.GOOD, Level.WARNING, Level.CRITICAL)
     assert not (made.folder / "units").exists()
