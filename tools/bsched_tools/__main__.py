@@ -10,6 +10,7 @@ from pathlib import Path
 from types import FrameType
 from typing import NoReturn
 
+from .catalogue_file import output_names_of
 from .command_line import NAME, new_parser
 from .copying import copy_tables
 from .counts import as_json, as_lines, as_metrics, counted
@@ -30,8 +31,9 @@ from .projects import PROGRAM, Project, project_of
 from .results import write_results
 from .starts import rows_in, start_text
 from .tables import opened
+from .texts import shown
 from .volunteers import Volunteers, ask_bridge, volunteers_of
-from .work_commands import WORK_COMMANDS
+from .work_commands import WORK_COMMANDS, say_spoiled
 
 FAULT = 1
 Arguments = argparse.Namespace
@@ -103,14 +105,14 @@ def copy_state(project: Project, folder: Path, keep: int | None) -> None:
         print(ask_bridge([*args, *([] if keep is None else ["--keep", str(keep)])]), end="")
 
 
-def results(args: Arguments) -> None:
-    """Writes the results."""
+def results(args: Arguments) -> int:
+    """Writes the results. Returns 1 if the files of some are spoiled."""
     project = project_named(args)
     names = chosen(project).names
     uploads = args.uploads or (project.uploads if project else None)
     if args.files is not None and uploads is None:
         new_parser().error("results: --files needs --uploads FOLDER, or a project whose bridge has uploads")
-    why = write_results(
+    written = write_results(
         copies_of(args, project),
         args.json,
         args.after,
@@ -118,10 +120,13 @@ def results(args: Arguments) -> None:
         args.to,
         names=names,
         uploads=uploads,
+        output_names=output_names_of(project) if project and uploads else None,
         files_to=args.files,
+        is_linked=args.link,
     )
-    if why is not None:
-        print(f"bsched-tools: {why}", file=sys.stderr)
+    if written.why_nothing is not None:
+        print(f"{NAME}: {written.why_nothing}", file=sys.stderr)
+    return say_spoiled(written.spoiled)
 
 
 def process(args: Arguments) -> None:
@@ -272,9 +277,9 @@ def load(args: Arguments) -> int:
     return 0
 
 
-def work(args: Arguments) -> None:
+def work(args: Arguments) -> int | None:
     """Makes work, says how far it is, or collects its outputs."""
-    WORK_COMMANDS[args.command](args, print_lines)
+    return WORK_COMMANDS[args.command](args, print_lines)
 
 
 COMMANDS: dict[str, Callable[[Arguments], int | None]] = {
@@ -297,7 +302,7 @@ COMMANDS: dict[str, Callable[[Arguments], int | None]] = {
 def print_lines(lines: Iterable[str]) -> None:
     """Prints lines. What control characters they have are replaced, since hosts send some of the texts."""
     for line in lines:
-        print("".join(one if one.isprintable() or one == "\t" else "\ufffd" for one in line))
+        print(shown(line))
 
 
 def end_by_signal(number: int, _frame: FrameType | None) -> NoReturn:

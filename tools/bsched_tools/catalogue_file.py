@@ -54,9 +54,9 @@ class App:
         return [name for name in names if WORKUNIT in name]
 
     @property
-    def has_outputs(self) -> bool:
-        """Whether its programs write output files."""
-        return bool(self.members.get("output_files"))
+    def outputs(self) -> list[str]:
+        """The names of the output files that its programs write."""
+        return [str(one.get("open_name")) for one in self.members.get("output_files", [])]
 
 
 class CatalogueFile:
@@ -132,6 +132,15 @@ class CatalogueFile:
             raise Fault(f"{self.path}: {error.strerror}") from None
         finally:
             new.unlink(missing_ok=True)
+
+
+def output_names_of(project: Project) -> dict[str, frozenset[str]]:
+    """Returns the names of the output files of each application in a project's catalogue."""
+    if not project.bridge_file.exists():
+        return {}
+    catalogue = CatalogueFile(project)
+    apps = (catalogue.app(name) for name in catalogue.app_names())
+    return {app.name: frozenset(app.outputs) for app in apps if app is not None}
 
 
 def entry_text(members: dict[str, Any]) -> str:

@@ -12,16 +12,18 @@ from contextlib import ExitStack
 from dataclasses import dataclass, field
 from pathlib import Path
 
+from .catalogue_file import output_names_of
 from .cursors import Cursor, cursor_at
 from .faults import Fault
-from .files import replace_file, sync
 from .looks import Look
 from .progress import names_in_batch
 from .projects import Project
-from .results import Line, csv_text, lines_of
+from .placing import OutputFolder, Spoiled
+from .results import Line, lines_of
 from .submitting import read_record
 from .tables import Tables, all_opened
-from .uploaded import UploadedFile, Uploads, place, uploads_in
+from .texts import table_text
+from .uploaded import UploadedFile, Uploads, uploads_in
 from .workunits import Workunit, decided
 
 RESULTS, FAILED, CURSOR = "results.csv", "failed.csv", ".collected"
@@ -36,6 +38,12 @@ class Collected:
     rows: list[tuple[str, ...]] = field(default_factory=list)
     failed: list[tuple[str, ...]] = field(default_factory=list)
     fresh: int = 0  # workunits that are done and were not there in the run before
+    spoiled: dict[str, str] = field(default_factory=dict)  # by workunit what is wrong with one of its files
+
+    @property
+    def done(self) -> int:
+        """How many workunits are done."""
+        return len(self.rows) + len(self.spoiled)
 
 
 def inputs_of(project: Project) -> dict[str, str]:
@@ -71,31 +79,33 @@ def row_of(unit: Workunit, shown: str, files: list[UploadedFile]) -> tuple[str, 
 
 def csv_bytes(columns: tuple[str, ...], rows: list[tuple[str, ...]]) -> bytes:
     """Returns rows as comma-separated values."""
-    return csv_text([columns, *rows]).encode()
+    return table_text([columns, *rows]).encode()
 
 
 class Collector:
     """Collects the outputs of some tables into a folder."""
 
-    def __init__(self, project: Project, folder: Path, uploads: Uploads | None) -> None:
+    def __init__(self, project: Project, folder: OutputFolder, uploads: Uploads | None) -> None:
         self.folder, self.uploads = folder, uploads
         self.inputs, self.found = inputs_of(project), Collected()
 
     def files_of(self, unit: Workunit) -> list[UploadedFile]:
         """Returns the files of a workunit that is done."""
-        if self.uploads is None or unit.canonical is None:
-            return []
-        return self.uploads.files_of(unit.canonical, unit.output or "")
+        return [] if self.uploads is None else self.uploads.files_of(unit)
 
     def take(self, tables: Tables, cursor: Cursor, names: set[str] | None) -> None:
-        """Takes the workunits with these names."""
+        """Takes the workunits with these names. One with a spoiled file is left out, and comes again."""
         given = cursor.given(tables)
         for line in lines_of(tables, 0, given, names):
             if not line.is_late and not line.workunit.reason:
-                self.found.fresh += 1
-                self.put(line)
+                try:
+                    self.put(line)
+                    self.found.fresh += 1
+                except Spoiled as what:
+                    given.take_back(line.workunit.id)
+                    self.found.spoiled[line.workunit.name] = str(what)
         for unit in decided(tables):
-            if names is None or unit.name in names:
+            if unit.name not in self.found.spoiled and (names is None or unit.name in names):
                 shown = self.inputs.get(unit.name, "")
                 if unit.reason:
                     self.found.failed.append((unit.name, shown, f"too many {unit.reason}"))
@@ -106,18 +116,22 @@ class Collector:
         """Puts the files of a workunit into a folder of its own."""
         files = self.files_of(line.workunit)
         if files and line.workunit.name in (RESULTS, FAILED):
-            raise Fault(f"{self.folder / line.workunit.name}: a workunit has the name of this file")
-        place(files, line.workunit, self.folder)
+            raise Fault(f"{self.folder.path / line.workunit.name}: a workunit has the name of this file")
+        self.folder.place(files, line.workunit.name)
 
     def write(self) -> None:
         """Writes the two tables."""
-        replace_file(self.folder / RESULTS, [csv_bytes(RESULT_COLUMNS, self.found.rows)])
-        replace_file(self.folder / FAILED, [csv_bytes(FAILED_COLUMNS, self.found.failed)])
-        sync(self.folder)
+        for name, columns, rows in (
+            (RESULTS, RESULT_COLUMNS, self.found.rows),
+            (FAILED, FAILED_COLUMNS, self.found.failed),
+        ):
+            self.folder.write(name, csv_bytes(columns, rows))
 
 
-def collect_files(project: Project, look: Look, batch: str | None, folder: Path) -> Iterator[str]:
-    """Collects the outputs of a batch, or all, into a folder, and yields what was done."""
+def collect_files(
+    project: Project, look: Look, batch: str | None, folder: Path, is_linked: bool = False
+) -> Collected:
+    """Collects the outputs of a batch, or all, into a folder, and returns what was found."""
     try:
         folder.mkdir(exist_ok=True)
     except OSError as error:
@@ -125,13 +139,20 @@ def collect_files(project: Project, look: Look, batch: str | None, folder: Path)
     with ExitStack() as stack:
         cursor = stack.enter_context(cursor_at(folder / (CURSOR if batch is None else f"{CURSOR}-{batch}")))
         all_tables = stack.enter_context(all_opened([*project.archives, look.path]))
-        uploads = project.uploads
-        opened_uploads = stack.enter_context(uploads_in(uploads)) if uploads is not None else None
-        collector = Collector(project, folder, opened_uploads)
+        uploads, opened_uploads = project.uploads, None
+        if uploads is not None:
+            opened_uploads = stack.enter_context(uploads_in(uploads, output_names_of(project)))
+        target = stack.enter_context(OutputFolder(folder, is_linked))
+        collector = Collector(project, target, opened_uploads)
         for tables, names in zip(all_tables, chosen_in(all_tables, batch)):
             collector.take(tables, cursor, names)
         collector.write()
         cursor.write()
-    found = collector.found
+    return collector.found
+
+
+def collected_lines(look: Look, found: Collected, folder: Path) -> Iterator[str]:
+    """Yields what a run collected."""
     yield look.moment_line
-    yield f"{folder}: {found.fresh:,} new of {len(found.rows):,} done; {len(found.failed):,} failed"
+    spoiled = f"; {len(found.spoiled):,} not collected" if found.spoiled else ""
+    yield f"{folder}: {found.fresh:,} new of {found.done:,} done; {len(found.failed):,} failed{spoiled}"

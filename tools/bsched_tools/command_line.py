@@ -5,7 +5,7 @@ from importlib import metadata
 from pathlib import Path
 from typing import NoReturn
 
-from .work_options import add_work
+from .work_options import LINK_HELP, add_work
 
 BAD_COMMAND_LINE = 64
 MOST_COUNT = 10**18 - 1  # SQLite has no much larger numbers
@@ -87,6 +87,7 @@ def add_reading(commands: "argparse._SubParsersAction[CommandLine]") -> None:
     results.add_argument("--to", type=Path, metavar="NEW", help="a new file, and not standard output")
     results.add_argument("--uploads", type=Path, metavar="FOLDER", help="the bridge's folder of uploads")
     results.add_argument("--files", type=Path, metavar="DIR", help="gets the files of canonical results")
+    results.add_argument("--link", action="store_true", help=f"for --files: {LINK_HELP}")
     begin = results.add_mutually_exclusive_group()
     begin.add_argument("--after", metavar="NAME", help="only workunits that were imported after this one")
     begin.add_argument("--cursor", type=Path, metavar="FILE", help="only what was not given out before")

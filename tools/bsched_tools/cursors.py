@@ -28,6 +28,12 @@ class Given:
     printed: int = 0  # workunits with new results in this run
     left_out: int = 0  # decided workunits, all of whose results were given out before
 
+    def take_back(self, unit: int) -> None:
+        """Forgets that a workunit was given out in this run, for the first time."""
+        self.closed.discard(unit)
+        self.places.pop(unit, None)
+        self.printed -= 1
+
 
 def ranges_of(numbers: set[int]) -> list[list[int]]:
     """Returns numbers as ranges, each with its first and its last number."""

@@ -5,6 +5,7 @@ result is lost at a stop, and some may come twice: the program recognizes a resu
 """
 import subprocess
 
+from .catalogue_file import output_names_of
 from .copies import turn
 from .faults import Fault
 from .files import sync
@@ -30,6 +31,7 @@ def hand_on(project: Project, settings: UnitSettings, names: dict[str, str]) -> 
                 target=new,
                 names=names,
                 uploads=project.uploads,
+                output_names=output_names_of(project),
             )
         count = len(new.read_bytes().splitlines())
         if count:

@@ -19,7 +19,7 @@ from typing import Any
 from .faults import Fault
 from .import_files import MOST_BYTES, ImportFile, Row
 from .projects import PROGRAM, Project
-from .results import csv_text
+from .texts import csv_text
 
 MOST_BATCH = 262_144  # bytes; a megabyte stops serving for more than a second
 ANSWER_SECONDS = 120.0

@@ -1,21 +1,21 @@
 """The results of workunits, as comma-separated values or as lines of JSON."""
-import csv
-import io
 import json
 import os
 import stat
 import sys
 from collections.abc import Iterable, Iterator, Mapping
 from contextlib import ExitStack, suppress
-from dataclasses import dataclass, replace
+from dataclasses import dataclass, field, replace
 from pathlib import Path
 from typing import TextIO
 
 from .cursors import Cursor, Given, cursor_at
 from .faults import Fault
 from .files import replace_file, sync
+from .placing import OutputFolder, Spoiled
 from .tables import Tables, all_opened
-from .uploaded import UploadedFile, Uploads, place, uploads_in
+from .texts import json_text, table_text
+from .uploaded import OutputNames, UploadedFile, Uploads, uploads_in
 from .workunits import Result, Workunit, decided
 
 COLUMNS = (
@@ -43,17 +43,6 @@ class Line:
     files: list[UploadedFile] | None = None  # of the canonical result; None if nobody asks for them
 
 
-def csv_text(rows: Iterable[Iterable[object]]) -> str:
-    """Returns rows as comma-separated values. Python quotes a field with a carriage return only if the end of
-    a row has one, and many readers end a row there."""
-    texts = []
-    for row in rows:
-        file = io.StringIO()
-        csv.writer(file, lineterminator="\r\n").writerow(row)
-        texts.append(file.getvalue().removesuffix("\r\n") + "\n")
-    return "".join(texts)
-
-
 def as_csv(line: Line) -> str:
     """Returns a workunit as comma-separated values: a row for each result, or one row if it failed."""
     unit, late = line.workunit, int(line.is_late)
@@ -63,12 +52,12 @@ def as_csv(line: Line) -> str:
     if line.files is not None:
         end = late, json.dumps([file.as_member() for file in line.files])
     if unit.reason:
-        return csv_text([(*front, "", "", "", "", *end)])
+        return table_text([(*front, "", "", "", "", *end)])
     rows = []
     for one in unit.results:
         verdict = "valid" if one.is_valid else "invalid"
         rows.append((*front, one.name, verdict, one.host, one.user, *end))
-    return csv_text(rows)
+    return table_text(rows)
 
 
 def member_of(result: Result) -> dict[str, object]:
@@ -93,7 +82,7 @@ def as_json(line: Line) -> str:
         }
         if line.files is not None:
             fields["files"] = [file.as_member() for file in line.files]
-    return f"{json.dumps(fields, ensure_ascii=False)}\n"
+    return f"{json_text(fields)}\n"
 
 
 def lines_of(
@@ -149,34 +138,46 @@ class Output:
 
     as_lines: bool  # lines of JSON
     uploads: Uploads | None  # the bridge's folder of uploads, if files are asked for
-    files_to: Path | None  # the folder that gets the files
+    files_to: OutputFolder | None  # the folder that gets the files
 
     def text(self, line: Line) -> str:
-        """Returns the text of a line. Its files are in their place then."""
-        unit = line.workunit
+        """Returns the text of a line. Its files are in their place then. Raises Spoiled if one of them is not
+        what the host uploaded."""
         if self.uploads is not None:
-            files = []
-            if unit.canonical is not None:
-                files = self.uploads.files_of(unit.canonical, unit.output or "")
-            line = replace(line, files=files)
-            if self.files_to is not None and not line.is_late:
-                place(files, unit, self.files_to)
+            line = replace(line, files=self.uploads.files_of(line.workunit))
+            if self.files_to is not None and line.files and not line.is_late:
+                self.files_to.place(line.files, line.workunit.name)
         return as_json(line) if self.as_lines else as_csv(line)
 
 
+@dataclass(slots=True)
+class Written:
+    """What was written, apart from the results."""
+
+    why_nothing: str | None = None  # why there are none, if the cursor left all out
+    spoiled: list[str] = field(default_factory=list)  # for each file that is wrong what is wrong with it
+
+
 def texts(
-    all_tables: list[Tables], output: Output, after: str | None, cursor: Cursor | None
+    all_tables: list[Tables], output: Output, after: str | None, cursor: Cursor | None, spoiled: list[str]
 ) -> Iterator[str]:
-    """Yields the parts of the text to write."""
+    """Yields the parts of the text to write. A workunit with a spoiled file is left out, and the cursor does
+    not count it as given out."""
     begins = dict.fromkeys((tables.path for tables in all_tables), 0)
     if after is not None:
         begins = places_after(all_tables, after)
     if not output.as_lines:
-        yield csv_text([COLUMNS if output.uploads is None else (*COLUMNS, "files")])
+        yield table_text([COLUMNS if output.uploads is None else (*COLUMNS, "files")])
     for tables in all_tables:
         if tables.path in begins:
-            for line in lines_of(tables, begins[tables.path], cursor.given(tables) if cursor else None):
-                yield output.text(line)
+            given = cursor.given(tables) if cursor else None
+            for line in lines_of(tables, begins[tables.path], given):
+                try:
+                    yield output.text(line)
+                except Spoiled as what:
+                    spoiled.append(str(what))
+                    if given is not None:
+                        given.take_back(line.workunit.id)
 
 
 def write_results(
@@ -188,13 +189,15 @@ def write_results(
     file: TextIO | None = None,
     names: Mapping[str, str] | None = None,
     uploads: Path | None = None,
+    output_names: OutputNames | None = None,
     files_to: Path | None = None,
-) -> str | None:
+    is_linked: bool = False,
+) -> Written:
     """Writes the results of tables to standard output or to a new file, as comma-separated values or as lines
     of JSON. With a folder of uploads they name the files of canonical results, and files_to gets these files.
-    The cursor is written last. If a stop comes before that, the same results come again. Returns why there
-    are none, if the cursor left all out.
+    The cursor is written last. If a stop comes before that, the same results come again.
     """
+    outcome = Written()
     with ExitStack() as stack:
         kept = stack.enter_context(cursor_at(cursor)) if cursor is not None else None
         if target is not None and target.exists():
@@ -202,16 +205,21 @@ def write_results(
         if files_to is not None and not files_to.is_dir():
             raise Fault(f"{files_to}: it is not a folder: make it first")
         all_tables = stack.enter_context(all_opened(paths, names))
-        opened_uploads = stack.enter_context(uploads_in(uploads)) if uploads is not None else None
-        parts = texts(all_tables, Output(as_lines, opened_uploads, files_to), after, kept)
+        opened_uploads = (
+            stack.enter_context(uploads_in(uploads, output_names)) if uploads is not None else None
+        )
+        folder = None if files_to is None else stack.enter_context(OutputFolder(files_to, is_linked))
+        output = Output(as_lines, opened_uploads, folder)
+        parts = texts(all_tables, output, after, kept, outcome.spoiled)
         if target is not None:
             replace_file(target, (part.encode() for part in parts))
         else:
-            output = file or sys.stdout
-            output.writelines(parts)
-            flushed(output)
+            stream = file or sys.stdout
+            stream.writelines(parts)
+            flushed(stream)
         if files_to is not None:
             sync(files_to)
         if kept is not None:
             kept.write()
-    return kept.why_nothing() if kept is not None else None
+            outcome.why_nothing = None if outcome.spoiled else kept.why_nothing()
+    return outcome

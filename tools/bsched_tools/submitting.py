@@ -5,10 +5,8 @@ A record of the batch is written, in the folder `submitted` of the project. The 
 that only this batch has, and synced. The workunits are imported. A batch of bsched with the same bytes is
 imported once, so a second run makes nothing twice. A batch whose record says something else is refused.
 """
-import io
 import json
 import os
-import shutil
 import stat
 from collections.abc import Iterator
 from dataclasses import dataclass
@@ -29,7 +27,7 @@ from .catalogue_file import (
 )
 from .counts import MOST
 from .faults import Fault
-from .files import new_file
+from .files import copy_bytes, new_file
 from .import_files import KINDS, ImportFile, Row
 from .imports import Batch, Sender, batches_of, refusal_text
 from .inputs import Input, digest_of
@@ -250,28 +248,48 @@ def unstaged(plan: Plan) -> list[tuple[Input, Path]]:
 # ---- Staging
 
 
-def stage(project: Project, one: Input, place: Path) -> Path | None:
-    """Puts an input into its place by a hard link, if the bridge may read the file. Else writes a copy next
-    to it, and returns the copy, which gets its name once it is on the disk."""
-    if one.path is not None:
-        try:
-            source = one.path.resolve()
-            if is_readable(project, source):
-                os.link(source, place)
-                return None
-        except OSError:
-            pass
+def linked(project: Project, path: Path, place: Path) -> bool:
+    """Puts an input into its place by a hard link, if the bridge may read it. Returns whether it did."""
+    try:
+        source = path.resolve()
+        if is_readable(project, source):
+            os.link(source, place)
+            return True
+    except OSError:
+        pass
+    return False
+
+
+def stage(project: Project, one: Input, place: Path, is_linked: bool) -> Path | None:
+    """Writes a copy of an input next to its place, and returns the copy, which gets its name once it is on
+    the disk. Returns None if a hard link was asked for, and is in the place already."""
+    if is_linked and one.path is not None and linked(project, one.path, place):
+        return None
     new = place.with_name(f".{place.name}.part")
     try:
-        with io.BytesIO(f"{one.shown}\n".encode()) if one.path is None else one.path.open("rb") as data:
-            with new_file(new, 0o640) as file:
-                give_to_group(project, file.fileno())
-                shutil.copyfileobj(data, file)
-    except OSError as error:
-        raise Fault(
-            f"{error.filename or place}: {error.strerror}: run the same command again later"
-        ) from None
+        with new_file(new, 0o640) as file:
+            give_to_group(project, file.fileno())
+            if one.path is None:
+                file.write(f"{one.shown}\n".encode())
+            else:
+                copy_input(one, one.path, file.fileno())
+    except BaseException as error:
+        new.unlink(missing_ok=True)
+        if isinstance(error, OSError):
+            where = error.filename or place
+            raise Fault(f"{where}: {error.strerror}: run the same command again later") from None
+        raise
     return new
+
+
+def copy_input(one: Input, path: Path, target: int) -> None:
+    """Copies an input into an open file. It must be what was read before."""
+    with path.open("rb") as source:
+        copied = copy_bytes(source.fileno(), target, one.nbytes)
+    if copied.fault:
+        raise Fault(f"{path}: {copied.fault}")
+    if (copied.nbytes, copied.sha256) != (one.nbytes, one.sha256):
+        raise Fault(f"{path}: it was changed while it was read: run the same command again")
 
 
 def is_readable(project: Project, path: Path) -> bool:
@@ -293,7 +311,7 @@ def write_record(project: Project, plan: Plan) -> None:
         raise Fault(f"{path}: {error.strerror}") from None
 
 
-def stage_all(project: Project, plan: Plan, left: list[tuple[Input, Path]]) -> None:
+def stage_all(project: Project, plan: Plan, left: list[tuple[Input, Path]], is_linked: bool) -> None:
     """Stages the inputs. All of them are on the disk when it returns. Copies get their names after a sync, so
     no power failure leaves a part of one under its name."""
     bar, copies = Bar("staging the inputs"), list[tuple[Path, Path]]()
@@ -301,9 +319,13 @@ def stage_all(project: Project, plan: Plan, left: list[tuple[Input, Path]]) -> N
         if plan.inputs[0].path is None:
             made_for_group(project, plan.folder)
         for number, (one, place) in enumerate(left, 1):
-            if (new := stage(project, one, place)) is not None:
+            if (new := stage(project, one, place, is_linked)) is not None:
                 copies.append((new, place))
             bar.seen(number, len(left))
+    except BaseException:  # the disk may be full, and the scheduler needs room there
+        for new, _ in copies:
+            new.unlink(missing_ok=True)
+        raise
     finally:
         bar.end()
     os.sync()
@@ -352,7 +374,7 @@ def sum_lines(plan: Plan, left: list[tuple[Input, Path]], missing: list[Batch], 
     yield f"room       {room - needed:,} of {MOST['unit']:,} workunits are left afterwards"
 
 
-def submit_work(project: Project, plan: Plan, is_dry: bool) -> Iterator[str]:
+def submit_work(project: Project, plan: Plan, is_dry: bool, is_linked: bool) -> Iterator[str]:
     """Makes a batch of work, and yields what is done. Nothing is changed before all is checked."""
     check_record(project, plan)
     with tables_of(project) as (look, tables):
@@ -365,7 +387,7 @@ def submit_work(project: Project, plan: Plan, is_dry: bool) -> Iterator[str]:
         yield "nothing was changed: --dry-run"
         return
     write_record(project, plan)
-    stage_all(project, plan, left)
+    stage_all(project, plan, left, is_linked)
     done = import_all(project, plan, missing)
     before = len(plan.inputs) - done
     yield f"imported   {done:,} workunits" + (f", and {before:,} were there before" if before else "")

@@ -3,24 +3,24 @@ files").
 
 `uploads.db` there says which files a result has, and `store/` has their contents under their SHA-256.
 """
-import os
 import re
-import shutil
 import sqlite3
-from collections.abc import Iterator
-from contextlib import closing, contextmanager, suppress
+from collections.abc import Iterator, Mapping, Set
+from contextlib import closing, contextmanager
 from dataclasses import dataclass
 from pathlib import Path
 from urllib.parse import quote
 
 from .faults import Fault
-from .files import sync
 from .workunits import Workunit
+
+OutputNames = Mapping[str, Set[str]]  # for each application the names of output files in the catalogue
 
 APPLICATION_ID = 0x62736375  # of uploads.db
 BUSY_SECONDS = 10.0
 FILES = "SELECT open_name, nbytes, sha256 FROM file WHERE result = ?1 ORDER BY place"
-# a line of an output: it names a file even if its row is lost. A volunteer can write such lines, too
+# a line of an output: it names a file even if its row is lost. A volunteer can write such lines, too, so they
+# count only for names that the catalogue has
 LINE = re.compile(
     r"(?P<name>[A-Za-z0-9_][A-Za-z0-9_.+-]{0,127}) sha256:(?P<sha256>[0-9a-f]{64}) (?P<nbytes>[0-9]{1,18})"
 )
@@ -46,18 +46,23 @@ class Uploads:
 
     folder: Path
     connection: sqlite3.Connection
+    output_names: OutputNames
 
-    def files_of(self, result: str, output: str) -> list[UploadedFile]:
-        """Returns the files of a canonical result with this output, in the order of the catalogue. A result
-        of an application without output files has none.
+    def files_of(self, unit: Workunit) -> list[UploadedFile]:
+        """Returns the files of the canonical result of a workunit, in the order of the catalogue. A result of
+        an application without output files has none.
         """
+        if unit.canonical is None:
+            return []
         try:
-            rows = self.connection.execute(FILES, (result,)).fetchall()
+            rows = self.connection.execute(FILES, (unit.canonical,)).fetchall()
         except sqlite3.Error as error:
             raise Fault(f"{self.folder / 'uploads.db'}: {error}") from None
         if not rows:
-            found = (LINE.fullmatch(line) for line in output.split("\n"))
-            named = [(one["name"], int(one["nbytes"]), one["sha256"]) for one in found if one]
+            known = self.output_names.get(unit.app, frozenset())
+            found = (LINE.fullmatch(line) for line in (unit.output or "").split("\n"))
+            matches = [one for one in found if one is not None and one["name"] in known]
+            named = [(one["name"], int(one["nbytes"]), one["sha256"]) for one in matches]
             # of two lines with one name the first counts
             first = {row[0]: row for row in reversed(named) if self._path(row[2]).exists()}
             rows = [row for row in named if first.get(row[0]) is row]
@@ -69,8 +74,8 @@ class Uploads:
 
 
 @contextmanager
-def uploads_in(folder: Path) -> Iterator[Uploads]:
-    """Yields a folder of uploads."""
+def uploads_in(folder: Path, output_names: OutputNames | None = None) -> Iterator[Uploads]:
+    """Yields a folder of uploads. Without the names of output files no output names a file."""
     path = folder / "uploads.db"
     if not path.is_file():
         raise Fault(f"{folder}: it has no uploads.db, so it is not the folder of a bridge's uploads")
@@ -79,46 +84,6 @@ def uploads_in(folder: Path) -> Iterator[Uploads]:
         with closing(sqlite3.connect(name, uri=True, timeout=BUSY_SECONDS)) as connection:
             if connection.execute("PRAGMA application_id").fetchone()[0] != APPLICATION_ID:
                 raise Fault(f"{path}: it is not a bridge's file of uploads")
-            yield Uploads(folder, connection)
+            yield Uploads(folder, connection, output_names or {})
     except sqlite3.Error as error:
         raise Fault(f"{path}: {error}") from None
-
-
-def folder_name(workunit: str) -> str:
-    """Returns the name of the folder for the files of a workunit: its own name. A name that begins with a dot
-    gets a plus sign before it, which no name of a workunit has.
-    """
-    return f"+{workunit}" if workunit.startswith(".") else workunit
-
-
-def place(files: list[UploadedFile], unit: Workunit, target: Path) -> None:
-    """Puts the files of a workunit into a folder of its own in the target, whole or not at all. They are hard
-    links, or copies on another disk. If the folder is there already, it stays.
-    """
-    folder = target / folder_name(unit.name)
-    if not files or folder.exists():
-        return
-    new = target / f".{folder.name}.new"
-    shutil.rmtree(new, ignore_errors=True)
-    try:
-        new.mkdir()
-        for file in files:
-            link_or_copy(file.path, new / file.name)
-        sync(new)
-        os.rename(new, folder)
-    except OSError as error:
-        with suppress(OSError):
-            shutil.rmtree(new)
-        raise Fault(f"{error.filename or folder}: {error.strerror}") from None
-
-
-def link_or_copy(path: Path, new: Path) -> None:
-    """Makes a hard link to a file, or a copy that is on the disk when it returns. What is there already may
-    be a link to another file of the bridge, so it is not written."""
-    try:
-        os.link(path, new)
-    except (FileNotFoundError, FileExistsError):
-        raise
-    except OSError:
-        shutil.copyfile(path, new)
-        sync(new)

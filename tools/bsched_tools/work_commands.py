@@ -5,20 +5,22 @@ import sys
 import time
 from collections.abc import Callable, Iterable
 
-from .amounts import MOST_CREDIT
+from .amounts import MOST_CREDIT, count_text
 from .apps import LINE_FOLDER, NewApp, add_app, input_member, output_member, read_files
 from .bars import Bar
 from .catalogue_file import CatalogueFile
-from .collecting import collect_files
+from .collecting import collect_files, collected_lines
 from .faults import Fault
 from .inputs import Input, check_batch, combinations, lines_in, of_files, of_texts
 from .looks import NO_MEMBER, check_member, looked_at, tables_of, turn_of
 from .progress import earlier, names_in_batch, progress_lines, progress_of
 from .projects import Project, project_of
 from .submitting import CREDIT_OF_HOUR, Amounts, Plan, app_of, check_sizes, places_of, submit_work
+from .texts import shown
 
 Arguments = argparse.Namespace
 WATCH_SECONDS = 10.0
+MOST_SPOILED = 20  # that are named
 CLEAR = "\033[H\033[2J"
 Printer = Callable[[Iterable[str]], None]
 
@@ -71,7 +73,7 @@ def submit(args: Arguments, printed: Printer) -> None:
     project = member_project(args)
     check_batch(args.batch)
     with turn_of(project):
-        printed(submit_work(project, plan_of(args, project), args.dry_run))
+        printed(submit_work(project, plan_of(args, project), args.dry_run, args.link))
 
 
 def credit_of(args: Arguments) -> float:
@@ -122,14 +124,26 @@ def progress(args: Arguments, printed: Printer) -> None:
         time.sleep(WATCH_SECONDS)
 
 
-def collect(args: Arguments, printed: Printer) -> None:
-    """Puts the outputs into a folder."""
+def say_spoiled(spoiled: list[str]) -> int:
+    """Says which files are spoiled, and returns the exit status."""
+    for what in spoiled[:MOST_SPOILED]:
+        print(f"bsched-tools: {shown(what)}", file=sys.stderr)
+    if more := len(spoiled) - MOST_SPOILED:
+        if more > 0:
+            print(f"bsched-tools: .. and {count_text(more, 'further workunit')}", file=sys.stderr)
+    return 1 if spoiled else 0
+
+
+def collect(args: Arguments, printed: Printer) -> int:
+    """Puts the outputs into a folder. Returns 1 if some could not be collected."""
     project = member_project(args)
     with looked_at(project) as look:
-        printed(collect_files(project, look, args.batch, args.to))
+        found = collect_files(project, look, args.batch, args.to, args.link)
+    printed(collected_lines(look, found, args.to))
+    return say_spoiled(list(found.spoiled.values()))
 
 
-WORK_COMMANDS: dict[str, Callable[[Arguments, Printer], None]] = {
+WORK_COMMANDS: dict[str, Callable[[Arguments, Printer], int | None]] = {
     "app": app,
     "submit": submit,
     "progress": progress,

@@ -6,6 +6,7 @@ from typing import Any
 from .amounts import credit, days, hours, nbytes, quorum
 
 PLATFORM = "x86_64-pc-linux-gnu"
+LINK_HELP = "hard links and not copies: read-only files that are the project's own store. Never write to them"
 
 
 def add_work(commands: "argparse._SubParsersAction[Any]", project: str) -> None:
@@ -31,6 +32,7 @@ def add_collect(commands: "argparse._SubParsersAction[Any]") -> argparse.Argumen
     )
     collect.add_argument("--batch", metavar="B", help="only this batch")
     collect.add_argument("--to", type=Path, required=True, metavar="DIR", help="the folder")
+    collect.add_argument("--link", action="store_true", help=LINK_HELP)
     return collect
 
 
@@ -91,5 +93,10 @@ def add_submit(commands: "argparse._SubParsersAction[Any]") -> argparse.Argument
         "--quorum", type=quorum, default=2, metavar="N", help="how many results agree; default 2"
     )
     submit.add_argument("--credit", type=credit, metavar="C", help="for each result; default: by the hours")
+    submit.add_argument(
+        "--link",
+        action="store_true",
+        help="hard links and not copies of the inputs: never write to an input while its job is out",
+    )
     submit.add_argument("--dry-run", action="store_true", help="shows what it would do, and changes nothing")
     return submit

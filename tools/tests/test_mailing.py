@@ -1,4 +1,4 @@
-"""Tests the mail about a project's health: with mailers that are missing, fail or hang, and on a full disk."""
+"""Tests the mail about a project's health: mailers that are missing, fail or hang, and a full disk."""
 import json
 import os
 from argparse import Namespace

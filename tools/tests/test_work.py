@@ -230,9 +230,9 @@ def test_a_folder_of_inputs(work: WorkProject) -> None:
     words = "--quorum", "3", "--hours", "0.5", "--credit", "2", work.inputs
     assert work.submit(*words)[1].splitlines()[-1] == "imported   5 workunits"
     assert (work.files / "run_part_00002.txt.in").read_text() == "2".rjust(20)
-    assert (work.files / "run_part_00002.txt.in").stat().st_ino == (
-        work.inputs / "part_00002.txt"
-    ).stat().st_ino
+    for path in (work.inputs / "part_00002.txt", work.inputs / "part_00003.txt"):
+        staged = work.files / f"run_{path.name}.in"
+        assert staged.stat().st_nlink == 1 and staged.stat().st_mode & 0o777 == 0o640
     made = work.state()
     assert work.submit(*words)[1].splitlines()[-1] == "imported   0 workunits, and 5 were there before"
     assert work.state() == made
@@ -247,10 +247,46 @@ def test_a_folder_of_inputs(work: WorkProject) -> None:
     ]
 
 
-def test_inputs_that_the_bridge_may_not_read_are_copied(work: WorkProject) -> None:
+def test_an_input_that_is_changed_later_is_staged_as_it_was(work: WorkProject) -> None:
+    work.make_inputs(2)
+    assert work.submit(work.inputs)[0] == 0
+    path = work.inputs / "part_00001.txt"
+    with path.open("a") as file:
+        file.write("more")
+    assert (work.files / "run_part_00001.txt.in").read_text() == "1".rjust(20)
+
+
+def test_an_input_that_changes_meanwhile_is_refused(
+    work: WorkProject, monkeypatch: pytest.MonkeyPatch, capsys: pytest.CaptureFixture[str]
+) -> None:
+    """Nothing of it is left in the bridge's folder, and the same command makes it good."""
+    work.make_inputs(2)
+    path = work.inputs / "part_00002.txt"
+    written = submitting.write_record
+
+    def write_record(*args: Any) -> None:
+        written(*args)
+        path.write_text("2".rjust(21))
+
+    monkeypatch.setattr(submitting, "write_record", write_record)
+    words = "submit", "--project", f"{work.folder}/", "--app", "count", "--batch", "run", work.inputs
+    status, _, fault = run_here(capsys, *words)
+    assert status == 1 and fault == (
+        f"bsched-tools: {path}: it was changed while it was read: run the same command again\n"
+    )
+    assert [one.name for one in work.files.iterdir()] == [NAME]
+    monkeypatch.setattr(submitting, "write_record", written)
+    path.write_text("2".rjust(20))
+    assert run_here(capsys, *words)[0] == 0
+
+
+def test_inputs_are_hard_links_on_request(work: WorkProject) -> None:
+    """Those that the bridge may not read are copied all the same."""
     work.make_inputs(2)
     (work.inputs / "part_00001.txt").chmod(0o600)
-    assert work.submit(work.inputs)[0] == 0
+    assert work.submit(work.inputs, "--link")[0] == 0
+    linked = work.inputs / "part_00002.txt"
+    assert (work.files / "run_part_00002.txt.in").samefile(linked)
     staged = work.files / "run_part_00001.txt.in"
     assert staged.stat().st_ino != (work.inputs / "part_00001.txt").stat().st_ino
     assert staged.stat().st_mode & 0o777 == 0o640 and staged.read_text() == "1".rjust(20)
@@ -426,7 +462,6 @@ def test_a_batch_name_that_was_used(work: WorkProject) -> None:
     work.app("--output", "out:1M", name="other")
     made = work.state()
     path = work.inputs / "part_00002.txt"
-    path.unlink()  # it is a hard link to what was staged
     path.write_text("other")
     fault = f"{path}: the batch run was made of other inputs (there {path})"
     is_refused(work, work.submit(work.inputs), fault, made)
@@ -581,7 +616,6 @@ def test_a_stop_at_each_step(
 
     monkeypatch.setattr(imports, "MOST_BATCH", 300)
     work.make_inputs(6)
-    (work.inputs / "part_00003.txt").chmod(0o600)
 
     class Stop(Exception):
         """Raised in the place of a kill."""
