@@ -22,8 +22,11 @@ def test_the_hundred_jobs_take_ten_steps() -> None:
     steps = steps_of(HUNDRED)
     assert [step.number for step in steps] == list(range(1, 11))
     blocks = [block for step in steps for block in step.blocks]
-    assert len(blocks) == 10 and all(block.is_run for block in blocks)
-    assert ["bsched-tools progress" in block.commands for block in blocks if block.is_repeated] == [True]
+    assert len(blocks) == 13 and all(block.is_run for block in blocks)
+    assert ["bsched-tools progress" in block.commands for block in blocks if block.is_repeated] == [
+        True,
+        True,
+    ]
 
 
 @pytest.mark.parametrize("page", [PAGE, HUNDRED])

@@ -10,8 +10,10 @@ copying               how a copy is made with these
 schemas, tables       the tables in a copy, opened for reading
 workunits             what became of a workunit, by the rules of docs/PROFILE.md
 results, cursors      the results of workunits, and which were given out before
-uploaded              the output files of canonical results
+texts                 texts of strangers, as they are shown on a terminal, in a spreadsheet and in JSON
+uploaded, placing     the output files of canonical results, and how they get into an operator's folder
 jobs                  what happened to one workunit, and what one computer did
+stuck, computers      open workunits that nobody can take, and computers with many bad results
 counts                how many there are of each thing
 members, averages, exports      users over several files, and the files that statistics sites read
 history, findings, plots, page  the page: what earlier reports counted, what it says, and how it is drawn
@@ -29,6 +31,7 @@ submitting            a batch of work: its record, its staged inputs, and its im
 progress, collecting  how far the work is, and its outputs in a folder
 bars                  progress bars on a terminal
 levels, health        findings and their levels: what answers, and what is old or nearly full
+comparing             whether the bridge's files are what they should be, a part in each run
 mailing               mail about what changed in them
 command_line          the arguments of the command line (work_options, work_commands: of those that make work)
 """

@@ -10,6 +10,7 @@ from pathlib import Path
 from types import FrameType
 from typing import NoReturn
 
+from .amounts import count_text
 from .catalogue_file import output_names_of
 from .command_line import NAME, new_parser
 from .copying import copy_tables
@@ -30,7 +31,8 @@ from .members import agreed_in
 from .projects import PROGRAM, Project, project_of
 from .results import write_results
 from .starts import rows_in, start_text
-from .tables import opened
+from .stuck import named
+from .tables import copies_in, opened
 from .texts import shown
 from .volunteers import Volunteers, ask_bridge, volunteers_of
 from .work_commands import WORK_COMMANDS, say_spoiled
@@ -56,7 +58,12 @@ def project_named(args: Arguments) -> Project | None:
 def copies_of(args: Arguments, project: Project | None, is_several: bool = True) -> list[Path]:
     """Returns the copies that are read: of a project its earlier files, too, unless one copy is read."""
     if project is not None:
-        return [*(project.archives if is_several else []), project.units().copies]
+        folder = project.units().copies
+        if not folder.is_dir() or not copies_in(folder):
+            raise Fault(
+                f"{folder}: there is no copy yet: make one by `bsched-tools copy --project {args.project}`"
+            )
+        return [*(project.archives if is_several else []), folder]
     return list(args.tables) if isinstance(args.tables, list) else [args.tables]
 
 
@@ -126,6 +133,9 @@ def results(args: Arguments) -> int:
     )
     if written.why_nothing is not None:
         print(f"{NAME}: {written.why_nothing}", file=sys.stderr)
+    if project is not None and written.stuck:
+        text = f"{count_text(len(written.stuck), 'workunit')} stuck: {named(written.stuck)}"
+        print(f"{NAME}: {shown(text)}", file=sys.stderr)
     return say_spoiled(written.spoiled)
 
 
@@ -310,25 +320,43 @@ def end_by_signal(number: int, _frame: FrameType | None) -> NoReturn:
     raise Ended(f"ended by {signal.Signals(number).name}")
 
 
+def parsed() -> Arguments:
+    """Reads the command line. What it prints for `--help` is written before it ends the program."""
+    try:
+        return new_parser().parse_args()
+    except SystemExit:
+        sys.stdout.flush()
+        raise
+
+
+def let_output_go() -> None:
+    """Has Python not try again at its exit to write what could not be written."""
+    os.dup2(os.open(os.devnull, os.O_WRONLY), 1)
+
+
 def main() -> int:
     """Does what the command line says, and returns the exit status."""
-    args = new_parser().parse_args()
     for number in (signal.SIGINT, signal.SIGTERM, signal.SIGHUP):
         signal.signal(number, end_by_signal)
     if isinstance(sys.stdout, TextIOWrapper):
         sys.stdout.reconfigure(encoding="utf-8", errors="replace", newline="")
+    fault_status: int = FAULT
     try:
+        args = parsed()
+        fault_status = Level.UNKNOWN if args.command == "health" else FAULT
         status = COMMANDS[args.command](args)
         sys.stdout.flush()
     except (Fault, Ended) as fault:
         print(f"{NAME}: {fault}", file=sys.stderr)
-        return Level.UNKNOWN if args.command == "health" else FAULT
+        return fault_status
+    except BrokenPipeError:  # who read the output has enough
+        let_output_go()
+        return 128 + signal.SIGPIPE
     except OSError as error:
         where = f"{error.filename}: " if error.filename else "standard output: "
         print(f"{NAME}: {where}{error.strerror}", file=sys.stderr)
-        # so that Python does not try again at exit to write what could not be written
-        os.dup2(os.open(os.devnull, os.O_WRONLY), 1)
-        return FAULT
+        let_output_go()
+        return fault_status
     return status or 0
 
 

@@ -52,6 +52,20 @@ def quorum(text: str) -> int:
     return int(text)
 
 
+def errors(text: str) -> int:
+    """Reads how many client errors a workunit may have."""
+    if not re.fullmatch("0|[1-9][0-9]?|100", text):
+        raise argparse.ArgumentTypeError(f"{text!r} is no number of errors: write a whole one from 0 to 100")
+    return int(text)
+
+
+def factor(text: str) -> int:
+    """Reads after how many times its hours a job is ended."""
+    if not re.fullmatch("[1-9][0-9]{0,5}|1000000", text):
+        raise argparse.ArgumentTypeError(f"{text!r} is no factor: write a whole number from 1 to 1000000")
+    return int(text)
+
+
 def bytes_text(size: int) -> str:
     """Returns a number of bytes for a person."""
     for unit in ("T", "G", "M", "k"):

@@ -21,7 +21,7 @@ from .volunteers import command_of_bridge
 WORKUNIT = "{workunit}"
 FILE_NAME = re.compile(r"[A-Za-z0-9_][A-Za-z0-9_.+-]{0,127}")
 UPLOAD_NAME = re.compile(r".*_[0-9]+_[0-9]+")  # such names are those of output files
-DEFAULT_MEMORY, DEFAULT_DISK = 10**8, 10**9
+DEFAULT_MEMORY, DEFAULT_DISK, DEFAULT_FACTOR = 10**8, 10**9, 10
 CHECK_SECONDS = 600.0
 
 
@@ -46,6 +46,11 @@ class App:
     def disk(self) -> int:
         """Bytes of disk that a job may use."""
         return self.whole("rsc_disk_bound", DEFAULT_DISK)
+
+    @property
+    def factor(self) -> int:
+        """The client ends a job that takes this many times its hours."""
+        return self.whole("fpops_bound_factor", DEFAULT_FACTOR)
 
     @property
     def inputs(self) -> list[str]:

@@ -3,10 +3,14 @@
 DIR/WORKUNIT/NAME     an output file of a workunit that is done
 DIR/results.csv       a row for each workunit that is done
 DIR/failed.csv        a row for each workunit that failed, with the reason
+DIR/open.csv          a row for each workunit that is open: it waits, is out, or is stuck, and why
 DIR/.collected        the cursor: a folder that was removed after it was read does not come again
 
-Both tables are written anew by each run. The cursor is written last.
+Each run writes the rows of the workunits that it looks at anew. Rows of others stay: of other batches, and of
+workunits that the tables don't have any more. The cursor is written last.
 """
+import csv
+import io
 from collections.abc import Iterator
 from contextlib import ExitStack
 from dataclasses import dataclass, field
@@ -20,15 +24,21 @@ from .progress import names_in_batch
 from .projects import Project
 from .placing import OutputFolder, Spoiled
 from .results import Line, lines_of
+from .stuck import Stuck, named, stuck_in
 from .submitting import read_record
 from .tables import Tables, all_opened
 from .texts import table_text
 from .uploaded import UploadedFile, Uploads, uploads_in
-from .workunits import Workunit, decided
+from .workunits import IS_HELD, Workunit, decided
 
-RESULTS, FAILED, CURSOR = "results.csv", "failed.csv", ".collected"
+RESULTS, FAILED, OPENED, CURSOR = "results.csv", "failed.csv", "open.csv", ".collected"
 RESULT_COLUMNS = ("workunit", "input", "result", "credit", "output", "files")
 FAILED_COLUMNS = ("workunit", "input", "reason")
+OPEN_COLUMNS = ("workunit", "input", "state", "reason", "errors", "last_error")
+OPEN_UNITS = f"""
+SELECT name, EXISTS (SELECT 1 FROM instance WHERE unit_id = unit.id AND {IS_HELD})
+FROM unit WHERE status = 0 ORDER BY id
+"""
 
 
 @dataclass(slots=True)
@@ -37,6 +47,9 @@ class Collected:
 
     rows: list[tuple[str, ...]] = field(default_factory=list)
     failed: list[tuple[str, ...]] = field(default_factory=list)
+    open: list[tuple[str, ...]] = field(default_factory=list)
+    stuck: list[Stuck] = field(default_factory=list)
+    seen: set[str] = field(default_factory=set)  # the workunits that this run looked at
     fresh: int = 0  # workunits that are done and were not there in the run before
     spoiled: dict[str, str] = field(default_factory=dict)  # by workunit what is wrong with one of its files
 
@@ -95,6 +108,8 @@ class Collector:
 
     def take(self, tables: Tables, cursor: Cursor, names: set[str] | None) -> None:
         """Takes the workunits with these names. One with a spoiled file is left out, and comes again."""
+        units = {name for name, in tables.rows("SELECT name FROM unit")}
+        self.found.seen |= units if names is None else names & units
         given = cursor.given(tables)
         for line in lines_of(tables, 0, given, names):
             if not line.is_late and not line.workunit.reason:
@@ -115,17 +130,46 @@ class Collector:
     def put(self, line: Line) -> None:
         """Puts the files of a workunit into a folder of its own."""
         files = self.files_of(line.workunit)
-        if files and line.workunit.name in (RESULTS, FAILED):
+        if files and line.workunit.name in (RESULTS, FAILED, OPENED):
             raise Fault(f"{self.folder.path / line.workunit.name}: a workunit has the name of this file")
         self.folder.place(files, line.workunit.name)
 
-    def write(self) -> None:
-        """Writes the two tables."""
+    def take_open(self, tables: Tables, names: set[str] | None) -> None:
+        """Takes the open workunits with these names."""
+        self.found.stuck = list(stuck_in(tables, names))
+        stuck = {one.name: one for one in self.found.stuck}
+        for name, is_out in tables.rows(OPEN_UNITS):
+            if names is None or name in names:
+                front = name, self.inputs.get(name, "")
+                if (one := stuck.get(name)) is not None:
+                    row = (*front, "stuck", one.why, str(one.errors), one.last_error)
+                else:
+                    row = (*front, "out" if is_out else "waiting", "", "", "")
+                self.found.open.append(row)
+
+    def write(self, is_whole: bool) -> None:
+        """Writes the tables. What is open no more has no row, if the run looked at all workunits."""
         for name, columns, rows in (
             (RESULTS, RESULT_COLUMNS, self.found.rows),
             (FAILED, FAILED_COLUMNS, self.found.failed),
+            (OPENED, OPEN_COLUMNS, self.found.open),
         ):
-            self.folder.write(name, csv_bytes(columns, rows))
+            kept = [] if is_whole and name == OPENED else self.kept_rows(name, columns)
+            self.folder.write(name, csv_bytes(columns, [*kept, *rows]))
+
+    def kept_rows(self, name: str, columns: tuple[str, ...]) -> list[tuple[str, ...]]:
+        """Returns the rows of a table for workunits that this run did not look at."""
+        data = self.folder.read(name)
+        if data is None:
+            return []
+        try:
+            header, *rows = csv.reader(io.StringIO(data.decode(), newline=""), strict=True)
+        except (ValueError, csv.Error):
+            header, rows = [], []
+        if tuple(header) != columns or any(len(row) != len(columns) for row in rows):
+            path = self.folder.path / name
+            raise Fault(f"{path}: it is not a table that `collect` wrote: move it to another folder")
+        return [tuple(row) for row in rows if row[0] not in self.found.seen]
 
 
 def collect_files(
@@ -144,9 +188,11 @@ def collect_files(
             opened_uploads = stack.enter_context(uploads_in(uploads, output_names_of(project)))
         target = stack.enter_context(OutputFolder(folder, is_linked))
         collector = Collector(project, target, opened_uploads)
-        for tables, names in zip(all_tables, chosen_in(all_tables, batch)):
+        chosen = chosen_in(all_tables, batch)
+        for tables, names in zip(all_tables, chosen):
             collector.take(tables, cursor, names)
-        collector.write()
+        collector.take_open(all_tables[-1], chosen[-1])
+        collector.write(batch is None)
         cursor.write()
     return collector.found
 
@@ -156,3 +202,5 @@ def collected_lines(look: Look, found: Collected, folder: Path) -> Iterator[str]
     yield look.moment_line
     spoiled = f"; {len(found.spoiled):,} not collected" if found.spoiled else ""
     yield f"{folder}: {found.fresh:,} new of {found.done:,} done; {len(found.failed):,} failed{spoiled}"
+    if found.stuck:
+        yield f"stuck: {len(found.stuck):,} of {len(found.open):,} open ({OPENED}): {named(found.stuck)}"

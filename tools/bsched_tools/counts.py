@@ -8,14 +8,15 @@ from pathlib import Path
 
 from .faults import Fault
 from .schemas import SCHEMA_NUMBER
+from .stuck import stuck_in
 from .tables import COPY_NAME, Tables, all_opened, copies_in, moment_of, opened
+from .workunits import IS_HELD
 
 DAY = 86400
 STATUSES = {0: "open", 1: "done", 2: "failed by errors", 3: "failed by successes", 4: "failed by the total"}
 # how many rows there may be (docs/PROFILE.md, "What it knows"); for hosts a setting says it
 MOST = {"account": 10_000, "app": 100, "version": 1_000, "unit": 200_000}
 NOUNS = {"account": "accounts", "app": "apps", "version": "versions", "unit": "workunits", "host": "hosts"}
-IS_HELD = "host_id IS NOT NULL AND outcome IS NULL AND lapse = 0"
 INSTANCES = f"""
 SELECT count(*), sum(queued), sum({IS_HELD}), sum({IS_HELD} AND deadline < ?1), sum(outcome IS NOT NULL),
   sum(lapse <> 0 AND outcome IS NULL)
@@ -50,6 +51,7 @@ class Counts:
     moment: int = 0
     workunits: Counter[str] = field(default_factory=Counter)
     out: int = 0  # open workunits with an instance that a host has
+    stuck: int = 0  # open workunits that no user with a host can take
     instances: Counter[str] = field(default_factory=Counter)
     people: dict[str, int] = field(default_factory=dict)
     calls_unknown: str = ""  # why it is not known who called in the last day; empty if it is known
@@ -65,7 +67,11 @@ class Counts:
             "bytes": self.bytes,
             "millicredits": self.millicredits,
             "workunits": dict(self.workunits),
-            "open_workunits": {"out": self.out, "waiting": self.workunits["open"] - self.out},
+            "open_workunits": {
+                "out": self.out,
+                "waiting": self.workunits["open"] - self.out,
+                "stuck": self.stuck,
+            },
             "instances": dict(self.instances),
             "people": self.people,
             "limits": {name: {"used": limit.used, "most": limit.most} for name, limit in self.limits.items()},
@@ -140,6 +146,7 @@ def count_rows(tables: Tables, counts: Counts) -> None:
     counts.out += tables.number(OUT)
     numbers = next(tables.rows(INSTANCES, tables.moment))
     counts.instances.update({state: number or 0 for state, number in zip(STATES, numbers)})
+    counts.stuck += len(list(stuck_in(tables)))
     counts.millicredits += tables.number("SELECT sum(credit) FROM host")
     most = {**MOST, "host": int(tables.settings["max_hosts"])}
     used = {table: tables.number(f"SELECT count(*) FROM {table}") for table in NOUNS}
@@ -166,6 +173,7 @@ def as_lines(counts: Counts) -> Iterator[str]:
     """Returns the counts for a person."""
     rows: list[tuple[str, str]] = []
     rows += [(f"workunits {status}", str(number)) for status, number in counts.workunits.items()]
+    rows += [("workunits stuck, of the open ones", str(counts.stuck))]
     rows += [(f"instances {state}", str(number)) for state, number in counts.instances.items()]
     rows += [(what, str(number)) for what, number in counts.people.items()]
     if counts.calls_unknown:
@@ -199,6 +207,9 @@ def as_metrics(counts: Counts) -> Iterator[str]:
     yield from metric("tables_bytes", "The size of the copies.", {"": counts.bytes})
     yield from metric("credits", "All credit.", {"": f"{counts.millicredits / 1000:.3f}"})
     yield from metric("workunits", "Workunits by their status.", labelled("status", counts.workunits))
+    yield from metric(
+        "stuck_workunits", "Open workunits that no user with a host can take.", {"": counts.stuck}
+    )
     yield from metric("instances", "Instances by their state.", labelled("state", counts.instances))
     yield from metric("people", "Hosts and users.", labelled("kind", counts.people))
     used = {name: limit.used for name, limit in counts.limits.items()}

@@ -3,9 +3,8 @@ that wait."""
 from collections import Counter
 from dataclasses import dataclass
 
-from .counts import IS_HELD
 from .tables import Tables
-from .workunits import decided
+from .workunits import IS_HELD, decided
 
 HOUR, DAY_HOURS = 3600, 24
 MOST_LISTED = 20

@@ -10,12 +10,17 @@ from collections.abc import Callable, Iterable, Iterator
 from pathlib import Path
 from urllib.parse import urlsplit
 
+from .amounts import count_text
+from .comparing import compared
+from .computers import bad_computers
+from .computers import named as named_computers
 from .counts import counted
 from .faults import Fault
 from .files import keep_file
 from .levels import Finding, Level
 from .projects import Project, UnitSettings
-from .tables import copies_in, moment_of
+from .stuck import named, stuck_in
+from .tables import copies_in, moment_of, opened
 
 SECONDS = 20.0  # for an answer
 NO_HOST = 2**31 - 1  # no computer has this number: there are at most 100,000
@@ -25,6 +30,7 @@ FREE_SHARE = 0.1, 0.03  # of a disk: less is a warning, and critical
 USED_SHARE = 0.9, 1.0  # of a limit: more is a warning, and critical
 STAMPS = Path("/var/lib/systemd/timers")
 TICK_MINUTES = 12, 30  # since the last tick: more is a warning, and critical; one is sent each five minutes
+MOST_SPOILED = 5  # files that are named
 COPIES_LATE = 8  # times the hours of the settings: an older copy is critical
 
 
@@ -166,14 +172,17 @@ def newest_copy(project: Project, settings: UnitSettings) -> Path | None:
 
 def copy(project: Project, settings: UnitSettings) -> Iterator[Finding]:
     """Looks at the age of the newest copy."""
-    advice = f"`systemctl enable --now bsched-copy@{project.name}.timer`"
+    unit = f"bsched-copy@{project.name}"
+    advice = f"`systemctl enable --now {unit}.timer`"
+    if shown_by_systemd(f"{unit}.timer", "ActiveState") == "active":
+        advice = f"`systemctl start {unit}` makes one now"
     newest = newest_copy(project, settings)
     if newest is None:
         yield Finding("copy", Level.CRITICAL, f"there is none in {settings.copies}: {advice}")
         return
     hours = (time.time() - moment_of(newest)) / HOUR
     level = level_of(hours, settings.copy_hours, COPIES_LATE * settings.copy_hours)
-    ends = "" if level is Level.GOOD else f": {advice}, or read its log"
+    ends = "" if level is Level.GOOD else f": {advice}, or read its log: `journalctl -u {unit}`"
     yield Finding("copy", level, f"the newest one is {hours:.1f} hours old{ends}")
 
 
@@ -194,6 +203,29 @@ def limits(project: Project, settings: UnitSettings) -> Iterator[Finding]:
     yield Finding("limits", Level.GOOD, f"at most {100 * limit.used // limit.most} % are used ({name})")
 
 
+def work(project: Project, settings: UnitSettings) -> Iterator[Finding]:
+    """Looks for stuck workunits and bad computers, in the newest copy."""
+    newest = newest_copy(project, settings)
+    if newest is None:
+        return
+    with opened(newest) as tables:
+        stuck, computers = list(stuck_in(tables)), bad_computers(tables)
+    if stuck:
+        yield Finding("stuck", Level.WARNING, f"{count_text(len(stuck), 'workunit')}: {named(stuck)}")
+    if computers:
+        text = f"most results of the last day are bad: {named_computers(computers)}"
+        yield Finding("computers", Level.WARNING, text)
+
+
+def spoiled(project: Project, settings: UnitSettings) -> Iterator[Finding]:
+    """Compares a part of the bridge's files with what they should be."""
+    found = list(compared(project, newest_copy(project, settings), int(time.time())))
+    for text in found[:MOST_SPOILED]:
+        yield Finding("spoiled", Level.CRITICAL, text)
+    if more := len(found[MOST_SPOILED:]):
+        yield Finding("spoiled", Level.CRITICAL, f"and {count_text(more, 'further file')}")
+
+
 def disk(project: Project, settings: UnitSettings) -> Iterator[Finding]:
     """Looks at the free room of the disks of the project and its copies."""
     seen = set()
@@ -212,7 +244,7 @@ def level_of(value: float, warning: float, critical: float) -> Level:
     return Level.CRITICAL if value >= critical else Level.WARNING if value >= warning else Level.GOOD
 
 
-CHECKS: tuple[Check, ...] = (scheduler, bridge, certificate, tick, copy, limits, disk)
+CHECKS: tuple[Check, ...] = (scheduler, bridge, certificate, tick, copy, limits, work, spoiled, disk)
 
 
 def findings_of(project: Project, settings: UnitSettings) -> list[Finding]:

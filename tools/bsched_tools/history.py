@@ -8,9 +8,10 @@ from dataclasses import asdict, dataclass, field
 from pathlib import Path
 from typing import Any
 
-from .counts import IS_HELD, Counts
+from .counts import Counts
 from .files import append_line, replace_file
 from .tables import Tables
+from .workunits import IS_HELD
 
 HOUR = 3600
 # the bins of turnaround: up to this many hours

@@ -89,6 +89,17 @@ class OutputFolder:
         finally:
             os.close(folder)
 
+    def read(self, name: str) -> bytes | None:
+        """Returns the bytes of a file of the folder, or None if there is none."""
+        try:
+            file = os.open(name, os.O_RDONLY | os.O_NOFOLLOW | os.O_NONBLOCK, dir_fd=self.descriptor)
+            with open(file, "rb") as opened:
+                return opened.read()
+        except FileNotFoundError:
+            return None
+        except OSError as error:
+            raise Fault(f"{self.path / name}: {error.strerror}") from None
+
     def write(self, name: str, data: bytes) -> None:
         """Replaces a file of the folder, by one rename."""
         new = f".{name}.new"

@@ -5,21 +5,30 @@ from dataclasses import dataclass, field
 from pathlib import Path
 
 from .amounts import count_text
+from .computers import BadComputer, bad_computers
+from .computers import named as named_computers
 from .counts import DAY
 from .faults import Fault
 from .jobs import moment_text
 from .looks import Look
+from .stuck import Stuck, named, stuck_in
 from .tables import Tables, copies_in, moment_of, opened
-from .workunits import OPEN, REASONS
+from .texts import first_line
+from .workunits import IS_HELD, OPEN, REASONS
 
 LEAST_SECONDS = 60  # between two copies from which a rate follows
 HOUR = 3600
 MOST_SHOWN = 3
-MOST_TEXT = 70
-STATES = """
-SELECT unit.name, status, EXISTS (
-  SELECT 1 FROM instance WHERE unit_id = unit.id AND host_id IS NOT NULL AND outcome IS NULL AND lapse = 0
-) FROM unit
+STATES = f"""
+SELECT unit.name, status, EXISTS (SELECT 1 FROM instance WHERE unit_id = unit.id AND {IS_HELD}),
+  (SELECT min(sent) FROM instance WHERE unit_id = unit.id)
+FROM unit
+"""
+ALL_ERRORS = """
+SELECT unit.name, host.id, shown_name(auth, account.name)
+FROM instance JOIN unit ON unit.id = unit_id JOIN host ON host.id = host_id
+  JOIN account ON account.id = account_id
+WHERE outcome = 3
 """
 ERRORS = """
 SELECT unit.name, output FROM unit JOIN instance ON unit_id = unit.id
@@ -37,6 +46,7 @@ class Progress:
     done: int = 0
     failed: Counter[str] = field(default_factory=Counter)  # by reason
     errors: Counter[str] = field(default_factory=Counter)  # what clients said about workunits that failed
+    first_sent: int | None = None  # when the first instance of all these was sent
 
     @property
     def all(self) -> int:
@@ -66,19 +76,14 @@ def names_in_batch(tables: Tables, batch: str) -> set[str]:
     return {row.partition(",")[0].strip('"') for row in rows}
 
 
-def first_line(text: str) -> str:
-    """Returns the first line of a text that is not empty, cut if it is long."""
-    lines = [line.strip() for line in text.splitlines() if line.strip()]
-    line = lines[0] if lines else "nothing"
-    return line if len(line) <= MOST_TEXT else f"{line[:MOST_TEXT]}.."
-
-
 def progress_of(tables: Tables, names: set[str] | None) -> Progress:
     """Returns the progress of workunits with these names, or of all."""
     progress = Progress(tables.moment)
-    for name, status, is_out in tables.rows(STATES):
+    for name, status, is_out, sent in tables.rows(STATES):
         if names is not None and name not in names:
             continue
+        if sent is not None:
+            progress.first_sent = min(sent, progress.first_sent or sent)
         if status in REASONS:
             progress.failed[REASONS[status]] += 1
         elif status != OPEN:
@@ -110,19 +115,74 @@ def earlier(folder: Path, now: Progress, names: set[str] | None) -> Progress | N
     return None
 
 
-def rate_lines(now: Progress, before: Progress | None) -> Iterator[str]:
-    """Yields the rate since an earlier moment, and when the work may end."""
-    if before is None or before.ended > now.ended:
-        yield "rate     unknown: there is no copy of the last day; bsched-copy@ makes one each hour"
+@dataclass(frozen=True, slots=True)
+class Trouble:
+    """What keeps the work from its end."""
+
+    stuck: list[Stuck]
+    errors: int  # client errors
+    worst: str  # the computer with the most of them
+    worst_errors: int
+    computers: list[BadComputer]  # of the whole project
+
+    @property
+    def lines(self) -> Iterator[str]:
+        """The trouble for a person."""
+        if self.errors:
+            yield f"errors   {self.errors:,}, {self.worst_errors:,} of them by {self.worst}"
+        if self.computers:
+            yield f"bad      in the last day: {named_computers(self.computers)}"
+        if self.stuck:
+            yield f"stuck    {len(self.stuck):,}: {named(self.stuck)}"
+
+
+def trouble_in(tables: Tables, names: set[str] | None) -> Trouble:
+    """Returns what keeps workunits with these names, or all, from their end."""
+    errors: Counter[str] = Counter()
+    for name, host, user in tables.rows(ALL_ERRORS):
+        if names is None or name in names:
+            errors[f"computer {host} of {user}"] += 1
+    worst, count = errors.most_common(1)[0] if errors else ("", 0)
+    return Trouble(list(stuck_in(tables, names)), errors.total(), worst, count, bad_computers(tables))
+
+
+def span_text(seconds: int) -> str:
+    """Returns a time for a person."""
+    if seconds < HOUR:
+        return count_text(round(seconds / 60), "minute")
+    return f"{seconds / HOUR:.1f} hours"
+
+
+def begun(now: Progress, before: Progress | None) -> tuple[int, int] | None:
+    """Returns the moment from which a rate counts, and how many had ended then: that of an earlier copy, but
+    not before the first job went out. Returns None if there is neither of the last day."""
+    if now.first_sent is None:
+        return None
+    if before is not None and now.first_sent <= before.moment and before.ended <= now.ended:
+        return before.moment, before.ended
+    return (now.first_sent, 0) if now.moment - now.first_sent <= DAY + HOUR else None
+
+
+def rate_lines(now: Progress, before: Progress | None, stuck: int) -> Iterator[str]:
+    """Yields the rate, and when the work may end. Nothing is foretold of what is stuck."""
+    begin = begun(now, before)
+    if begin is None:
+        why = "there is no copy of the last day; bsched-copy@ makes one each hour"
+        yield f"rate     unknown: {why if now.first_sent is not None else 'no job went out yet'}"
         return
-    seconds, count = now.moment - before.moment, now.ended - before.ended
-    yield f"rate     {count_text(count, 'workunit')} in {seconds / HOUR:.1f} hours"
-    left = now.waiting + now.out
-    if left and count:
-        yield f"end      may be at {moment_text(now.moment + left * seconds // count)[:16]} UTC, at this rate"
+    seconds, count = now.moment - begin[0], now.ended - begin[1]
+    if seconds < LEAST_SECONDS:
+        yield f"rate     unknown yet: the first job went out {count_text(max(0, seconds), 'second')} ago"
+        return
+    yield f"rate     {count_text(count, 'workunit')} in {span_text(seconds)}"
+    left = now.waiting + now.out - stuck
+    if left > 0 and count:
+        of = " without what is stuck" if stuck else ""
+        moment = moment_text(now.moment + left * seconds // count)[:16]
+        yield f"end      may be at {moment} UTC, at this rate{of}"
 
 
-def progress_lines(look: Look, now: Progress, before: Progress | None) -> Iterator[str]:
+def progress_lines(look: Look, now: Progress, before: Progress | None, trouble: Trouble) -> Iterator[str]:
     """Yields the progress for a person."""
     yield look.moment_line
     yield f"waiting  {now.waiting:,}"
@@ -132,4 +192,5 @@ def progress_lines(look: Look, now: Progress, before: Progress | None) -> Iterat
     yield f"failed   {now.failed.total():,}" + (f": {reasons}" if reasons else "")
     for text, count in now.errors.most_common(MOST_SHOWN):
         yield f"  {count_text(count, 'result')} said: {text}"
-    yield from rate_lines(now, before)
+    yield from trouble.lines
+    yield from rate_lines(now, before, len(trouble.stuck))

@@ -13,6 +13,7 @@ from .cursors import Cursor, Given, cursor_at
 from .faults import Fault
 from .files import replace_file, sync
 from .placing import OutputFolder, Spoiled
+from .stuck import Stuck, stuck_in
 from .tables import Tables, all_opened
 from .texts import json_text, table_text
 from .uploaded import OutputNames, UploadedFile, Uploads, uploads_in
@@ -156,6 +157,7 @@ class Written:
 
     why_nothing: str | None = None  # why there are none, if the cursor left all out
     spoiled: list[str] = field(default_factory=list)  # for each file that is wrong what is wrong with it
+    stuck: list[Stuck] = field(default_factory=list)  # of the tables that were named last
 
 
 def texts(
@@ -205,6 +207,7 @@ def write_results(
         if files_to is not None and not files_to.is_dir():
             raise Fault(f"{files_to}: it is not a folder: make it first")
         all_tables = stack.enter_context(all_opened(paths, names))
+        outcome.stuck = [one for tables in all_tables[-1:] for one in stuck_in(tables)]
         opened_uploads = (
             stack.enter_context(uploads_in(uploads, output_names)) if uploads is not None else None
         )

@@ -32,11 +32,14 @@ from .import_files import KINDS, ImportFile, Row
 from .imports import Batch, Sender, batches_of, refusal_text
 from .inputs import Input, digest_of
 from .looks import check_importing, tables_of
+from .progress import begun, earlier, progress_of, span_text
 from .projects import Project
 from .tables import Tables
 
 SPEED = 4 * 10**9  # operations a second of one processor of a usual PC, which --hours means
 CREDIT_OF_HOUR = 200 * SPEED / 10**9 / 24  # BOINC's: 200 credits for a day at 10^9 a second
+MOST_INSTANCES = 100  # of a workunit
+ERRORS_COLUMN = 2  # in the columns of a record
 FORMAT = 1
 SHOWN_WORKUNITS = 3
 READ_BY_OTHERS, READ_BY_GROUP = stat.S_IROTH, stat.S_IRGRP
@@ -51,13 +54,15 @@ class Amounts:
     memory: int
     disk: int
     quorum: int
+    errors: int  # with more client errors it fails
     credit: float
 
     @property
     def columns(self) -> list[str]:
         """The columns of an import after the name and the application."""
-        quorum, total, successes = self.quorum, 3 * self.quorum + 4, 2 * self.quorum + 2
-        numbers = [quorum, quorum, quorum + 2, total, successes, round(self.days * 86400)]
+        quorum, successes = self.quorum, 2 * self.quorum + 2
+        total = min(MOST_INSTANCES, max(3 * quorum + 4, self.errors + successes))
+        numbers = [quorum, quorum, self.errors, total, successes, round(self.days * 86400)]
         numbers += [round(self.hours * 3600 * SPEED), self.memory, self.disk, round(self.credit * 1000)]
         return [str(number) for number in numbers]
 
@@ -166,6 +171,28 @@ def read_record(path: Path) -> dict[str, Any]:
     raise Fault(f"{path}: it is no record of a batch: restore it, or choose another --batch")
 
 
+def errors_of(project: Project, batch: str, quorum: int) -> int:
+    """Returns how many client errors a workunit of a batch may have, if the command line does not say it: as
+    the batch was made, if it exists. Who trusts a single result trusts a single error, too."""
+    path = record_path(project, batch)
+    if path.exists():
+        columns = read_record(path).get("columns")
+        if (
+            isinstance(columns, list)
+            and len(columns) > ERRORS_COLUMN
+            and str(columns[ERRORS_COLUMN]).isdecimal()
+        ):
+            return int(columns[ERRORS_COLUMN])
+    return 0 if quorum == 1 else quorum
+
+
+def errors_text(errors: int) -> str:
+    """Returns what a number of client errors means for a workunit."""
+    if errors == 0:
+        return "a workunit fails at its first client error"
+    return f"a workunit fails with more than {count_text(errors, 'client error')}, each by another user"
+
+
 def check_record(project: Project, plan: Plan) -> None:
     """Refuses a batch whose name was used for something else."""
     path = record_path(project, plan.batch)
@@ -176,9 +203,8 @@ def check_record(project: Project, plan: Plan) -> None:
     if former["app"] != record["app"]:
         raise Fault(f"{path}: {again} for the application {former['app']}: choose another --batch")
     if former["columns"] != record["columns"]:
-        raise Fault(
-            f"{path}: {again} with other hours, memory, disk, quorum or credit: choose another --batch"
-        )
+        other = "other hours, memory, disk, quorum, errors or credit"
+        raise Fault(f"{path}: {again} with {other}: choose another --batch")
     for new, old in zip(record["inputs"], former["inputs"]):
         if (new[0], *new[2:]) != (old[0], *old[2:]):
             raise Fault(f"{new[1]}: {again} of other inputs (there {old[1]}): choose another --batch")
@@ -355,6 +381,23 @@ def import_all(project: Project, plan: Plan, missing: list[Batch]) -> int:
 # ---- The command
 
 
+def queue_line(project: Project, tables: Tables) -> str | None:
+    """Returns how many jobs wait before new ones, and how long they take at the present rate. Jobs go out in
+    the order of import, those of every batch."""
+    waiting = tables.number("SELECT sum(queued) FROM instance")
+    if not waiting:
+        return None
+    now = progress_of(tables, None)
+    begin = begun(now, earlier(project.units().copies, now, None))
+    text = f"{count_text(waiting, 'job')} of other batches {'waits' if waiting == 1 else 'wait'}"
+    ended = 0 if begin is None else now.ended - begin[1]
+    if begin is None or not ended:
+        return f"before     {text}, and go out first"
+    # a workunit that ends takes as many jobs as one that waits, as far as anybody knows
+    seconds = (now.waiting + now.out) * max(1, now.moment - begin[0]) // ended
+    return f"before     {text}, and go out first: {span_text(seconds)} at the present rate"
+
+
 def sum_lines(plan: Plan, left: list[tuple[Input, Path]], missing: list[Batch], room: int) -> Iterator[str]:
     """Yields what a batch is, with its first workunits and its sums."""
     count, amounts = len(plan.inputs), plan.amounts
@@ -366,8 +409,11 @@ def sum_lines(plan: Plan, left: list[tuple[Input, Path]], missing: list[Batch], 
     if count > SHOWN_WORKUNITS:
         yield f"  .. and {count - SHOWN_WORKUNITS:,} more"
     yield f"instances  {instances:,}: {count_text(amounts.quorum, 'result')} of each workunit must agree"
+    yield f"errors     {errors_text(amounts.errors)}"
     yield f"hours      {instances * amounts.hours:,.4g} of a processor, {amounts.hours:g} for each instance"
     yield f"credit     {instances * amounts.credit:,.6g}, {amounts.credit:g} for each result"
+    limit = plan.app.factor * amounts.hours
+    yield f"limit      a job is ended after {plan.app.factor:,} times its hours, {limit:,.4g} on a usual PC"
     size = bytes_text(sum(one.nbytes for one in plan.inputs))
     yield f"inputs     {size}, {len(left):,} of {count:,} to be staged"
     needed = sum(len(batch.rows) for batch in missing)
@@ -380,9 +426,12 @@ def submit_work(project: Project, plan: Plan, is_dry: bool, is_linked: bool) -> 
     with tables_of(project) as (look, tables):
         check_importing(project, look)
         missing, room = missing_batches(plan, tables), room_of(tables)
+        queue = queue_line(project, tables) if missing else None
     check_room(missing, room)
     left = unstaged(plan)
     yield from sum_lines(plan, left, missing, room)
+    if queue is not None:
+        yield queue
     if is_dry:
         yield "nothing was changed: --dry-run"
         return

@@ -45,7 +45,10 @@ class Tables:
     def rows(self, query: str, *values: Any) -> Iterator[tuple[Any, ...]]:
         """Yields the rows of a query."""
         with faults_of(self.path):
-            yield from self.connection.execute(query, values)
+            # no `yield from`: it closes the cursor of a generator that nobody reads to its end, and the
+            # connection may be closed by then
+            for row in self.connection.execute(query, values):
+                yield row
 
     def number(self, query: str, *values: Any) -> int:
         """Returns the one number that a query gives, or 0 if it gives none."""

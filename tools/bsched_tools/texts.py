@@ -10,6 +10,7 @@ import re
 from collections.abc import Iterable
 
 UNKNOWN = "\ufffd"  # takes the place of a character that can't be printed
+MOST_TEXT = 70  # characters of a line that is cut
 FORMULA = ("=", "+", "-", "@", "\t", "\r")
 NUMBER = re.compile(r"[+-]?(\d+\.?\d*|\.\d+)([eE][+-]?\d+)?", re.ASCII)
 
@@ -24,6 +25,13 @@ def shown(text: str, kept: str = "\t") -> str:
     if text.isprintable():
         return text
     return "".join(one if is_harmless(one) or one in kept else UNKNOWN for one in text)
+
+
+def first_line(text: str) -> str:
+    """Returns the first line of a text that is not empty, cut if it is long."""
+    lines = [line.strip() for line in text.splitlines() if line.strip()]
+    line = lines[0] if lines else "nothing"
+    return line if len(line) <= MOST_TEXT else f"{line[:MOST_TEXT]}.."
 
 
 def cell(value: object) -> str:
@@ -54,7 +62,7 @@ def table_text(rows: Iterable[Iterable[object]]) -> str:
 
 
 def json_text(value: object) -> str:
-    """Returns a value as JSON on one line. A reader gets the exact texts; what can't be printed is escaped."""
+    """Returns a value as JSON on one line, exactly. What can't be printed is escaped."""
     text = json.dumps(value, ensure_ascii=False)
     if text.isprintable():
         return text

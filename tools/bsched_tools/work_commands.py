@@ -13,9 +13,9 @@ from .collecting import collect_files, collected_lines
 from .faults import Fault
 from .inputs import Input, check_batch, combinations, lines_in, of_files, of_texts
 from .looks import NO_MEMBER, check_member, looked_at, tables_of, turn_of
-from .progress import earlier, names_in_batch, progress_lines, progress_of
+from .progress import earlier, names_in_batch, progress_lines, progress_of, trouble_in
 from .projects import Project, project_of
-from .submitting import CREDIT_OF_HOUR, Amounts, Plan, app_of, check_sizes, places_of, submit_work
+from .submitting import CREDIT_OF_HOUR, Amounts, Plan, app_of, check_sizes, errors_of, places_of, submit_work
 from .texts import shown
 
 Arguments = argparse.Namespace
@@ -46,6 +46,7 @@ def app(args: Arguments, printed: Printer) -> None:
         "output_files": [output_member(text) for text in args.output] if args.output else None,
         "rsc_memory_bound": args.memory,
         "rsc_disk_bound": args.disk,
+        "fpops_bound_factor": args.limit,
     }
     files = read_files(args.program, args.file)
     with turn_of(project):
@@ -98,6 +99,7 @@ def plan_of(args: Arguments, project: Project) -> Plan:
         application.memory if args.memory is None else args.memory,
         application.disk if args.disk is None else args.disk,
         args.quorum,
+        errors_of(project, args.batch, args.quorum) if args.errors is None else args.errors,
         credit_of(args),
     )
     folder, places = places_of(catalogue, application, inputs)
@@ -115,7 +117,8 @@ def progress(args: Arguments, printed: Printer) -> None:
         with tables_of(project) as (look, tables):
             names = None if args.batch is None else names_in_batch(tables, args.batch)
             now = progress_of(tables, names)
-            lines = list(progress_lines(look, now, earlier(project.units().copies, now, names)))
+            before = earlier(project.units().copies, now, names)
+            lines = list(progress_lines(look, now, before, trouble_in(tables, names)))
         if args.watch:
             print(CLEAR, end="")
         printed(lines)
@@ -139,7 +142,7 @@ def collect(args: Arguments, printed: Printer) -> int:
     project = member_project(args)
     with looked_at(project) as look:
         found = collect_files(project, look, args.batch, args.to, args.link)
-    printed(collected_lines(look, found, args.to))
+        printed(collected_lines(look, found, args.to))
     return say_spoiled(list(found.spoiled.values()))
 
 

@@ -3,7 +3,7 @@ import argparse
 from pathlib import Path
 from typing import Any
 
-from .amounts import credit, days, hours, nbytes, quorum
+from .amounts import credit, days, errors, factor, hours, nbytes, quorum
 
 PLATFORM = "x86_64-pc-linux-gnu"
 LINK_HELP = "hard links and not copies: read-only files that are the project's own store. Never write to them"
@@ -58,7 +58,8 @@ def add_app(commands: "argparse._SubParsersAction[Any]") -> argparse.ArgumentPar
         "--output",
         action="append",
         metavar="NAME:BYTES",
-        help="an output file and its most bytes; else the output is what it writes to standard error",
+        help="an output file and its most bytes; :optional after it: it may be missing; :ignored: it is not "
+        "compared. Without one the output is what it writes to standard error",
     )
     app.add_argument("--title", metavar="T", help="the name for volunteers")
     inputs = app.add_mutually_exclusive_group()
@@ -69,6 +70,9 @@ def add_app(commands: "argparse._SubParsersAction[Any]") -> argparse.ArgumentPar
     app.add_argument("--command-line", metavar="TEXT", help="the command line, or its front")
     app.add_argument("--memory", type=nbytes, metavar="N", help="the most memory of a job; default 100M")
     app.add_argument("--disk", type=nbytes, metavar="N", help="the most disk of a job; default 1G")
+    app.add_argument(
+        "--limit", type=factor, metavar="N", help="a job is ended after N times its hours; default 10"
+    )
     app.add_argument("--key", type=Path, metavar="FILE", help="the private key for code signing")
     return app
 
@@ -91,6 +95,12 @@ def add_submit(commands: "argparse._SubParsersAction[Any]") -> argparse.Argument
     submit.add_argument("--disk", type=nbytes, metavar="N", help="such as 2G; default: the application's")
     submit.add_argument(
         "--quorum", type=quorum, default=2, metavar="N", help="how many results agree; default 2"
+    )
+    submit.add_argument(
+        "--errors",
+        type=errors,
+        metavar="N",
+        help="a workunit fails with more client errors; default: 0 for --quorum 1, else the quorum",
     )
     submit.add_argument("--credit", type=credit, metavar="C", help="for each result; default: by the hours")
     submit.add_argument(

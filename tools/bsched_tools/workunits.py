@@ -12,6 +12,7 @@ WHOLE_NUMBER = re.compile("0|-?[1-9][0-9]{0,17}")
 OPEN, DONE = 0, 1
 REASONS = {2: "errors", 3: "successes", 4: "total"}  # why a workunit failed
 SUCCESS = 1
+IS_HELD = "host_id IS NOT NULL AND outcome IS NULL AND lapse = 0"
 DECIDED = """
 SELECT unit.id, unit.name, app.name, agreement, min_quorum, unit.credit, status,
   num, host_id, shown_name(auth, account.name), outcome, output, place
@@ -22,6 +23,10 @@ FROM unit JOIN app ON app.id = unit.app_id
 WHERE status <> 0 AND unit.id > ?1
 ORDER BY unit.id, num
 """
+# only those of which an instance was sent then or later
+DECIDED_SINCE = DECIDED.replace(
+    "ORDER BY", "AND unit.id IN (SELECT unit_id FROM instance WHERE sent >= ?2) ORDER BY"
+)
 
 
 @dataclass(frozen=True, slots=True)
@@ -113,8 +118,9 @@ def workunit_of(tables: Tables, rows: list[tuple[Any, ...]]) -> Workunit:
     return Workunit(number, name, app, millicredits, None, best.name, best.output, results, is_closed)
 
 
-def decided(tables: Tables, after: int = 0) -> Iterator[Workunit]:
+def decided(tables: Tables, after: int = 0, since: int | None = None) -> Iterator[Workunit]:
     """Yields the workunits that are done or have failed, in the order of import. It begins after the workunit
-    with the number `after`."""
-    for _, rows in groupby(tables.rows(DECIDED, after), key=lambda row: int(row[0])):
+    with the number `after`. If a moment is given, it yields those of which an instance was sent since."""
+    found = tables.rows(DECIDED, after) if since is None else tables.rows(DECIDED_SINCE, after, since)
+    for _, rows in groupby(found, key=lambda row: int(row[0])):
         yield workunit_of(tables, list(rows))

@@ -264,3 +264,20 @@ def test_another_user_keeps_nothing(made: MadeProject, monkeypatch: pytest.Monke
     args = Namespace(project=str(made.folder), mail=None, command="health")
     assert main.health(args) in (Level.GOOD, Level.WARNING, Level.CRITICAL)
     assert not (made.folder / "units").exists()
+
+
+@pytest.mark.parametrize(
+    "state, advice",
+    [
+        ("active", "`systemctl start bsched-copy@sums` makes one now"),
+        ("inactive", "`systemctl enable --now bsched-copy@sums.timer`"),
+        (None, "`systemctl enable --now bsched-copy@sums.timer`"),
+    ],
+)
+def test_the_advice_fits_what_is_active(
+    made: MadeProject, monkeypatch: pytest.MonkeyPatch, state: str | None, advice: str
+) -> None:
+    monkeypatch.setattr(health, "shown_by_systemd", lambda _unit, _key: state)
+    for copy in (made.folder / "copies").iterdir():
+        copy.unlink()
+    assert found(made)["copy"].text == f"there is none in {made.folder / 'copies'}: {advice}"

@@ -3,11 +3,14 @@ import csv
 import io
 import json
 import os
+import re
 import shutil
 import signal
 import socket
+import sqlite3
 import sys
 from collections.abc import Callable, Iterator
+from datetime import datetime, timedelta, timezone
 from pathlib import Path
 from typing import Any
 
@@ -220,10 +223,13 @@ def test_a_folder_of_inputs(work: WorkProject) -> None:
         f"  run_part_00003.txt: {work.inputs}/part_00003.txt (20 bytes)",
         "  .. and 2 more",
         "instances  15: 3 results of each workunit must agree",
+        "errors     a workunit fails with more than 3 client errors, each by another user",
         "hours      7.5 of a processor, 0.5 for each instance",
         "credit     30, 2 for each result",
+        "limit      a job is ended after 10 times its hours, 5 on a usual PC",
         "inputs     100 bytes, 5 of 5 to be staged",
         "room       199,975 of 200,000 workunits are left afterwards",
+        "before     40 jobs of other batches wait, and go out first",
         "nothing was changed: --dry-run",
     ]
     assert work.state() == before
@@ -243,7 +249,7 @@ def test_a_folder_of_inputs(work: WorkProject) -> None:
         "max_success_results, delay_bound, rsc_fpops_est, rsc_memory_bound, rsc_disk_bound, credit FROM unit"
     )
     assert rows_of(work.folder / "project.db", query)[1:] == [
-        (3, 3, 5, 13, 8, 604800, 1800 * 4 * 10**9, 10**8, 10**9, 2000)
+        (3, 3, 3, 13, 8, 604800, 1800 * 4 * 10**9, 10**8, 10**9, 2000)
     ]
 
 
@@ -809,7 +815,10 @@ def test_progress_and_collect(bare: WorkProject, tmp_path: Path) -> None:
         rows[0]["output"] == "of run_part_00001.txt" and rows[0]["input"] == f"{bare.inputs}/part_00001.txt"
     )
     assert bare.tools("collect", "--to", to, "--batch", "run")[1].endswith(": 0 new of 6 done; 0 failed\n")
-    assert bare.tools("collect", "--to", to)[1].endswith(": 6 new of 6 done; 0 failed\n")
+    lines = bare.tools("collect", "--to", to)[1].splitlines()
+    assert lines[1].endswith(": 6 new of 6 done; 0 failed")
+    what = "w1 (no version of dock is for the platform of any computer)"  # the fixture's own workunits
+    assert lines[2].startswith(f"stuck: 20 of 20 open (open.csv): {what}, ")
     status, _, fault = bare.tools("collect", "--to", to, "--batch", "none")
     assert (status, fault) == (1, "bsched-tools: --batch none: there is no batch with this name\n")
 
@@ -829,12 +838,14 @@ def test_failed_workunits(bare: WorkProject, tmp_path: Path) -> None:
     assert bare.app()[0] == 0
     bare.make_inputs(2)
     words = "--quorum", "1", "--hours", "0.001", "--memory", "1k", "--disk", "100k"
-    assert bare.submit(*words, bare.inputs)[0] == 0
+    assert bare.submit(*words, "--errors", "3", bare.inputs)[0] == 0
     for user in (1, 2, 3, 4):
         finish(bare, user, 2, "no room\nfor it", 1)
     output = bare.tools("progress", "--batch", "run")[1]
     assert "failed   2: 2 with too many errors\n  8 results said: no room\n" in output
-    assert bare.tools("collect", "--to", tmp_path / "out")[1].endswith(": 0 new of 0 done; 2 failed\n")
+    assert "\nerrors   8, 2 of them by computer 1 of User 1\n" in output
+    output = bare.tools("collect", "--batch", "run", "--to", tmp_path / "out")[1]
+    assert output.endswith(": 0 new of 0 done; 2 failed\n")
     assert (tmp_path / "out" / "failed.csv").read_text() == (
         "workunit,input,reason\n"
         f"run_part_00001.txt,{bare.inputs}/part_00001.txt,too many errors\n"
@@ -849,19 +860,129 @@ def test_the_rate_follows_from_an_older_copy(bare: WorkProject) -> None:
     assert bare.submit(*words, bare.inputs)[0] == 0
     assert bare.tools("copy")[0] == 0
     (copy,) = (bare.folder / "copies").iterdir()
-    copy.rename(copy.with_name("project-20200101T000000.000Z.db"))
-    assert "rate     unknown" in bare.tools("progress")[1]
-    from datetime import datetime, timedelta, timezone
-
     moment = datetime.now(timezone.utc) - timedelta(hours=2)
-    (bare.folder / "copies" / "project-20200101T000000.000Z.db").rename(
-        bare.folder / "copies" / f"project-{moment:%Y%m%dT%H%M%S}.000Z.db"
-    )
+    copy.rename(copy.with_name(f"project-{moment:%Y%m%dT%H%M%S}.000Z.db"))
+    assert "rate     unknown: no job went out yet\n" in bare.tools("progress")[1]
     reply = json.loads(bare.call(1, 1, platform_name=PLATFORM, work_req_seconds=1))
     reports = [{"name": job["name"], "exit_status": 0, "output": "1"} for job in reply["results"]]
     bare.call(1, 2, platform_name=PLATFORM, results=reports)
+    bare.end()
+    connection = sqlite3.connect(bare.folder / "project.db")
+    connection.execute("UPDATE instance SET sent = sent - 10000 WHERE sent IS NOT NULL")
+    connection.commit()
+    connection.close()
     output = bare.tools("progress", "--batch", "run")[1]
-    assert "rate     1 workunit in 2.0 hours\nend      may be at " in output
+    assert re.search(r"rate     1 workunit in 2\.[0-9] hours\nend      may be at ", output)
+
+
+@pytest.mark.parametrize(
+    "words, columns, says",
+    [
+        (["--quorum", "1"], (1, 1, 0, 7, 4), "at its first client error"),
+        (["--quorum", "2"], (2, 2, 2, 10, 6), "with more than 2 client errors, each by another user"),
+        (["--quorum", "2", "--errors", "9"], (2, 2, 9, 15, 6), "with more than 9 client errors"),
+        (["--quorum", "20", "--errors", "100"], (20, 20, 100, 100, 42), "with more than 100 client errors"),
+        (["--errors", "0"], (2, 2, 0, 10, 6), "at its first client error"),
+    ],
+)
+def test_how_many_errors_a_workunit_may_have(
+    work: WorkProject, words: list[str], columns: tuple[int, ...], says: str
+) -> None:
+    """The limit of all instances leaves room for the errors."""
+    work.make_inputs(1)
+    output = work.submit(*words, work.inputs)[1]
+    assert f"\nerrors     a workunit fails {says}" in output and "imported   1 workunits" in output
+    work.end()
+    query = "SELECT min_quorum, target_nresults, max_error_results, max_total_results, max_success_results "
+    rows = rows_of(work.folder / "project.db", f"{query} FROM unit WHERE name LIKE 'run%'")
+    assert rows == [columns]
+
+
+def test_a_batch_of_a_former_release_is_completed(work: WorkProject) -> None:
+    """It was made with two more errors than its quorum."""
+    work.make_inputs(2)
+    assert work.submit("--errors", "4", work.inputs)[0] == 0
+    assert work.submit(work.inputs)[1].splitlines()[-1] == "imported   0 workunits, and 2 were there before"
+    fault = "was made with other hours, memory, disk, quorum, errors or credit"
+    is_refused(work, work.submit("--errors", "2", work.inputs), fault, work.state())
+
+
+def test_the_limit_of_a_jobs_time(bare: WorkProject) -> None:
+    assert bare.app("--output", "out:1M", "--limit", "25")[0] == 0
+    app = CatalogueFile(projects.Project(bare.folder)).app("count")
+    assert app is not None and app.members["fpops_bound_factor"] == 25
+    bare.make_inputs(1)
+    output = bare.submit("--hours", "2", bare.inputs, "--dry-run")[1]
+    assert "limit      a job is ended after 25 times its hours, 50 on a usual PC\n" in output
+    assert bare.app("--limit", "0")[0] == 64
+
+
+# ---- The tables of a folder
+
+
+def rows_in(path: Path) -> list[dict[str, str]]:
+    """Returns the rows of a table."""
+    return list(csv.DictReader(io.StringIO(path.read_text())))
+
+
+def test_what_is_open_and_stuck_has_a_row(bare: WorkProject, tmp_path: Path) -> None:
+    """One account has all computers. A bad input fails there, and no other user takes it."""
+    assert bare.app()[0] == 0
+    bare.make_inputs(3)
+    words = "--quorum", "1", "--errors", "1", "--hours", "0.001", "--memory", "1k", "--disk", "100k"
+    assert bare.submit(*words, bare.inputs)[0] == 0
+    reply = json.loads(bare.call(1, 1, "h1", platform_name=PLATFORM, work_req_seconds=1))
+    (job,) = reply["results"]
+    report = {"name": job["name"], "exit_status": 3, "output": "=bad\x1b input\n"}
+    bare.call(1, 2, "h1", platform_name=PLATFORM, results=[report], work_req_seconds=1)
+    to = tmp_path / "out"
+    text = "run_part_00001.txt (it waits for a computer of a further user; 1 client error, =bad\ufffd input)"
+    assert text in bare.tools("progress", "--batch", "run")[1]
+    output = bare.tools("collect", "--batch", "run", "--to", to)[1]
+    assert output.splitlines()[-1] == f"stuck: 1 of 3 open (open.csv): {text}"
+    rows = rows_in(to / "open.csv")
+    assert [(row["workunit"], row["state"]) for row in rows] == [
+        ("run_part_00001.txt", "stuck"),
+        ("run_part_00002.txt", "out"),
+        ("run_part_00003.txt", "waiting"),
+    ]
+    assert rows[0]["last_error"] == "'=bad\ufffd input" and rows[0]["errors"] == "1"
+    assert rows[0]["input"] == f"{bare.inputs}/part_00001.txt"
+    assert bare.tools("copy")[0] == 0
+    assert text in bare.tools("results")[2]
+    assert "warning   stuck        21 workunits: " in bare.tools("health")[1]
+    assert "stuck, of the open ones" in bare.tools("counts")[1]
+
+
+def test_a_folder_keeps_the_rows_of_every_batch(bare: WorkProject, tmp_path: Path) -> None:
+    """In any order, and also those of workunits that the tables lost."""
+    assert bare.app()[0] == 0
+    bare.make_inputs(2)
+    words = "--quorum", "1", "--hours", "0.001", "--memory", "1k", "--disk", "100k"
+    for batch in ("one", "two"):
+        assert bare.submit(*words, bare.inputs, batch=batch)[0] == 0
+    to = tmp_path / "out"
+    names = [f"{batch}_part_0000{number}.txt" for batch in ("one", "two") for number in (1, 2)]
+    for batch in ("one", "two", "one"):
+        assert bare.tools("collect", "--to", to, "--batch", batch)[0] == 0
+    assert sorted(row["workunit"] for row in rows_in(to / "open.csv")) == names
+    finish(bare, 1, 4)
+    assert bare.tools("collect", "--to", to, "--batch", "two")[0] == 0
+    assert [row["workunit"] for row in rows_in(to / "open.csv")] == names[:2]
+    assert bare.tools("collect", "--to", to, "--batch", "one")[0] == 0
+    assert rows_in(to / "open.csv") == []
+    assert [row["workunit"] for row in rows_in(to / "results.csv")] == [*names[2:], *names[:2]]
+    before = (to / "results.csv").read_text()
+    with (to / "results.csv").open("a") as file:
+        file.write("lost,inputs/x,lost_0,1,'=3,\n")
+    assert bare.tools("collect", "--to", to)[0] == 0
+    rows = rows_in(to / "results.csv")
+    assert [row["workunit"] for row in rows] == ["lost", *names] and rows[0]["output"] == "'=3"
+    (to / "results.csv").write_text("something else\n")
+    status, _, fault = bare.tools("collect", "--to", to)
+    assert status == 1 and "results.csv: it is not a table that `collect` wrote: move it" in fault
+    (to / "results.csv").write_text(before)
+    assert bare.tools("collect", "--to", to)[0] == 0
 
 
 def test_a_project_that_is_none(tmp_path: Path) -> None:
