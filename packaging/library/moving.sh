@@ -1,7 +1,7 @@
 # A project as one file, for another machine. bsched-project reads this file.
 # shellcheck shell=bash
 
-UNITS="bsched@ bsched-tick@.timer bsched-bridge@ bsched-copy@.timer bsched-results@.timer bsched-page@.timer
+UNITS="bsched@ bsched-tick@.timer bsched-bridge@ bsched-copy@.timer bsched-feed@.timer bsched-results@.timer bsched-page@.timer
   bsched-statistics@.timer bsched-health@.timer bsched-sweep@.timer"
 
 # Prints the names of the units of a project.

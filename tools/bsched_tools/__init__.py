@@ -28,6 +28,7 @@ catalogue_file, apps  the catalogue of the bridge, and how an application or a v
 looks                 who may use a project, whether its scheduler answers, and a copy for one look
 amounts, inputs       amounts as a person writes them, and what a batch of work is made of
 submitting            a batch of work: its record, its staged inputs, and its imports
+slices                batches that are imported a slice at a time
 progress, collecting  how far the work is, and its outputs in a folder
 bars                  progress bars on a terminal
 levels, health        findings and their levels: what answers, and what is old or nearly full

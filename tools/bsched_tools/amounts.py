@@ -66,6 +66,13 @@ def factor(text: str) -> int:
     return int(text)
 
 
+def slice_size(text: str) -> int:
+    """Reads how many workunits of a batch are imported at once."""
+    if not re.fullmatch("[1-9][0-9]{0,5}", text):
+        raise argparse.ArgumentTypeError(f"{text!r} is no size of a slice: write a whole number from 1 on")
+    return int(text)
+
+
 def bytes_text(size: int) -> str:
     """Returns a number of bytes for a person."""
     for unit in ("T", "G", "M", "k"):

@@ -47,14 +47,15 @@ def text_of(header: list[str], rows: list[Row]) -> bytes:
     return csv_text([header, *(row.fields for row in rows)]).encode()
 
 
-def batches_of(file: ImportFile, name: str | None) -> Iterator[Batch]:
-    """Yields the batches of a file. A given name is that of the one batch, or the front of their names."""
+def batches_of(file: ImportFile, name: str | None, most_rows: int | None = None) -> Iterator[Batch]:
+    """Yields the batches of a file, each with at most this many rows. A given name is that of the one batch,
+    or the front of their names."""
     header = len(text_of(file.header, []))
     parts: list[list[Row]] = [[]]
     size = header
     for row in file.rows:
         length = len(text_of(row.fields, [])) + 2
-        if parts[-1] and size + length > MOST_BATCH:
+        if parts[-1] and (size + length > MOST_BATCH or len(parts[-1]) == most_rows):
             parts.append([])
             size = header
         parts[-1].append(row)
@@ -66,7 +67,7 @@ def batches_of(file: ImportFile, name: str | None) -> Iterator[Batch]:
             raise Fault(f"{file.path}: line {rows[0].line}: a row has more than {MOST_BYTES} bytes")
         own = f"{stem}-{hashlib.sha256(text).hexdigest()[:16]}"
         if name is not None:
-            own = name if len(parts) == 1 else f"{name}-{number}"
+            own = name if len(parts) == 1 and most_rows is None else f"{name}-{number}"
         yield Batch(own, text, rows)
 
 

@@ -163,8 +163,9 @@ def begun(now: Progress, before: Progress | None) -> tuple[int, int] | None:
     return (now.first_sent, 0) if now.moment - now.first_sent <= DAY + HOUR else None
 
 
-def rate_lines(now: Progress, before: Progress | None, stuck: int) -> Iterator[str]:
-    """Yields the rate, and when the work may end. Nothing is foretold of what is stuck."""
+def rate_lines(now: Progress, before: Progress | None, stuck: int, later: int = 0) -> Iterator[str]:
+    """Yields the rate, and when the work may end. Nothing is foretold of what is stuck. Some workunits are
+    imported later."""
     begin = begun(now, before)
     if begin is None:
         why = "there is no copy of the last day; bsched-copy@ makes one each hour"
@@ -175,15 +176,17 @@ def rate_lines(now: Progress, before: Progress | None, stuck: int) -> Iterator[s
         yield f"rate     unknown yet: the first job went out {count_text(max(0, seconds), 'second')} ago"
         return
     yield f"rate     {count_text(count, 'workunit')} in {span_text(seconds)}"
-    left = now.waiting + now.out - stuck
+    left = now.waiting + now.out + later - stuck
     if left > 0 and count:
         of = " without what is stuck" if stuck else ""
         moment = moment_text(now.moment + left * seconds // count)[:16]
         yield f"end      may be at {moment} UTC, at this rate{of}"
 
 
-def progress_lines(look: Look, now: Progress, before: Progress | None, trouble: Trouble) -> Iterator[str]:
-    """Yields the progress for a person."""
+def progress_lines(
+    look: Look, now: Progress, before: Progress | None, trouble: Trouble, later: int
+) -> Iterator[str]:
+    """Yields the progress for a person. Some workunits are not imported yet."""
     yield look.moment_line
     yield f"waiting  {now.waiting:,}"
     yield f"out      {now.out:,}"
@@ -192,5 +195,7 @@ def progress_lines(look: Look, now: Progress, before: Progress | None, trouble: 
     yield f"failed   {now.failed.total():,}" + (f": {reasons}" if reasons else "")
     for text, count in now.errors.most_common(MOST_SHOWN):
         yield f"  {count_text(count, 'result')} said: {text}"
+    if later:
+        yield f"later    {later:,} are not imported yet (--slice)"
     yield from trouble.lines
-    yield from rate_lines(now, before, len(trouble.stuck))
+    yield from rate_lines(now, before, len(trouble.stuck), later)

@@ -8,7 +8,7 @@ imported once, so a second run makes nothing twice. A batch whose record says so
 import json
 import os
 import stat
-from collections.abc import Iterator
+from collections.abc import Iterable, Iterator
 from dataclasses import dataclass
 from pathlib import Path
 from typing import Any
@@ -34,6 +34,7 @@ from .inputs import Input, digest_of
 from .looks import check_importing, tables_of
 from .progress import begun, earlier, progress_of, span_text
 from .projects import Project
+from .stuck import stuck_in
 from .tables import Tables
 
 SPEED = 4 * 10**9  # operations a second of one processor of a usual PC, which --hours means
@@ -77,27 +78,33 @@ class Plan:
     inputs: list[Input]
     folder: Path  # of the staged inputs
     places: list[Path]
+    slice_size: int | None = None  # workunits that are imported at once; None: all of them
 
     @property
     def batches(self) -> list[Batch]:
         """The imports."""
-        front = [self.app.name, *self.amounts.columns]
-        rows = [Row(number, [one.workunit, *front]) for number, one in enumerate(self.inputs, 2)]
-        kind = KINDS["workunits"]
-        return list(batches_of(ImportFile(Path(self.batch), kind, kind.headers()[0], rows), self.batch))
+        names = (one.workunit for one in self.inputs)
+        return batches_by(self.batch, names, [self.app.name, *self.amounts.columns], self.slice_size)
 
     @property
     def record(self) -> dict[str, Any]:
         """What is kept of the batch."""
         inputs = [[one.workunit, one.shown, one.nbytes, one.sha256] for one in self.inputs]
-        columns = self.amounts.columns
-        return {
+        record = {
             "format": FORMAT,
             "batch": self.batch,
             "app": self.app.name,
-            "columns": columns,
+            "columns": self.amounts.columns,
             "inputs": inputs,
         }
+        return record if self.slice_size is None else {**record, "slice": self.slice_size}
+
+
+def batches_by(batch: str, names: Iterable[str], front: list[str], slice_size: int | None) -> list[Batch]:
+    """Returns the imports of workunits with these names, all of which have the same other columns."""
+    kind = KINDS["workunits"]
+    rows = [Row(number, [name, *front]) for number, name in enumerate(names, 2)]
+    return list(batches_of(ImportFile(Path(batch), kind, kind.headers()[0], rows), batch, slice_size))
 
 
 # ---- The plan
@@ -205,6 +212,10 @@ def check_record(project: Project, plan: Plan) -> None:
     if former["columns"] != record["columns"]:
         other = "other hours, memory, disk, quorum, errors or credit"
         raise Fault(f"{path}: {again} with {other}: choose another --batch")
+    if former.get("slice") != record.get("slice"):
+        size = former.get("slice")
+        says = "without --slice" if size is None else f"with --slice {size}"
+        raise Fault(f"{path}: {again} {says}: give the same, or choose another --batch")
     for new, old in zip(record["inputs"], former["inputs"]):
         if (new[0], *new[2:]) != (old[0], *old[2:]):
             raise Fault(f"{new[1]}: {again} of other inputs (there {old[1]}): choose another --batch")
@@ -214,12 +225,22 @@ def check_record(project: Project, plan: Plan) -> None:
 
 
 def missing_batches(plan: Plan, tables: Tables) -> list[Batch]:
-    """Returns the batches that are not imported yet. Refuses what could not be imported."""
+    """Returns the batches of a plan that are not imported yet. Refuses what could not be imported."""
     if not tables.number("SELECT count(*) FROM app WHERE name = ?1", plan.app.name):
         advice = f"add it by `bsched-tools app {plan.app.name}`, or import it"
         raise Fault(f"{plan.app.name}: the scheduler has no such application: {advice}")
+    missing = missing_among(plan.batch, plan.batches, tables)
+    for batch in missing:
+        for one in batch.rows:
+            if tables.number("SELECT count(*) FROM unit WHERE name = ?1", one.fields[0]):
+                raise Fault(f"{one.fields[0]}: there is a workunit with this name: choose another --batch")
+    return missing
+
+
+def missing_among(name: str, batches: Iterable[Batch], tables: Tables) -> list[Batch]:
+    """Returns the batches that are not imported yet. Other bytes under the name of one are a fault."""
     missing = []
-    for batch in plan.batches:
+    for batch in batches:
         row = next(
             tables.rows("SELECT text FROM batch WHERE kind = 'workunits' AND name = ?1", batch.name), None
         )
@@ -227,12 +248,26 @@ def missing_batches(plan: Plan, tables: Tables) -> list[Batch]:
             missing.append(batch)
         elif bytes(row[0]) != batch.text:
             says = f"other workunits were imported as the batch {batch.name}"
-            raise Fault(f"--batch {plan.batch}: {says}: choose another name")
-    for batch in missing:
-        for one in batch.rows:
-            if tables.number("SELECT count(*) FROM unit WHERE name = ?1", one.fields[0]):
-                raise Fault(f"{one.fields[0]}: there is a workunit with this name: choose another --batch")
+            raise Fault(f"--batch {name}: {says}: choose another name")
     return missing
+
+
+def next_batches(missing: list[Batch], waiting: int, slice_size: int | None) -> list[Batch]:
+    """Returns the batches that are imported now: as many as it takes for a slice of workunits to wait."""
+    if slice_size is None:
+        return missing
+    chosen = []
+    for batch in missing:
+        if waiting >= slice_size:
+            break
+        chosen.append(batch)
+        waiting += len(batch.rows)
+    return chosen
+
+
+def waiting_of(tables: Tables, names: set[str]) -> int:
+    """Returns how many workunits with these names wait for a computer that can take them."""
+    return progress_of(tables, names).waiting - len(list(stuck_in(tables, names)))
 
 
 def room_of(tables: Tables) -> int:
@@ -360,17 +395,17 @@ def stage_all(project: Project, plan: Plan, left: list[tuple[Input, Path]], is_l
     os.sync()
 
 
-def import_all(project: Project, plan: Plan, missing: list[Batch]) -> int:
+def import_all(project: Project, name: str, missing: list[Batch]) -> int:
     """Imports the batches, and returns how many workunits they have."""
     sender, bar = Sender(project), Bar("importing")
     kind, total, done = KINDS["workunits"], sum(len(batch.rows) for batch in missing), 0
-    file = ImportFile(Path(plan.batch), kind, kind.headers()[0], [])
+    file = ImportFile(Path(name), kind, kind.headers()[0], [])
     try:
         for batch in missing:
             answer = sender.answer(kind.name, batch)
             if "error" in answer:
                 kept = f" ({done} workunits before it are imported)" if done else ""
-                raise Fault(f"--batch {plan.batch}: {refusal_text(answer, file, batch)}{kept}")
+                raise Fault(f"--batch {name}: {refusal_text(answer, file, batch)}{kept}")
             done += len(batch.rows)
             bar.seen(done, total)
     finally:
@@ -427,6 +462,7 @@ def submit_work(project: Project, plan: Plan, is_dry: bool, is_linked: bool) -> 
         check_importing(project, look)
         missing, room = missing_batches(plan, tables), room_of(tables)
         queue = queue_line(project, tables) if missing else None
+        waiting = waiting_of(tables, {one.workunit for one in plan.inputs}) if plan.slice_size else 0
     check_room(missing, room)
     left = unstaged(plan)
     yield from sum_lines(plan, left, missing, room)
@@ -437,6 +473,10 @@ def submit_work(project: Project, plan: Plan, is_dry: bool, is_linked: bool) -> 
         return
     write_record(project, plan)
     stage_all(project, plan, left, is_linked)
-    done = import_all(project, plan, missing)
-    before = len(plan.inputs) - done
+    done = import_all(project, plan.batch, next_batches(missing, waiting, plan.slice_size))
+    later = sum(len(batch.rows) for batch in missing) - done
+    before = len(plan.inputs) - done - later
     yield f"imported   {done:,} workunits" + (f", and {before:,} were there before" if before else "")
+    if later:
+        timer = f"bsched-feed@{project.name}.timer"
+        yield f"later      {later:,} as jobs go out, by {timer} or `bsched-tools feed`"

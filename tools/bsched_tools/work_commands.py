@@ -15,6 +15,7 @@ from .inputs import Input, check_batch, combinations, lines_in, of_files, of_tex
 from .looks import NO_MEMBER, check_member, looked_at, tables_of, turn_of
 from .progress import earlier, names_in_batch, progress_lines, progress_of, trouble_in
 from .projects import Project, project_of
+from .slices import feed, left_in
 from .submitting import CREDIT_OF_HOUR, Amounts, Plan, app_of, check_sizes, errors_of, places_of, submit_work
 from .texts import shown
 
@@ -103,7 +104,7 @@ def plan_of(args: Arguments, project: Project) -> Plan:
         credit_of(args),
     )
     folder, places = places_of(catalogue, application, inputs)
-    plan = Plan(args.batch, application, amounts, inputs, folder, places)
+    plan = Plan(args.batch, application, amounts, inputs, folder, places, args.slice)
     check_sizes(catalogue, plan)
     return plan
 
@@ -118,7 +119,8 @@ def progress(args: Arguments, printed: Printer) -> None:
             names = None if args.batch is None else names_in_batch(tables, args.batch)
             now = progress_of(tables, names)
             before = earlier(project.units().copies, now, names)
-            lines = list(progress_lines(look, now, before, trouble_in(tables, names)))
+            later = left_in(project, tables, args.batch)
+            lines = list(progress_lines(look, now, before, trouble_in(tables, names), later))
         if args.watch:
             print(CLEAR, end="")
         printed(lines)
@@ -137,6 +139,11 @@ def say_spoiled(spoiled: list[str]) -> int:
     return 1 if spoiled else 0
 
 
+def feed_batches(args: Arguments, printed: Printer) -> None:
+    """Imports further slices of batches."""
+    printed(feed(member_project(args)))
+
+
 def collect(args: Arguments, printed: Printer) -> int:
     """Puts the outputs into a folder. Returns 1 if some could not be collected."""
     project = member_project(args)
@@ -151,4 +158,5 @@ WORK_COMMANDS: dict[str, Callable[[Arguments, Printer], int | None]] = {
     "submit": submit,
     "progress": progress,
     "collect": collect,
+    "feed": feed_batches,
 }

@@ -3,7 +3,7 @@ import argparse
 from pathlib import Path
 from typing import Any
 
-from .amounts import credit, days, errors, factor, hours, nbytes, quorum
+from .amounts import credit, days, errors, factor, hours, nbytes, quorum, slice_size
 
 PLATFORM = "x86_64-pc-linux-gnu"
 LINK_HELP = "hard links and not copies: read-only files that are the project's own store. Never write to them"
@@ -11,7 +11,9 @@ LINK_HELP = "hard links and not copies: read-only files that are the project's o
 
 def add_work(commands: "argparse._SubParsersAction[Any]", project: str) -> None:
     """Adds the commands. Each needs a project, for which there is a help text."""
-    for parser in (add_app(commands), add_submit(commands), add_progress(commands), add_collect(commands)):
+    further = commands.add_parser("feed", help="imports further slices of batches, as their jobs go out")
+    made = add_app(commands), add_submit(commands), add_progress(commands), add_collect(commands), further
+    for parser in made:
         parser.add_argument("--project", required=True, metavar="P", help=project)
 
 
@@ -101,6 +103,12 @@ def add_submit(commands: "argparse._SubParsersAction[Any]") -> argparse.Argument
         type=errors,
         metavar="N",
         help="a workunit fails with more client errors; default: 0 for --quorum 1, else the quorum",
+    )
+    submit.add_argument(
+        "--slice",
+        type=slice_size,
+        metavar="N",
+        help="imports N workunits now, and the others as jobs go out, so that other batches get their turn",
     )
     submit.add_argument("--credit", type=credit, metavar="C", help="for each result; default: by the hours")
     submit.add_argument(
