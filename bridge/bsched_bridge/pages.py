@@ -17,6 +17,7 @@ UNIT_WORDS = {
     "done": gettext_noop("done"),
     "out": gettext_noop("out"),
     "waiting": gettext_noop("waiting for a computer"),
+    "stuck": gettext_noop("waiting for a further volunteer"),
     "open": gettext_noop("open"),
     "failed": gettext_noop("failed"),
     "failed by errors": gettext_noop("failed: too many errors"),
@@ -55,7 +56,10 @@ class Progress:
 def open_parts(units: UnitCounts) -> dict[str, int]:
     """Returns how many of the workunits that are not decided are out, and how many wait, if that is known."""
     opened = units.by_status.get("open", 0)
-    return {"open": opened} if units.out is None else {"out": units.out, "waiting": opened - units.out}
+    if units.out is None:
+        return {"open": opened}
+    parts = {"out": units.out, "waiting": opened - units.out - units.stuck}
+    return {**parts, "stuck": units.stuck} if units.stuck else parts
 
 
 def progress_of(units: UnitCounts | None) -> Progress | None:
@@ -68,7 +72,7 @@ def progress_of(units: UnitCounts | None) -> Progress | None:
     parts, first = [], 0.0
     for name, count in counts.items():
         width = BAR * count / total
-        colour = "waiting" if name == "open" else name
+        colour = "waiting" if name in ("open", "stuck") else name
         parts.append(Part(name, colour, count, round(first, 2), round(width, 2)))
         first += width
     return Progress(parts, total, units.counted_at)

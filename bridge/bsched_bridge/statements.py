@@ -89,6 +89,7 @@ class UnitCounts:
     by_status: dict[str, int]
     counted_at: float
     out: int | None = None  # of those that are open, how many a host has; None if that is not known
+    stuck: int = 0  # of those that are open, how many no user with a host can take
 
 
 @dataclass(frozen=True, slots=True)
@@ -185,9 +186,12 @@ def read_unit_counts(path: Path | None) -> UnitCounts | None:
         moment = fields.get("moment")
         is_known = type(moment) is int and 0 <= moment <= MOST_MOMENT
         counted_at = moment if is_known else path.stat().st_mtime
-        out = fields.get("open_workunits", {}).get("out")
-        is_out = type(out) is int and 0 <= out <= by_status.get("open", 0)
-        return UnitCounts(by_status, counted_at, out if is_out else None) if by_status else None
+        out, stuck = (fields.get("open_workunits", {}).get(name) for name in ("out", "stuck"))
+        opened = by_status.get("open", 0)
+        if type(out) is not int or not 0 <= out <= opened:
+            out = None
+        is_stuck = out is not None and type(stuck) is int and 0 <= stuck <= opened - out
+        return UnitCounts(by_status, counted_at, out, stuck if is_stuck else 0) if by_status else None
     except (OSError, ValueError, KeyError, TypeError, AttributeError):
         return None
 

@@ -245,6 +245,19 @@ def test_how_far_the_work_is(project: Path, bridge: Bridge) -> None:
     bars = [fields for tag, fields in known.tags if tag == "rect" and "x" in fields]
     assert [one["class"] for one in bars] == ["is-done", "is-out", "is-waiting", "is-failed"]
     assert abs(sum(float(one["width"]) for one in bars) - 1000) < 0.1
+    words = "200 out, 993 waiting for a computer, 7 waiting for a further volunteer, 1 failed."
+    stuck = page(open_workunits={"out": 200, "waiting": 1000, "stuck": 7})
+    assert [one["class"] for tag, one in stuck.tags if tag == "rect" and "x" in one] == [
+        "is-done",
+        "is-out",
+        "is-waiting",
+        "is-waiting",
+        "is-failed",
+    ]
+    (label,) = [one["aria-label"] for tag, one in stuck.tags if tag == "svg" and "aria-label" in one]
+    assert label.endswith(words)
+    for wrong in (-1, 1001, "7", None):
+        assert "further volunteer" not in page(open_workunits={"out": 200, "stuck": wrong}).text
     for odd in (
         {},
         {"open_workunits": 1},
