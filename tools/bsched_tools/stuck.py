@@ -5,6 +5,7 @@ of its unsent instances, by the rules of `docs/PROFILE.md` ("The grant"). A user
 of the user had an instance of it before, and one of them fits: by its platforms, memory, disk and speed.
 While no computer has joined, nothing is stuck.
 """
+from collections import defaultdict
 from collections.abc import Iterator
 from dataclasses import dataclass
 
@@ -26,7 +27,10 @@ HOSTS = "SELECT account_id, platforms, fpops, memory, disk FROM host"
 VERSIONS = """
 SELECT app_id, platform, num, class FROM version JOIN version_class ON version_id = version.id ORDER BY num
 """
-USERS = "SELECT DISTINCT account_id FROM instance JOIN host ON host.id = host_id WHERE unit_id = ?1"
+USERS = """
+SELECT unit_id, account_id FROM unit JOIN instance ON unit_id = unit.id JOIN host ON host.id = host_id
+WHERE status = 0
+"""
 ERRORS = "SELECT output FROM instance WHERE unit_id = ?1 AND outcome = 3 ORDER BY ifnull(place, 0), num"
 
 
@@ -133,14 +137,15 @@ def stuck_in(tables: Tables, names: set[str] | None = None) -> Iterator[Stuck]:
     fitting = Fitting(tables)
     if not fitting.computers:
         return
+    had: defaultdict[int, set[int]] = defaultdict(set)  # the users who had an instance of an open workunit
+    for number, user in tables.rows(USERS):
+        had[number].add(user)
     for number, name, app, app_name, *more in tables.rows(NOT_HELD):
         if names is not None and name not in names:
             continue
         need = Need(app, app_name, *more)
         users = fitting.users(need)
-        if len(users) > MOST_OWNERS:
-            continue
-        if users <= {user for user, in tables.rows(USERS, number)}:
+        if len(users) <= MOST_OWNERS and users <= had.get(number, set()):
             yield stuck_of(tables, number, name, fitting.why_none(need) if not users else None)
 
 
