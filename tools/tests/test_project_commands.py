@@ -393,7 +393,7 @@ def test_a_number_that_no_computer_can_have(project: MadeProject) -> None:
 
 def test_what_is_no_project(tmp_path: Path) -> None:
     status, output, fault = tools("health", "--project", f"{tmp_path}/")
-    assert (status, output) == (1, "") and "it is no project of bsched-project" in fault
+    assert (status, output) == (3, "") and "it is no project of bsched-project" in fault
     assert tools("counts")[0] == 64 and tools("counts", "--project", "x", "--tables", "y")[0] == 64
     assert tools("report", "--tables", tmp_path)[0] == 64
 
