@@ -203,9 +203,9 @@ def test_what_happened_to_a_workunit(project: MadeProject) -> None:
 # ---- What the units do
 
 
-def test_the_folder_of_copies_can_be_reached(project: MadeProject, tmp_path: Path) -> None:
+def test_the_folder_of_copies_can_be_reached(project: MadeProject) -> None:
     """As the unit does it, which runs with a strict umask."""
-    target = tmp_path / "backups" / "bsched" / "sums"
+    target = project.folder / "backups" / "bsched" / "sums"
     (project.folder / "units.toml").write_text(f'[copy]\nfolder = "{target}"\ncheck = false\n')
     before = os.umask(0o077)
     try:
@@ -251,6 +251,8 @@ def test_new_results_for_a_program(project: MadeProject, tmp_path: Path) -> None
 def test_page_and_statistics_of_a_project(project: MadeProject, tmp_path: Path) -> None:
     """Only what is meant for the web is in its folders."""
     project.tools("copy")
+    for name in ("report", "stats"):  # root makes no folder outside of its own ones
+        (tmp_path / name).mkdir()
     units = f'[copy]\nfolder = "copies"\n[page]\nfolder = "{tmp_path}/report"\n'
     (project.folder / "units.toml").write_text(f'{units}[statistics]\nfolder = "{tmp_path}/stats"\n')
     assert project.tools("report") == (0, f"{tmp_path}/report/index.html\n", "")
@@ -304,6 +306,8 @@ def test_names_that_volunteers_chose(project: MadeProject, tmp_path: Path) -> No
     assert "of deleted, sent" in project.tools("job", "w2")[1]
     units = f'[copy]\nfolder = "copies"\ncheck = false\n[statistics]\nfolder = "{tmp_path}/stats"\n'
     (project.folder / "units.toml").write_text(f'{units}[page]\nfolder = "{tmp_path}/report"\n')
+    for name in ("report", "stats"):
+        (tmp_path / name).mkdir()
     assert "4 users, 1 of them named, and 3 computers" in project.tools("statistics")[1]
     assert "Chosen 1" in gzip.decompress((tmp_path / "stats" / "user.gz").read_bytes()).decode()
     assert project.tools("report")[0] == 0
@@ -403,7 +407,10 @@ def test_as_root_the_files_keep_the_projects_owner(project: MadeProject, tmp_pat
     tmp_path.chmod(0o755)
     for parent in tmp_path.parents[:2]:
         parent.chmod(0o755)
-    for path in (project.folder, *project.folder.iterdir()):
+    web = [tmp_path / "web" / name for name in ("report", "stats")]
+    for path in web:
+        path.mkdir(parents=True)
+    for path in (project.folder, *project.folder.iterdir(), *web):
         os.chown(path, 65534, 65534)
     assert project.tools("copy")[0] == 0
     units = f'[copy]\nfolder = "copies"\n[page]\nfolder = "{tmp_path}/web/report"\n'
