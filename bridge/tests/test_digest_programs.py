@@ -16,7 +16,8 @@ from bridges import Bridge
 from joining import wait_until
 from messages import FIRST, names, value
 from test_report_checks import reported, worked
-from uploading import on_disk, report, sha256_of
+from test_upload_owners import send
+from uploading import NEVER, on_disk, report, sha256_of
 
 from bsched_bridge import __main__ as command
 from bsched_bridge import current_catalogue, digest_programs, digest_queue
@@ -31,6 +32,7 @@ from bsched_bridge.digest_programs import (
     tried_on_odd_files,
 )
 from bsched_bridge.digest_queue import DigestQueue
+from bsched_bridge.handed_out import HandedOut
 from bsched_bridge.operator_files import OperatorFault
 from bsched_bridge.output_files import OutputFile
 
@@ -353,6 +355,18 @@ def test_the_outcome_outlives_the_bridge(digest_bridge: Bridge) -> None:
     digest_bridge.restart()
     replaced(digest_bridge, "echo another")
     assert reported(digest_bridge, body)[1].startswith("any_order sha256:")
+
+
+def test_no_other_file_comes_for_a_result_that_waits(digest_bridge: Bridge) -> None:
+    """Its files are stored, so its token has ended. After the report they are not those of an error."""
+    data = b"one\n"
+    body = report("u1_0", worked(digest_bridge, data))
+    put_off(digest_bridge, body)
+    assert send(digest_bridge, "u1_0_0", b"two\n") == NEVER
+    assert reported(digest_bridge, body)[0] == 0
+    job = HandedOut(digest_bridge.store.tables).job("u1_0")
+    assert job is not None and job.is_stored and not job.is_ended
+    assert on_disk(digest_bridge.folder) == {f"store/{sha256_of(data)}": data}
 
 
 def test_a_program_that_fails_puts_the_report_off(
