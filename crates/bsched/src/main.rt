@@ -9,7 +9,7 @@
 mod tests;
 
 use command_line::{Order, OrderFault, order_of};
-use commands::{Failure, Performed, perform};
+use commands::{Failure, SystemFiles, perform};
 use sqlite::Unknown;
 use std::io::Write;
 use std::process::ExitCode;
@@ -48,8 +48,8 @@ fn ordered(rt: &HostRuntime, order: Result<Order, OrderFault>) -> io::Result<Exi
 
 /// Carries out an order. What the tables' file holds is not known: the contract of [`perform`] holds for anything.
 fn carried_out(rt: &HostRuntime, order: &Order) -> io::Result<ExitCode> {
-    let Performed { ended, left: _left } = perform(rt, order, Unknown);
-    match ended {
+    let performed = perform(rt, order, &SystemFiles, Unknown);
+    match performed.ended {
         Ok(outcome) => Ok(ExitCode::from(outcome.status())),
         Err(failure) => failed(rt, failure),
     }

@@ -6,6 +6,7 @@ mod jobs;
 mod judging;
 mod lapses;
 mod messages;
+mod orders;
 mod quotas;
 mod refusals;
 mod rows;

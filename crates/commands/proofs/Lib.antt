@@ -1,3 +1,4 @@
+mod Leftovers
 mod Messages
 mod Stores
 mod Databases

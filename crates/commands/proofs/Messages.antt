@@ -12,17 +12,18 @@ use Rattle.commands.specs.declared.answering.Task.{Task}
 use Rattle.commands.specs.declared.answering.Task.TheVariants as task
 use Rattle.commands.specs.declared.ending.Failure.{Failure}
 use Rattle.commands.specs.declared.ending.Ending.{Ending}
+use Rattle.commands.specs.declared.files.Files as files
 
 -- no message was handled, and the task failed
-pub none_of : (t : Task) (why : Failure) → AreOf t (Err why) []
-none_of (task.Serve port count) why = omega arith
-none_of (task.Import kind batch file) why = tt
-none_of (task.Tick at) why = tt
-none_of (task.Statement host) why = tt
+pub none_of : {F : Type 0} (f : files.Ghosts F) (t : Task) (why : Failure) → AreOf f t (Err why) []
+none_of f (task.Serve port count) why = omega arith
+none_of f (task.Import kind batch file) why = tt
+none_of f (task.Tick at) why = tt
+none_of f (task.Statement host) why = tt
 
 -- a message that arrived so is the one of its order
-pub one_of : (ended : Result Ending Failure) (c : Came) (now : ℕ) (bytes : List ℕ) (Is : List ℕ → Type 0) → HasArrived now bytes c → Is bytes → IsOne ended now Is (c ∷ [])
-one_of ended c now bytes Is arrived is = (arrived.now_is, subst Is (sym arrived.bytes_are) is)
+pub one_of : (ended : Result Ending Failure) (c : Came) (now : ℕ) (bytes : List ℕ) (Is : List ℕ → Type 0) → HasArrived now bytes ended c → Is bytes → IsOne ended now Is (c ∷ [])
+one_of ended c now bytes Is arrived is = (arrived.now_is, subst Is (sym arrived.bytes_are) is, arrived.ends)
 
 -- what became of a connection, by the result of serving it
 pub connection_served : {S : Type 0} (store : Parts S) (now : ℕ) (before after : Option (List ℕ)) (Whole Front : List ℕ → Type 0) (W : Type 0) (old new : Service S)

@@ -4,14 +4,14 @@ ghost use Rattle.std.specs.Prelude.{◌≡◌, ◌≤◌, ◌∷◌, [], List, l
 ghost use Rattle.std.specs.String.{string_bytes};
 ghost use Rattle.sched_server.specs.Arrivals.{Came};
 ghost use Rattle.sched_server.specs.Serving.{ServesInTurn};
+ghost use Rattle.commands.specs.Endings.{EndsBy};
 ghost use Rattle.commands.specs.Messages.{AreOf, IsImport, IsTick, IsStatement, IsOne, HasArrived};
 
 use crate::ending::{Ending, Failure};
-use crate::files::bytes_of;
+use crate::files::Files;
 use crate::serving::serve_on;
 use http_requests::{import_request, statement_request, tick_request};
 use http_responses::Media;
-use http_serving::Handler;
 use sched_book::Moment;
 use sched_book::limits::MOST_IMPORT_BYTES;
 use sched_server::{Answer, Service};
@@ -43,16 +43,17 @@ pub(crate) enum Task<'a> {
 }
 
 /// Does a task. The service handles the messages of the task, or some first part of them.
-pub(crate) fn perform_by<S: Store>(
+pub(crate) fn perform_by<F: Files, S: Store>(
     rt: &HostRuntime,
+    files: &F,
     service: &mut Service<S>,
     task: &Task<'_>,
 ) -> Result<Ending, Failure>
-    ensures { (came : List Came) × AreOf task.now result came × ServesInTurn S.Store came service.old service.new }
+    ensures { (came : List Came) × AreOf F.Files task.now result came × ServesInTurn S.Store came service.old service.new }
 {
     match task {
         Task::Serve { port, count } => serve(rt, service, *port, *count),
-        Task::Import { kind, batch, file } => import(rt, service, kind, batch, file),
+        Task::Import { kind, batch, file } => import(rt, files, service, kind, batch, file),
         Task::Tick { at } => tick(rt, service, *at),
         Task::Statement { host } => statement(rt, service, *host),
     }
@@ -72,31 +73,33 @@ fn serve<S: Store>(
     Ok(Ending::Done)
 }
 
-/// Imports the batch in a file. Its moment is 0, since an import does not depend on it.
-fn import<S: Store>(
+/// Imports the batch in a file.
+fn import<F: Files, S: Store>(
     rt: &HostRuntime,
+    files: &F,
     service: &mut Service<S>,
     kind: &str,
     batch: &str,
     file: &str,
 ) -> Result<Ending, Failure>
-    ensures { (came : List Came) × IsOne result 0 (IsImport kind.now batch.now) came × ServesInTurn S.Store came service.old service.new }
+    ensures { (came : List Came) × IsOne result 0 (IsImport F.Files kind.now batch.now file.now) came × ServesInTurn S.Store came service.old service.new }
 {
-    let message = import_message(rt, service.operator_key(), kind, batch, file)?;
-    answer(rt, service, 0, &message)
+    let message = import_message(rt, files, service.operator_key(), kind, batch, file)?;
+    answer(rt, service, any_moment(), &message)
 }
 
 /// The message that imports the batch in a file, with the operator's key.
-fn import_message(
+fn import_message<F: Files>(
     rt: &HostRuntime,
+    files: &F,
     key: &str,
     kind: &str,
     batch: &str,
     file: &str,
 ) -> Result<Vec<u8>, Failure>
-    ensures { IfOk result (λ message. IsImport kind.now batch.now message.items) }
+    ensures { IfOk result (λ message. IsImport F.Files kind.now batch.now file.now message.items) }
 {
-    let text = bytes_of(rt, file, MOST_IMPORT_BYTES)?;
+    let text = files.bytes(rt, file, MOST_IMPORT_BYTES)?;
     let message = import_request(rt.alloc(), key, kind, batch, &text)?;
     Ok(message)
 }
@@ -106,7 +109,7 @@ fn tick<S: Store>(rt: &HostRuntime, service: &mut Service<S>, at: Moment) -> Res
     ensures { (came : List Came) × IsOne result at IsTick came × ServesInTurn S.Store came service.old service.new }
 {
     let message = tick_request(rt.alloc(), service.operator_key())?;
-    answer(rt, service, at.seconds(), &message)
+    answer(rt, service, at, &message)
 }
 
 /// Prints the statement of a host.
@@ -118,7 +121,7 @@ fn statement<S: Store>(
     ensures { (came : List Came) × IsOne result 0 (IsStatement host) came × ServesInTurn S.Store came service.old service.new }
 {
     let message = statement_message(rt.alloc(), service.operator_key(), host)?;
-    answer(rt, service, 0, &message)
+    answer(rt, service, any_moment(), &message)
 }
 
 /// The message that asks for the statement of a host, with the operator's key.
@@ -137,21 +140,30 @@ fn number_text(alloc: Global, number: u32) -> Result<String, Memory>
     format!(in alloc; "{number}")
 }
 
-/// Passes a message to the service at a moment, in seconds since 1970-01-01T00:00:00Z, and prints the body of the answer.
+/// The moment of a message that does not depend on one: the beginning of 1970.
+fn any_moment() -> Moment
+    ensures { result ≡ 0 }
+{
+    Moment::new(0).unwrap()
+}
+
+/// Passes a message to the service at a moment, and prints the body of the answer.
 fn answer<S: Store>(
     rt: &HostRuntime,
     service: &mut Service<S>,
-    now: u64,
+    now: Moment,
     message: &[u8],
 ) -> Result<Ending, Failure>
-    ensures { (c : Came) × HasArrived now message.now c × ServesInTurn S.Store (c ∷ []) service.old service.new }
+    ensures { (c : Came) × HasArrived now message.now result c × ServesInTurn S.Store (c ∷ []) service.old service.new }
 {
-    let answer = Handler::handle(service, rt.alloc(), now, message);
+    let answer = Service::handle(service, rt.alloc(), now, message);
     outcome_of(rt, &answer)
 }
 
 /// Prints the body of an answer, and says how its order ended.
-fn outcome_of(rt: &HostRuntime, answer: &Answer) -> Result<Ending, Failure> {
+fn outcome_of(rt: &HostRuntime, answer: &Answer) -> Result<Ending, Failure>
+    ensures { EndsBy answer.now result }
+{
     print(rt, answer)?;
     match answer {
         Answer::Unavailable => Err(Failure::Unavailable),

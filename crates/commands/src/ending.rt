@@ -1,10 +1,11 @@
 //! How an order ends.
 
-ghost use Rattle.std.specs.Prelude.{◌≡◌, Some, None};
+ghost use Rattle.std.specs.Prelude.{◌≡◌};
+ghost use Rattle.commands.specs.Endings.{status_of_ending, status_of_failure};
 
 use replay_lines::Ended;
-use sched_tables::{OpenFault, OpenRefusal};
-use sqlite::{Alter, Error, ErrorCode};
+use sched_tables::OpenFault;
+use sqlite::{Error, ErrorCode};
 use std::io::ErrorKind;
 use std::{fmt, io};
 use texts::Memory;
@@ -20,7 +21,9 @@ pub enum Ending {
 
 impl Ending {
     /// The exit status of a program that ends so.
-    pub fn status(self) -> u8 {
+    pub fn status(self) -> u8
+        ensures { result ≡ status_of_ending self }
+    {
         match self {
             Ending::Done => 0,
             Ending::Refused => 1,
@@ -45,7 +48,9 @@ pub enum Failure {
 
 impl Failure {
     /// The exit status of a program that ends so.
-    pub fn status(self) -> u8 {
+    pub fn status(self) -> u8
+        ensures { result ≡ status_of_failure self }
+    {
         match self {
             Failure::Settings | Failure::File | Failure::OldSchema | Failure::Line(_) => 1,
             Failure::Unavailable => 2,
@@ -101,38 +106,57 @@ impl From<OpenFault> for Failure {
     }
 }
 
-impl<S: Alter + Drop> From<OpenRefusal<S>> for Failure {
-    fn from(refused: OpenRefusal<S>) -> Failure {
-        Failure::from(OpenFault::from(refused))
-    }
+/// What an order leaves of the files of its tables. They are closed when this is dropped.
+#[derive(Drop)]
+pub enum Left<S, R> {
+    /// It opened none: it has no tables, or something was in its way before.
+    Nothing,
+    /// It opened them, and could not make or open tables. This is left.
+    Refused(R),
+    /// The store under the tables, after the order.
+    Tables(S),
 }
 
 /// What an order came to.
 #[derive(Drop)]
-pub struct Performed<S> {
+pub struct Performed<S, R> {
     /// How it ended.
     pub ended: Result<Ending, Failure>,
-    /// The store under its tables, if they could be opened. The files are closed when this is dropped.
-    pub left: Option<S>,
+    /// What it leaves of the files of its tables.
+    pub left: Left<S, R>,
 }
 
-impl<S> Performed<S> {
+impl<S, R> Performed<S, R> {
     /// An order that opened no tables.
-    pub(crate) fn without_tables(ended: Result<Ending, Failure>) -> Performed<S>
+    pub(crate) fn without_tables(ended: Result<Ending, Failure>) -> Performed<S, R>
         ensures ended { result.ended ≡ ended }
-        ensures left { result.left ≡ None }
-    {
-        Performed { ended, left: None }
-    }
-
-    /// An order that leaves a store.
-    pub(crate) fn leaving(ended: Result<Ending, Failure>, left: S) -> Performed<S>
-        ensures ended { result.ended ≡ ended }
-        ensures left { result.left ≡ Some left }
+        ensures left { result.left ≡ Left.Nothing }
     {
         Performed {
             ended,
-            left: Some(left),
+            left: Left::Nothing,
+        }
+    }
+
+    /// An order that could not make or open its tables.
+    pub(crate) fn refused(failure: Failure, rest: R) -> Performed<S, R>
+        ensures ended { result.ended ≡ Err failure }
+        ensures left { result.left ≡ Left.Refused rest }
+    {
+        Performed {
+            ended: Err(failure),
+            left: Left::Refused(rest),
+        }
+    }
+
+    /// An order that leaves the store under its tables.
+    pub(crate) fn leaving(ended: Result<Ending, Failure>, store: S) -> Performed<S, R>
+        ensures ended { result.ended ≡ ended }
+        ensures left { result.left ≡ Left.Tables store }
+    {
+        Performed {
+            ended,
+            left: Left::Tables(store),
         }
     }
 }

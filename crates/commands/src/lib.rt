@@ -15,7 +15,8 @@ mod orders;
 mod replaying;
 mod serving;
 
-pub use ending::{Ending, Failure, Performed};
-pub use orders::perform;
+pub use ending::{Ending, Failure, Left, Performed};
+pub use files::{Files, Opened, SystemFiles};
+pub use orders::{OfFiles, perform};
 pub use replaying::default_settings;
 pub use serving::serve_on;

@@ -1,49 +1,63 @@
 //! The orders of an operator.
 
-ghost use Rattle.std.specs.Prelude.{IfSome, OnOk, IsSome, IfOk};
-ghost use Rattle.sched_book.specs.Limits.{AreSettingsInLimits};
+ghost use Rattle.std.specs.Prelude.{◌≡◌, ◌≢◌, Err, IfOk, IfErr, OnOk};
 ghost use Rattle.sqlite_wal.specs.Files.{image_at};
-ghost use Rattle.sqlite_store.specs.FileStore.{view};
-ghost use Rattle.commands.specs.Files.{LeavesFiles, KeepsFiles, HasTables};
+ghost use Rattle.commands.specs.Files.{LeavesFiles, KeepsFiles, HasTables, SaysSettings, in_files as left_in_files, left_of_opening};
 
 use crate::answering::Task;
 use crate::database::{Action, perform_on};
-use crate::ending::{Failure, Performed};
-use crate::files::settings_in;
-use crate::new_file::make_file;
+use crate::ending::{Failure, Left, Performed};
+use crate::files::Files;
 use crate::replaying::replay_input;
 use command_line::Order;
 use sched_book::Settings;
-use sqlite::{Connection, FileFrom, FileStore, Start};
-use std::fs;
+use sqlite::{FileFrom, FileStore, Leftover, Start};
 
-/// Does what an order says. `start` stands for what the tables' file holds, which no code can read: `main` passes
-/// [`sqlite::Unknown`].
+/// What an order came to with the files of a system.
+pub type OfFiles<B> = Performed<FileStore<FileFrom<B>>, Leftover<FileFrom<B>>>;
+
+/// Does what an order says, with the files of a system. `start` stands for what the tables' file holds, which no code can
+/// read: `main` passes [`sqlite::Unknown`].
 ///
 /// Suppose that what the file held agreed with some messages and their answers. Then what a stop at any moment leaves of
 /// the file can be opened, and agrees with them and with the messages that the order handled, or with these and one
-/// message in doubt. New tables agree with no message. Upgraded ones agree with what they agreed with. The premise is
-/// that the disk returns what was written.
+/// message in doubt. New tables agree with no message, and are made only if the file held none. Upgraded ones agree with
+/// what they agreed with. If tables could not be opened, what a stop leaves is what the file held. The premise is that the
+/// disk returns what was written.
 ///
-/// The clauses speak of a file that could be opened and had tables. An order that fails before that hands over nothing.
+/// A call of the system that never returns leaves what one leaves that fails. So what is said of each return holds for a
+/// stop at any moment. Only if no file of tables was opened, nothing is left to speak of.
 ///
 /// # Errors
 ///
 /// The result says how the order ended: a [`Failure`] if a file, a socket or a stream failed, or if memory ran out.
-pub fn perform<B: Start>(
+pub fn perform<F: Files, B: Start>(
     rt: &HostRuntime,
     order: &Order,
+    files: &F,
     start: B,
-) -> Performed<FileStore<FileFrom<B>>>
-    ensures done { HasTables order.now → OnOk result.ended (IsSome result.left) }
-    ensures stands { IfSome result.left (LeavesFiles order.now result.ended (image_at B.Start)) }
+) -> OfFiles<B>
+    ensures opened { HasTables order.now → result.left ≡ Left.Nothing → OnOk result.ended ⊥ × F.Files.refuses }
+    ensures stands { result.left ≢ Left.Nothing → LeavesFiles F.Files order.now result.ended (image_at B.Start) result.left }
 {
     match order {
-        Order::Create { settings, tables } => match ready(rt, settings.as_str(), tables.as_str()) {
-            Ok(settings) => perform_in(rt, tables.as_str(), start, &Action::Create(&settings)),
-            Err(failure) => Performed::without_tables(Err(failure)),
-        },
-        Order::Upgrade { tables } => perform_in(rt, tables.as_str(), start, &Action::Upgrade),
+        Order::Create { settings, tables } => {
+            match ready(rt, files, settings.as_str(), tables.as_str()) {
+                Ok(settings) => {
+                    perform_in(
+                        rt,
+                        files,
+                        tables.as_str(),
+                        start,
+                        &Action::Create(&settings),
+                    )
+                }
+                Err(failure) => Performed::without_tables(Err(failure)),
+            }
+        }
+        Order::Upgrade { tables } => {
+            perform_in(rt, files, tables.as_str(), start, &Action::Upgrade)
+        }
         Order::Serve {
             tables,
             port,
@@ -53,7 +67,7 @@ pub fn perform<B: Start>(
                 port: *port,
                 count: *count,
             };
-            perform_in(rt, tables.as_str(), start, &Action::Handle(task))
+            perform_in(rt, files, tables.as_str(), start, &Action::Handle(task))
         }
         Order::Import {
             tables,
@@ -66,46 +80,80 @@ pub fn perform<B: Start>(
                 batch: batch.as_str(),
                 file: file.as_str(),
             };
-            perform_in(rt, tables.as_str(), start, &Action::Handle(task))
+            perform_in(rt, files, tables.as_str(), start, &Action::Handle(task))
         }
         Order::Tick { tables, at } => {
             let task = Task::Tick { at: *at };
-            perform_in(rt, tables.as_str(), start, &Action::Handle(task))
+            perform_in(rt, files, tables.as_str(), start, &Action::Handle(task))
         }
         Order::Statement { tables, host } => {
             let task = Task::Statement { host: *host };
-            perform_in(rt, tables.as_str(), start, &Action::Handle(task))
+            perform_in(rt, files, tables.as_str(), start, &Action::Handle(task))
         }
         Order::Replay { settings } => {
-            Performed::without_tables(replay_input(rt, settings.as_ref()))
+            Performed::without_tables(replay_input(rt, files, settings.as_ref()))
         }
     }
 }
 
 /// Reads the settings of new tables, and makes their file if there is none.
-fn ready(rt: &HostRuntime, settings: &str, tables: &str) -> Result<Settings, Failure>
-    ensures { IfOk result AreSettingsInLimits }
+fn ready<F: Files>(
+    rt: &HostRuntime,
+    files: &F,
+    settings: &str,
+    tables: &str,
+) -> Result<Settings, Failure>
+    ensures said { IfOk result (SaysSettings F.Files settings.now) }
+    ensures refused { IfErr result (λ _. F.Files.refuses) }
 {
-    let settings = settings_in(rt, settings)?;
-    make_file(rt, tables)?;
+    let settings = files.settings(rt, settings)?;
+    files.make(rt, tables)?;
     Ok(settings)
 }
 
 /// Opens the database in a file, and does an action with it. If there is no such file, none is made.
-fn perform_in<B: Start>(
+fn perform_in<F: Files, B: Start>(
     rt: &HostRuntime,
+    files: &F,
     path: &str,
     start: B,
     action: &Action<'_>,
-) -> Performed<FileStore<FileFrom<B>>>
-    ensures done { OnOk result.ended (IsSome result.left) }
-    ensures keeps { IfSome result.left (KeepsFiles action.now result.ended (image_at B.Start)) }
+) -> OfFiles<B>
+    ensures opened { result.left ≡ Left.Nothing → OnOk result.ended ⊥ × F.Files.refuses }
+    ensures keeps { result.left ≢ Left.Nothing → KeepsFiles F.Files action.now result.ended (image_at B.Start) result.left }
 {
-    if let Err(error) = fs::metadata(rt, path) {
-        return Performed::without_tables(Err(Failure::from(error)));
+    match files.open(rt, path, start) {
+        Ok(conn) => {
+            let Performed { ended, left } = perform_on(rt, files, conn, action);
+            Performed {
+                ended,
+                left: in_files(left),
+            }
+        }
+        Err((failure, rest)) => not_opened(failure, rest),
     }
-    match Connection::open_from(rt, path, false, start) {
-        Ok(conn) => perform_on(rt, conn, action),
-        Err((error, _left)) => Performed::without_tables(Err(Failure::from(error))),
+}
+
+/// What an order came to whose tables could not be opened, with what is left of their files if those were.
+fn not_opened<B: Start>(failure: Failure, rest: Option<Leftover<FileFrom<B>>>) -> OfFiles<B>
+    ensures ended { result.ended ≡ Err failure }
+    ensures left { result.left ≡ left_of_opening rest }
+{
+    match rest {
+        Some(rest) => Performed::refused(failure, rest),
+        None => Performed::without_tables(Err(failure)),
+    }
+}
+
+/// What is left of a store over files, as what is left of the files.
+fn in_files<B: Start>(
+    left: Left<FileStore<FileFrom<B>>, FileStore<FileFrom<B>>>,
+) -> Left<FileStore<FileFrom<B>>, Leftover<FileFrom<B>>>
+    ensures { result ≡ left_in_files left }
+{
+    match left {
+        Left::Nothing => Left::Nothing,
+        Left::Refused(store) => Left::Refused(Leftover::Store(store)),
+        Left::Tables(store) => Left::Tables(store),
     }
 }

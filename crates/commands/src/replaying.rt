@@ -4,7 +4,7 @@ ghost use Rattle.std.specs.Prelude.{IfOk};
 ghost use Rattle.sched_book.specs.Limits.{AreSettingsInLimits};
 
 use crate::ending::{Ending, Failure, ended};
-use crate::files::settings_in;
+use crate::files::Files;
 use replay_lines::replay;
 use sched_book::Settings;
 use sched_server::Service;
@@ -16,9 +16,13 @@ use stores::Store;
 use texts::{Memory, Text};
 
 /// Answers the lines of standard input over tables in memory, with the settings in a file or the default ones.
-pub(crate) fn replay_input(rt: &HostRuntime, settings: Option<&Text>) -> Result<Ending, Failure> {
+pub(crate) fn replay_input<F: Files>(
+    rt: &HostRuntime,
+    files: &F,
+    settings: Option<&Text>,
+) -> Result<Ending, Failure> {
     let settings = match settings {
-        Some(path) => settings_in(rt, path.as_str())?,
+        Some(path) => files.settings(rt, path.as_str())?,
         None => default_settings(rt.alloc())?,
     };
     replay_under(rt, &settings)

@@ -18,8 +18,9 @@ use Rattle.sched_server.specs.Arrivals.{Answered, IsPastOf, answered, StandsFor}
 use Rattle.sched_server.specs.Laws.{NewStoresStand, UpgradedStands}
 use Rattle.sched_server.proofs.Stopped.{left_stands}
 
-begun : (settings : Settings) (held : Held) → IsNew settings held → AreSettingsInLimits settings → StandsFor settings.operator_key held (new_upgrade_points this_era) []
-begun settings held new limits = record {
+-- what new tables hold agrees with no messages
+pub new_held_stands : (settings : Settings) (held : Held) → IsNew settings held → AreSettingsInLimits settings → StandsFor settings.operator_key held (new_upgrade_points this_era) []
+new_held_stands settings held new limits = record {
   past = [];
   tells = tt;
   in_era = new_pasts_are_in_era this_era;
@@ -33,7 +34,7 @@ pub new_stores_stand : {S : Type 0} (store : Parts S)
     → ((s : S) → store.honest s → store.well_kept s → Sound (store.holds s).world → (h : Held) → store.may_leave s h → IsLeft (store.holds s) h)
     → NewStoresStand store
 new_stores_stand store settled s settings honest kept new limits =
-    let stands = begun settings (store.holds s) new limits in record {
+    let stands = new_held_stands settings (store.holds s) new limits in record {
       held = λ _. (kept, stands);
       left = λ h may. inl (left_stands settings.operator_key (store.holds s) h (new_upgrade_points this_era) [] (settled s honest kept stands.sound.world h may) stands);
     }

@@ -4,7 +4,7 @@ mod Handled
 mod Followed
 pub mod Stopped
 pub mod Served
-mod Begun
+pub mod Begun
 mod Lasting
 mod Owners
 mod Former

@@ -74,7 +74,8 @@ module _ {S : Type 0} (store : Parts S)
   under_key : (key other points : List ℕ) (before : List Came) (s : S) → key ≡ other → StoreStandsFor store key points before s → StoreStandsFor store other points before s
   under_key key other points before s same st = subst (λ k. StoreStandsFor store k points before s) same st
 
-  one_served : (old new : Service S) (now : ℕ) (bytes text : List ℕ) (does : Does store old now bytes text new)
+  -- it served one message with the answer that it gave
+  pub one_served : (old new : Service S) (now : ℕ) (bytes text : List ℕ) (does : Does store old now bytes text new)
       → ServesOne store (record { arrival = record { now = now; bytes = bytes }; answer = does.answer }) old new
   one_served old new now bytes text does =
       let stood : (key points : List ℕ) (before : List Came) → ServiceStandsFor store key points before old → store.clean (store_of new) → store.honest (store_of old)

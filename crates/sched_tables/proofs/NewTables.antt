@@ -1,5 +1,5 @@
 -- New tables hold the empty world, and keep nothing.
-use Rattle.std.proofs.Common.{◌≡◌, List, [], None, false, option_map, subst, sym, ap, ◌∙◌}
+use Rattle.std.proofs.Common.{◌≡◌, List, [], None, false, option_map, refl, subst, sym, ap, ◌∙◌, inl, inr, arith}
 use Rattle.stores.specs.Held.{IsNew}
 use Rattle.stores.specs.Kinds.{kind_name}
 use Rattle.sched_tables.specs.Entries.{kept_batch}
@@ -7,7 +7,12 @@ use Rattle.sched_tables.specs.Slots.{calls_in_slots}
 use Rattle.sched_tables.specs.Views.{held_in}
 use Rattle.std.proofs.lemmas.List.Elements.{All-nil}
 use Rattle.sqlite.specs.Effect.{Database}
-use Rattle.sqlite.specs.State.{State}
+use Rattle.sqlite.specs.Held.{Held, state}
+use Rattle.sqlite.specs.State.{State, Survives}
+use Rattle.sqlite_trees.specs.View.{IsQuiet}
+use Rattle.sqlite_trees.specs.declared.store.Store.{Ghosts}
+use Rattle.table_meaning.specs.Schema.{no_schema}
+use Rattle.sched_tables.specs.Making.{AreNewTables, IsRestOfMaking}
 use Rattle.sched_book.specs.Sound.{Sound}
 use Rattle.sched_book.specs.Step.{empty_world}
 use Rattle.sched_book.specs.declared.rows.App.{App}
@@ -71,3 +76,27 @@ module _ (s : Settings) (st : State) (rests : st.now ≡ st.committed) (just : H
     calls_are = λ host. ap calls_in_slots (λ i slot. calls_back st.now (empty_world s) (λ _ _. None) (λ _ _. None) held host slot i);
     batches_are = λ kind batch. ap (option_map kept_batch) (batches_back st.now (empty_world s) (λ _ _. None) (λ _ _. None) held (kind_name kind) batch);
   }
+
+-- ---- tables that could not be made
+
+-- a database with just the rows of the settings is new tables
+new_tables : (s : Settings) (some : State) (db : Database) → HoldJust db (setting_rows s) → Sound (empty_world s) → HaveUtf8 (setting_rows s) → AreNewTables s db
+new_tables s some db just sound utf8 =
+    let st : State = record some { now = db; committed = db } in record { new = new_held s st refl just; opens = new_can_be_opened s st refl just sound utf8 }
+
+module _ {S : Type 0} (g : Ghosts S) (s : Settings) (old new : Held S) (rest : S) (quiet : IsQuiet g.view g.faults g.recovers g.is_shielded new.store rest) where
+  -- the rest of a connection in which tables were made, or not
+  pub rest_of_making : Survives (state g old) (state g new)
+      (λ trees. ((state g old).now.schema ≡ no_schema) × HaveUtf8 (setting_rows s) × (db : Database) × HoldJust db (setting_rows s) × (trees ≡ db.trees))
+      → IsRestOfMaking g s (state g old) rest
+  rest_of_making survives = record {
+    clean = λ clean. omega (arith, survives.clean, quiet.clean, clean);
+    left = λ sound clean trees may. elim (survives.crash (omega (arith, quiet.clean, clean)) trees (quiet.outcomes trees may)) [
+      | inl before ↦ inl before
+      | inr made ↦ inr (made.0, made.2, sym made.4, new_tables s (state g old) made.2 made.3 sound made.1)
+    ];
+  }
+
+-- a connection in which nothing was done
+pub rest_of_none : {S : Type 0} (g : Ghosts S) (s : Settings) (conn : Held S) (rest : S) → IsQuiet g.view g.faults g.recovers g.is_shielded conn.store rest → IsRestOfMaking g s (state g conn) rest
+rest_of_none g s conn rest quiet = record { clean = λ clean. omega (arith, quiet.clean, clean); left = λ sound clean trees may. inl (quiet.outcomes trees may) }

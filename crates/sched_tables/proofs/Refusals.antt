@@ -116,28 +116,28 @@ pub told_by_schema : {S : Type 0} (store : Ghosts S) (db : Database) (r : OpenRe
 told_by_schema store db (refused.NotTables c) old other neither fits = λ clean. record { not_newest = λ newest. other c refl clean newest.known.schema; not_earlier = neither c refl clean }
 told_by_schema store db (refused.OldSchema n c) old other neither fits = old n c refl
 told_by_schema store db (refused.BadRow c) old other neither fits = absurd (fits c refl)
-told_by_schema store db (refused.Unavailable cause) old other neither fits = tt
+told_by_schema store db (refused.Unavailable cause rest) old other neither fits = tt
 
 -- a refusal for a fault in reading tables of the newest schema
 pub told_by_rows : {S : Type 0} (store : Ghosts S) (db : Database) (e : OpenFault) (conn : Held S) → ((n : ℕ) → e ≢ fault.OldSchema n) → (HasCleanDisk (state store conn) → AreKnown db)
     → (HasCleanDisk (state store conn) → e ≡ fault.NotTables → HasOtherSchema db.trees) → (HasCleanDisk (state store conn) → e ≡ fault.BadRow → HasBadTable db.trees ⊎ RepresentNone db.trees)
-    → (r : OpenRefusal S) → r ≡ refusal_for e conn → IfSome (given_back r) (λ c. HasCleanDisk (state store c) → AreRefusedFor (fault_of r) db)
-told_by_rows {S} store db e conn not_old known other bad r is =
+    → (r : OpenRefusal S) (rest : S) → r ≡ refusal_for e conn rest → IfSome (given_back r) (λ c. HasCleanDisk (state store c) → AreRefusedFor (fault_of r) db)
+told_by_rows {S} store db e conn not_old known other bad r rest is =
     subst (λ (r : OpenRefusal S). IfSome (given_back r) (λ c. HasCleanDisk (state store c) → AreRefusedFor (fault_of r) db)) (sym is) (cases e not_old other bad)
   where
     cases : (e : OpenFault) → ((n : ℕ) → e ≢ fault.OldSchema n) → (HasCleanDisk (state store conn) → e ≡ fault.NotTables → HasOtherSchema db.trees)
         → (HasCleanDisk (state store conn) → e ≡ fault.BadRow → HasBadTable db.trees ⊎ RepresentNone db.trees)
-        → IfSome (given_back (refusal_for e conn)) (λ c. HasCleanDisk (state store c) → AreRefusedFor (fault_of (refusal_for e conn)) db)
+        → IfSome (given_back (refusal_for e conn rest)) (λ c. HasCleanDisk (state store c) → AreRefusedFor (fault_of (refusal_for e conn rest)) db)
     cases fault.NotTables not_old other bad = λ clean. record { not_newest = λ newest. not_said db.trees (other clean refl) newest.said; not_earlier = none_earlier db (known clean) }
     cases (fault.OldSchema n) not_old other bad = absurd (not_old n refl)
     cases fault.BadRow not_old other bad = λ clean. record { known = known clean; rows = bad clean refl }
     cases (fault.Unavailable cause) not_old other bad = tt
 
 -- what holds of the connection of a refusal holds of the one that it gives back
-pub given_same : {S : Type 0} (P : Held S → Type 0) (e : OpenFault) (conn : Held S) → P conn → (r : OpenRefusal S) → r ≡ refusal_for e conn → IfSome (given_back r) P
-given_same {S} P e conn holds r is = subst (λ (r : OpenRefusal S). IfSome (given_back r) P) (sym is) (cases e)
+pub given_same : {S : Type 0} (P : Held S → Type 0) (e : OpenFault) (conn : Held S) → P conn → (r : OpenRefusal S) (rest : S) → r ≡ refusal_for e conn rest → IfSome (given_back r) P
+given_same {S} P e conn holds r rest is = subst (λ (r : OpenRefusal S). IfSome (given_back r) P) (sym is) (cases e)
   where
-    cases : (e : OpenFault) → IfSome (given_back (refusal_for e conn)) P
+    cases : (e : OpenFault) → IfSome (given_back (refusal_for e conn rest)) P
     cases fault.NotTables = holds
     cases (fault.OldSchema n) = holds
     cases fault.BadRow = holds
@@ -150,7 +150,7 @@ pub refused_for_all : {S : Type 0} (store : Ghosts S) → NeverFails store → (
 refused_for_all store never (refused.NotTables c) db told = told (never c.store).1
 refused_for_all store never (refused.OldSchema n c) db told = told (never c.store).1
 refused_for_all store never (refused.BadRow c) db told = told (never c.store).1
-refused_for_all store never (refused.Unavailable cause) db told = tt
+refused_for_all store never (refused.Unavailable cause rest) db told = tt
 
 -- ---- an empty database
 

@@ -13,3 +13,4 @@ pub mod Views
 pub mod Upgrading
 pub mod Laws
 pub mod ReopenLaws
+pub mod Making

@@ -1,5 +1,5 @@
 -- What a stop leaves of tables agrees with what they agree with, and so do tables that are opened.
-use Rattle.std.proofs.Common.{refl, sym, subst}
+use Rattle.std.proofs.Common.{refl, sym, subst, inl}
 use Rattle.sqlite.specs.Effect.{Database}
 use Rattle.sqlite.specs.State.{HasCleanDisk}
 use Rattle.sqlite_trees.specs.declared.store.Store.{Ghosts}
@@ -7,11 +7,12 @@ use Rattle.stores.specs.Acting.{Parts}
 use Rattle.stores.specs.Held.{Held, IsLeft}
 use Rattle.sched_server.specs.Arrivals.{StandsFor, StoreStandsFor}
 use Rattle.sched_server.specs.Laws.{ReopenedStands}
+use Rattle.sched_server.proofs.Begun.{new_held_stands}
 use Rattle.sched_tables.specs.Held.{IsHonest}
 use Rattle.sched_tables.specs.Stops.{MayBeFound}
 use Rattle.sched_tables.specs.Views.{state_of, held_in, held_of, AreKept}
 use Rattle.sched_tables.specs.declared.tables.Tables.{Tables}
-use Rattle.table_pasts.specs.Stops.{StoppedTablesStand, OpenedTablesStand}
+use Rattle.table_pasts.specs.Stops.{NewDatabasesStand, StoppedTablesStand, OpenedTablesStand}
 
 module _ {S : Type 0} (store : Ghosts S) (parts : Parts (Tables S)) where
   pub stopped_stand : ((t : Tables S) (h : Held) → MayBeFound (state_of store t) h → parts.may_leave t h) → StoppedTablesStand store parts
@@ -40,3 +41,6 @@ module _ {S : Type 0} (store : Ghosts S) (parts : Parts (Tables S)) where
         held = λ honest. (whole (honest_clean t honest)).held honest;
         left = λ h may. (whole (found_clean t h may)).left h may;
       }
+
+pub new_databases_stand : NewDatabasesStand
+new_databases_stand settings db limits new = record { opens = new.opens; stands = inl (new_held_stands settings (held_in db.trees) new.new limits) }

@@ -1,15 +1,19 @@
 -- Promise. What a stop leaves of tables can be opened, and what is opened agrees with the messages that came. (This project's own.)
-use Rattle.std.specs.Prelude.{◌≡◌, ◌⊎◌, ◌≤◌, ◌-◌, ℕ, List}
+use Rattle.std.specs.Prelude.{◌≡◌, ◌⊎◌, ◌≤◌, ◌-◌, ℕ, List, []}
 use Rattle.sqlite.specs.Effect.{Database, IsDatabase}
 use Rattle.sqlite.specs.State.{State, HasCleanDisk}
 use Rattle.sqlite_trees.specs.declared.store.Store.{Ghosts}
+use Rattle.sched_book.specs.Limits.{AreSettingsInLimits}
+use Rattle.sched_book.specs.declared.settings.Settings.{Settings}
 use Rattle.sched_book.specs.declared.world.World.{World}
 use Rattle.stores.specs.Acting.{Parts}
+use Rattle.stores.specs.Eras.{this_era, new_upgrade_points}
 use Rattle.table_meaning.specs.Schemas.{IsSchema}
 use Rattle.table_meaning.specs.Upgrades.{HoldWorldAt, IsLeftBehindWorld}
 use Rattle.table_meaning.specs.Worlds.{SlotCalls}
 use Rattle.sched_tables.specs.Commits.{Imports}
 use Rattle.sched_tables.specs.Held.{IsHonest}
+use Rattle.sched_tables.specs.Making.{AreNewTables}
 use Rattle.sched_tables.specs.Reopening.{CanBeOpened, Reopens}
 use Rattle.sched_tables.specs.Upgrading.{held_with}
 use Rattle.sched_tables.specs.Views.{state_of, held_in, AreKept}
@@ -60,3 +64,8 @@ StoppedUpgradesStand =
     → (n : ℕ) → IsSchema n → (w : World) (calls : SlotCalls) (batches : Imports) (key upgrade_points : List ℕ) (before : List Came)
     → HoldWorldAt n old w calls batches → StandsIn (n - 1) key (held_with w calls batches) upgrade_points before
     → StandSince n w calls batches key upgrade_points before db
+
+-- A database of new tables can be opened, and agrees with no arrivals.
+abbrev pub NewDatabasesStand : Type 0
+NewDatabasesStand =
+    (settings : Settings) (db : Database) → AreSettingsInLimits settings → AreNewTables settings db → OpensAndStands settings.operator_key (new_upgrade_points this_era) [] db

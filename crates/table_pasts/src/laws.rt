@@ -1,7 +1,7 @@
 //! Laws of tables and of messages. Each function does nothing; its contract is the law.
 
 ghost use Rattle.table_pasts.specs.Laws.{UpgradedTablesStand};
-ghost use Rattle.table_pasts.specs.Stops.{OpenedTablesStand, StoppedTablesStand, StoppedUpgradesStand};
+ghost use Rattle.table_pasts.specs.Stops.{NewDatabasesStand, OpenedTablesStand, StoppedTablesStand, StoppedUpgradesStand};
 
 use sched_server::laws::{former_worlds_are_unclassed, reopened_stands, upgraded_stands};
 use sched_tables::Tables;
@@ -42,3 +42,8 @@ pub fn stopped_upgrades_stand()
     former_worlds_are_unclassed();
     upgraded_stands();
 }
+
+/// A database of new tables can be opened, and agrees with no messages.
+pub fn new_databases_stand()
+    ensures { NewDatabasesStand }
+{}

@@ -4,5 +4,6 @@ pub mod LastNumbers
 pub mod PlainSchema
 pub mod Quiet
 pub mod Reopening
+pub mod Rests
 pub mod Visited
 mod Unrun

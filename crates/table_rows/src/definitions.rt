@@ -86,8 +86,8 @@ pub(crate) fn make_schema<S: Alter>(conn: &mut Connection<S>, schema: u32) -> Re
     Ok(())
 }
 
-/// Makes the tables with these rows, put in order, in a database that has none: all of them or nothing. Each text of
-/// the rows is in UTF-8.
+/// Makes the tables with these rows, put in order, in a database that is empty: all of them or nothing. Each text of
+/// the rows is in UTF-8. A database that is not empty stays as it is, also over a stop.
 pub fn create<S: Alter>(
     alloc: Global,
     conn: &mut Connection<S>,
@@ -96,6 +96,7 @@ pub fn create<S: Alter>(
     ensures was_open { HasCleanDisk (state S.Store conn.new) → IsTrue (state S.Store conn.new).is_open → IsTrue (state S.Store conn.old).is_open }
     ensures open { HasCleanDisk (state S.Store conn.new) → OnOk result (IsTrue (state S.Store conn.new).is_open) }
     ensures idle { OnOk result ((state S.Store conn.new).in_transaction ≡ false) }
+    ensures empty { OnOk result ((state S.Store conn.old).now.schema ≡ no_schema) }
     ensures made { HasCleanDisk (state S.Store conn.new) → OnOk result (HoldJust (state S.Store conn.new).committed rows.now) }
     ensures utf8 { OnOk result (HaveUtf8 rows.now) }
     ensures rest { HasCleanDisk (state S.Store conn.new) → OnOk result ((state S.Store conn.new).now ≡ (state S.Store conn.new).committed) }
@@ -104,7 +105,8 @@ pub fn create<S: Alter>(
     ensures never_old { IfErr result (λ e. (n : ℕ) → e ≢ OpenFault.OldSchema n) }
     ensures neither { HasCleanDisk (state S.Store conn.new) → IsTrue (state S.Store conn.new).is_open
         → OnErr result (((state S.Store conn.new).now ≡ (state S.Store conn.old).now) × ((state S.Store conn.new).committed ≡ (state S.Store conn.old).committed)) }
-    ensures crash { Survives (state S.Store conn.old) (state S.Store conn.new) (λ trees. (db : _) × HoldJust db rows.now × (trees ≡ db.trees)) }
+    ensures crash { Survives (state S.Store conn.old) (state S.Store conn.new)
+        (λ trees. ((state S.Store conn.old).now.schema ≡ no_schema) × HaveUtf8 rows.now × (db : _) × HoldJust db rows.now × (trees ≡ db.trees)) }
 {
     if !conn.is_autocommit() {
         return Err(OpenFault::Unavailable(Cause::Broken(Invariant::NoTransaction)));

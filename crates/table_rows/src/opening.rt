@@ -3,13 +3,13 @@
 ghost use Rattle.std.specs.Prelude.{◌≡◌, ◌≢◌, ℕ, IfOk, IfErr, IfSome};
 ghost use Rattle.std.specs.List.{AllByRecursion};
 ghost use Rattle.sqlite_trees.specs.declared.store.Shape.TheVariants.{Table as TableTree};
-ghost use Rattle.sqlite_trees.specs.View.{IsShaped};
+ghost use Rattle.sqlite_trees.specs.View.{IsQuiet, IsShaped};
 ghost use Rattle.sqlite.specs.Held.{Held, state};
 ghost use Rattle.sqlite.specs.State.{HasCleanDisk, IsLive, Opens};
 ghost use Rattle.table_meaning.specs.Schema.{stored_schema};
 ghost use Rattle.table_meaning.specs.Schemas.{IsEarlier, AreKnownAt, AreEarlier};
 ghost use Rattle.table_meaning.specs.Holding.{AreKnown};
-ghost use Rattle.table_rows.specs.Refusing.{given_back, refusal_for, HasNoTransaction};
+ghost use Rattle.table_rows.specs.Refusing.{fault_of, given_back, refusal_for, rest_of, HasNoTransaction, IsRestOf};
 ghost use Rattle.table_rows.specs.declared.opening.OpenRefusal.TheVariants as refused;
 
 use crate::connection::test_open;
@@ -131,20 +131,45 @@ pub enum OpenRefusal<S: Alter> {
     OldSchema(u32, Connection<S>),
     /// A row does not have the form of its table, or has a value out of range. The connection was opened anew.
     BadRow(Connection<S>),
-    /// Something failed that says nothing of the tables, such as memory or the disk.
-    Unavailable(Cause),
+    /// Something failed that says nothing of the tables, such as memory or the disk. The store was under the connection.
+    Unavailable(Cause, S),
 }
 
 impl<S: Alter + Drop> OpenRefusal<S> {
-    /// The refusal of this connection for this fault. If memory or the disk failed, the connection is dropped.
+    /// The refusal of this connection for this fault. If memory or the disk failed, it has the store under the connection.
     pub fn of(fault: OpenFault, conn: Connection<S>) -> OpenRefusal<S>
-        ensures { result ≡ refusal_for fault conn }
+        ensures given { (store : S) × (result ≡ refusal_for fault conn store) }
+        ensures rest { IsQuiet S.Store.view S.Store.faults S.Store.recovers S.Store.is_shielded conn.store (rest_of result) }
     {
         match fault {
             OpenFault::NotTables => OpenRefusal::NotTables(conn),
             OpenFault::OldSchema(schema) => OpenRefusal::OldSchema(schema, conn),
             OpenFault::BadRow => OpenRefusal::BadRow(conn),
-            OpenFault::Unavailable(cause) => OpenRefusal::Unavailable(cause),
+            OpenFault::Unavailable(cause) => OpenRefusal::Unavailable(cause, conn.into_store()),
+        }
+    }
+
+    /// The fault for which the tables are refused.
+    pub fn fault(&self) -> OpenFault
+        ensures { result ≡ fault_of self.now }
+    {
+        match self {
+            OpenRefusal::NotTables(_) => OpenFault::NotTables,
+            OpenRefusal::OldSchema(schema, _) => OpenFault::OldSchema(*schema),
+            OpenRefusal::BadRow(_) => OpenFault::BadRow,
+            OpenRefusal::Unavailable(cause, _) => OpenFault::Unavailable(*cause),
+        }
+    }
+
+    /// Gives the store back, which was under the connection. A stop leaves of it only what it could leave of the refusal.
+    pub fn into_store(self) -> S
+        ensures { IsQuiet S.Store.view S.Store.faults S.Store.recovers S.Store.is_shielded (rest_of self) result }
+    {
+        match self {
+            OpenRefusal::NotTables(conn) => conn.into_store(),
+            OpenRefusal::OldSchema(_, conn) => conn.into_store(),
+            OpenRefusal::BadRow(conn) => conn.into_store(),
+            OpenRefusal::Unavailable(_, store) => store,
         }
     }
 }
@@ -156,33 +181,29 @@ impl<S: Alter + Drop> From<OpenRefusal<S>> for OpenFault {
     ghost from_gives = { λ refused e. e ≡ fault_of refused };
 
     fn from(refused: OpenRefusal<S>) -> OpenFault {
-        match refused {
-            OpenRefusal::NotTables(_) => OpenFault::NotTables,
-            OpenRefusal::OldSchema(schema, _) => OpenFault::OldSchema(schema),
-            OpenRefusal::BadRow(_) => OpenFault::BadRow,
-            OpenRefusal::Unavailable(cause) => OpenFault::Unavailable(cause),
-        }
+        refused.fault()
     }
 }
 
-/// Opens the connection anew over its store, if the store is open. What was not committed is gone, and the numbers of
+/// Opens the connection anew over its store, or gives the store back. What was not committed is gone, and the numbers of
 /// each table's rows rise.
-fn reopened<S: Alter + Drop>(alloc: Global, conn: Connection<S>) -> Option<Connection<S>>
-    ensures opens { IfSome result (λ c. HasCleanDisk (state S.Store c) → Opens (state S.Store c) × IsLive (state S.Store c)) }
-    ensures ordered { IfSome result (λ c. HasCleanDisk (state S.Store c)
+fn reopened<S: Alter + Drop>(alloc: Global, conn: Connection<S>) -> Result<Connection<S>, S>
+    ensures opens { IfOk result (λ c. HasCleanDisk (state S.Store c) → Opens (state S.Store c) × IsLive (state S.Store c)) }
+    ensures ordered { IfOk result (λ c. HasCleanDisk (state S.Store c)
         → AllByRecursion (λ t. IsShaped TableTree ((state S.Store c).now.trees t.tree)) (state S.Store c).now.schema.tables) }
-    ensures same { IfSome result (λ c. HasCleanDisk (state S.Store c) → (state S.Store c).now ≡ (state S.Store conn).committed) }
-    ensures clean { IfSome result (λ c. HasCleanDisk (state S.Store c) → HasCleanDisk (state S.Store conn)) }
+    ensures same { IfOk result (λ c. HasCleanDisk (state S.Store c) → (state S.Store c).now ≡ (state S.Store conn).committed) }
+    ensures clean { IfOk result (λ c. HasCleanDisk (state S.Store c) → HasCleanDisk (state S.Store conn)) }
+    ensures rest { IfErr result (IsRestOf S.Store (state S.Store conn)) }
 {
     let _schema = conn.schema();
     let store = conn.into_store();
     if store.is_broken() {
-        return None;
+        return Err(store);
     }
-    let Ok(conn) = Connection::over(alloc, store) else {
-        return None;
-    };
-    Some(conn)
+    match Connection::over(alloc, store) {
+        Ok(conn) => Ok(conn),
+        Err((_error, store)) => Err(store),
+    }
 }
 
 /// Why a connection with the tables of an earlier schema is refused: the row `schema` has that schema's number, or it
@@ -194,14 +215,15 @@ fn refusal<S: Alter + Drop>(conn: Connection<S>, schema: u32) -> OpenRefusal<S>
     ensures other { (c : Held S) → result ≡ refused.NotTables c → HasCleanDisk (state S.Store c) → HasCleanDisk (state S.Store conn) × ¬ AreEarlier schema (state S.Store conn).now }
     ensures fits { (c : Held S) → result ≢ refused.BadRow c }
     ensures back { IfSome (given_back result) (λ c. HasCleanDisk (state S.Store c) → HasCleanDisk (state S.Store conn) × (Opens (state S.Store conn) → HasNoTransaction (state S.Store conn).committed (state S.Store c))) }
+    ensures rest { IsRestOf S.Store (state S.Store conn) (rest_of result) }
 {
     let mut conn = conn;
     let is_said = match says_schema(&mut conn, schema) {
         Ok(is_said) => is_said,
-        Err(error) => return OpenRefusal::Unavailable(cause_of(error)),
+        Err(error) => return OpenRefusal::Unavailable(cause_of(error), conn.into_store()),
     };
     if let Err(error) = test_open(&mut conn) {
-        return OpenRefusal::Unavailable(cause_of(error));
+        return OpenRefusal::Unavailable(cause_of(error), conn.into_store());
     }
     if is_said {
         OpenRefusal::OldSchema(schema, conn)
@@ -212,7 +234,8 @@ fn refusal<S: Alter + Drop>(conn: Connection<S>, schema: u32) -> OpenRefusal<S>
 
 /// Returns the connection if its tables are the stored ones. It then has no open transaction and shows what was last
 /// committed. If the tables are others, or those of an older schema, the refusal gives the connection back, also with
-/// no open transaction. The only row that is read is the one that names the schema.
+/// no open transaction. If memory or the disk failed, it gives the store back. The only row that is read is the one that
+/// names the schema.
 pub fn known<S: Alter + Drop>(
     alloc: Global,
     conn: Connection<S>,
@@ -226,13 +249,18 @@ pub fn known<S: Alter + Drop>(
     ensures neither { IfErr result (λ e. (c : Held S) → e ≡ refused.NotTables c → HasCleanDisk (state S.Store c) → (n : ℕ) → ¬ AreEarlier n (state S.Store conn).committed) }
     ensures fits { IfErr result (λ e. (c : Held S) → e ≢ refused.BadRow c) }
     ensures back { IfErr result (λ e. IfSome (given_back e) (λ c. HasCleanDisk (state S.Store c) → HasNoTransaction (state S.Store conn).committed (state S.Store c))) }
+    ensures rest { IfErr result (λ e. IsRestOf S.Store (state S.Store conn) (rest_of e)) }
 {
-    let Some(conn) = reopened(alloc, conn) else {
-        return Err(OpenRefusal::Unavailable(Cause::Storage(StorageFault::CannotOpen)));
+    let conn = match reopened(alloc, conn) {
+        Ok(conn) => conn,
+        Err(store) => {
+            let cause = Cause::Storage(StorageFault::CannotOpen);
+            return Err(OpenRefusal::Unavailable(cause, store));
+        }
     };
     let found = match schema_number(alloc, &conn) {
         Ok(found) => found,
-        Err(fault) => return Err(OpenRefusal::Unavailable(fault.cause())),
+        Err(fault) => return Err(OpenRefusal::Unavailable(fault.cause(), conn.into_store())),
     };
     let Some(schema) = found else {
         return Err(OpenRefusal::NotTables(conn));

@@ -1,4 +1,4 @@
-use Rattle.std.proofs.Common.{[], ◌∷◌, rules, sym, subst}
+use Rattle.std.proofs.Common.{[], ◌∷◌, rules, sym, subst, ◌∙◌}
 use Rattle.stores.specs.Acting.{parts_of}
 use Rattle.sched_server.proofs.Served.{none_served}
 use Rattle.commands.specs.Messages.{IsStatement}
@@ -12,4 +12,4 @@ pub returns : goal.returns
 returns g c =
     let done = c.answer.ensures in
     let Is = IsStatement c.args.host in
-    (done.0 ∷ [], one_of c.answer.result done.0 _ _ Is done.1 (subst Is (sym c.deref.ensures.value) c.in_ok-message.ensures), done.2)
+    (done.0 ∷ [], one_of c.answer.result done.0 0 _ Is (record { now_is = done.1.now_is ∙ c.any_moment.ensures; bytes_are = done.1.bytes_are; ends = done.1.ends }) (subst Is (sym c.deref.ensures.value) c.in_ok-message.ensures), done.2)

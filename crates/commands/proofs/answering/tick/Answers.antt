@@ -10,6 +10,6 @@ pub returns : goal.returns
 returns g c =
     let done = c.answer.ensures in (
       done.0 ∷ [],
-      (done.1.now_is ∙ c.seconds.ensures.value, (c.operator_key.result.now, done.1.bytes_are ∙ c.deref.ensures.value ∙ c.in_ok-message.ensures)),
+      (done.1.now_is, (c.operator_key.result.now, done.1.bytes_are ∙ c.deref.ensures.value ∙ c.in_ok-message.ensures), done.1.ends),
       done.2,
     )

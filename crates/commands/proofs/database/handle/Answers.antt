@@ -1,28 +1,29 @@
-use Rattle.sqlite.specs.Held.{state}
 use Rattle.std.proofs.Common.{sym, subst}
-use Rattle.commands.proofs.Databases.{serves_tables}
+use Rattle.sqlite.specs.Held.{state}
+use Rattle.table_rows.specs.Refusing.{rest_of}
+use Rattle.commands.proofs.Databases.{keeps_database, serves_tables}
 use Rattle.commands.specs.Messages.{AreOf}
 use Rattle.commands.proofs.database.handle.Goals as goal
 
-pub returns-clause-back : goal.returns-clause-back
-returns-clause-back g c =
-    rw c.leaving.ensures.left (record { numbered = c.into_store-left.ensures.numbered; databases = c.into_store-left.ensures.sound })
-
-pub returns-clause-serves : goal.returns-clause-serves
-returns-clause-serves g c =
+pub returns-in-Ok : goal.returns-in-Ok
+returns-in-Ok g c =
     let done = c.perform_over-ended.ensures in
     rw c.leaving.ensures.left (
       done.0,
-      subst (λ ended. AreOf c.args.task.now ended done.0) (sym c.leaving.ensures.ended) done.1,
+      subst (λ ended. AreOf g.F.Files c.args.task.now ended done.0) (sym c.leaving.ensures.ended) done.1,
       serves_tables g.S.Store _ c.stopped_tables_stand.ensures (λ t honest. honest) (λ t kept. kept) c.opened_tables_stand.ensures (λ t honest. honest.0)
           (λ t clean. clean) (λ t clean. clean) (λ t reopens. reopens) (λ t reopens. reopens)
-          done.0 (state g.S.Store c.args.conn) c.in-Ok.tables c.perform_over-ended.result.1 c.into_connection.result c.into_store-left.result
+          done.0 (state g.S.Store c.args.conn) c.in-Ok.tables c.perform_over-ended.result.1 c.into_connection.result c.into_store-store.result
           (record { honest = c.in-Ok.ensures.open; kept = c.in-Ok.ensures.held; same = c.in-Ok.ensures.same })
           c.in-Ok.ensures.clean c.in-Ok.ensures.reopens done.2
           (record {
             clean = c.into_connection.ensures.clean;
             left = c.into_connection.ensures.left;
-            quiet = c.into_store-left.ensures.quiet;
-            back = record { numbered = c.into_store-left.ensures.numbered; databases = c.into_store-left.ensures.sound };
+            quiet = c.into_store-store.ensures.quiet;
+            back = record { numbered = c.into_store-store.ensures.numbered; databases = c.into_store-store.ensures.sound };
           }),
     )
+
+pub returns-in-Err : goal.returns-in-Err
+returns-in-Err g c =
+    rw c.refused.ensures.left (rw c.refused.ensures.ended (tt, keeps_database g.S.Store g.met.S.Store.settled c.args.conn (rest_of c.in-Err.refused) c.into_store.result c.in-Err.ensures.rest c.into_store.ensures))

@@ -18,7 +18,7 @@ returns-in-Ok g c =
 pub returns-in-Err : goal.returns-in-Err
 returns-in-Err g c = (
   [],
-  none_of c.args.task.now _,
+  none_of g.F.Files c.args.task.now _,
   none_handed (parts_of g.S.Units g.S.Store.holds g.S.Store.clean g.S.Store.lasting g.S.Store.may_leave g.S.Store.reopens) g.met.S.Store.stays_clean g.met.S.Units.stays_honest g.met.S.Units.stays_kept g.met.S.Store.stays_reopened
       (reads_stand (parts_of g.S.Units g.S.Store.holds g.S.Store.clean g.S.Store.lasting g.S.Store.may_leave g.S.Store.reopens) g.met.S.Units.stays_honest g.met.S.Units.stays_kept g.met.S.Store.stays_held g.met.S.Store.stays_left)
       c.args.store c.in-Err.store c.in-Err.ensures.back,

@@ -5,7 +5,9 @@ use Rattle.sqlite.specs.Held.{state}
 use Rattle.sqlite.specs.State.{HasCleanDisk, Survives}
 use Rattle.sqlite.proofs.StateLemmas.{survives_then}
 use Rattle.sqlite.proofs.Callers.{survives_begin}
+use Rattle.table_meaning.specs.Schema.{no_schema}
 use Rattle.table_meaning.specs.Steps.{HoldJust}
+use Rattle.table_rows.specs.Utf8.{HaveUtf8}
 use Rattle.table_rows.proofs.definitions.create.Goals as goal
 
 pub returns-clause-made : goal.returns-clause-made
@@ -27,12 +29,13 @@ returns-clause-crash g c =
     let end = c.commit.new.self.0 in
     let begun = c.transaction-tx.ensures.begun in
     let same : end ≡ c.conn-2-1.given.0 = search rules in
-    let P = λ (trees : Trees). (db : Database) × HoldJust db c.args.rows.now × (trees ≡ db.trees) in
+    let P = λ (trees : Trees). ((state g.S.Store old).now.schema ≡ no_schema) × HaveUtf8 c.args.rows.now × (db : Database) × HoldJust db c.args.rows.now × (trees ≡ db.trees) in
     let whole = survives_then (state g.S.Store old) (state g.S.Store mid) (state g.S.Store end) _ _ P (λ _ db none. absurd none)
     (λ clean db is.
     let early : HasCleanDisk (state g.S.Store mid) = omega (arith, c.commit.ensures.survives.clean) in
     let sound = (c.is_empty.ensures.live ((rw begun at c.in_ok-make_tables.ensures.was_open) early)).0 in
-    (_, ((rw begun at c.in_ok-make_tables.ensures.made) early refl (search rules) sound).1, is))
+    let none : (state g.S.Store old).now.schema ≡ no_schema = search rules in
+    (none, c.in_ok-make_tables.ensures.utf8, _, ((rw begun at c.in_ok-make_tables.ensures.made) early refl none sound).1, is))
     (survives_begin g.S.Store old (state g.S.Store mid) _ (rw begun at c.make_tables.ensures.survives)) c.commit.ensures.survives in
     subst (λ h. Survives (state g.S.Store old) (state g.S.Store h) P) same whole
 
@@ -43,11 +46,12 @@ returns-in_err-commit-clause-crash g c =
     let end = c.commit.new.self.0 in
     let begun = c.transaction-tx.ensures.begun in
     let same : end ≡ c.conn-2-1.given.0 = search rules in
-    let P = λ (trees : Trees). (db : Database) × HoldJust db c.args.rows.now × (trees ≡ db.trees) in
+    let P = λ (trees : Trees). ((state g.S.Store old).now.schema ≡ no_schema) × HaveUtf8 c.args.rows.now × (db : Database) × HoldJust db c.args.rows.now × (trees ≡ db.trees) in
     let whole = survives_then (state g.S.Store old) (state g.S.Store mid) (state g.S.Store end) _ _ P (λ _ db none. absurd none)
     (λ clean db is.
     let early : HasCleanDisk (state g.S.Store mid) = omega (arith, c.commit.ensures.survives.clean) in
     let sound = (c.is_empty.ensures.live ((rw begun at c.in_ok-make_tables.ensures.was_open) early)).0 in
-    (_, ((rw begun at c.in_ok-make_tables.ensures.made) early refl (search rules) sound).1, is))
+    let none : (state g.S.Store old).now.schema ≡ no_schema = search rules in
+    (none, c.in_ok-make_tables.ensures.utf8, _, ((rw begun at c.in_ok-make_tables.ensures.made) early refl none sound).1, is))
     (survives_begin g.S.Store old (state g.S.Store mid) _ (rw begun at c.make_tables.ensures.survives)) c.commit.ensures.survives in
     subst (λ h. Survives (state g.S.Store old) (state g.S.Store h) P) same whole

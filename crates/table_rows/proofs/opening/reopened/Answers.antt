@@ -6,8 +6,8 @@ use Rattle.table_meaning.proofs.Knowing.{tables_rise}
 use Rattle.table_rows.proofs.Reopening.{one_database}
 use Rattle.table_rows.proofs.opening.reopened.Goals as goal
 
-pub returns-clause-ordered : goal.returns-clause-ordered
-returns-clause-ordered g c clean =
+pub returns-in-Ok-clause-ordered : goal.returns-in-Ok-clause-ordered
+returns-in-Ok-clause-ordered g c clean =
     let store = c.into_store-store.result in
     let now = state g.S.Store c.in-Ok.conn in
     let opened = c.in-Ok.ensures.opens clean in
@@ -16,8 +16,8 @@ returns-clause-ordered g c clean =
     let unbroken : (g.S.Store.view store).is_broken ≡ false = search rules in
     tables_rise (g.S.Store.view store) now.now.schema now.now.trees (c.in-Ok.ensures.trees clean) (g.met.S.Store.ordered store unbroken) (g.met.S.Alter.listed store unbroken) (opened.1 opened.0.is_open).0
 
-pub returns-clause-same : goal.returns-clause-same
-returns-clause-same g c clean =
+pub returns-in-Ok-clause-same : goal.returns-in-Ok-clause-same
+returns-in-Ok-clause-same g c clean =
     let store = c.into_store-store.result in
     let opened = c.in-Ok.ensures.opens clean in
     let early : IsClean (g.S.Store.view store) = omega (arith, c.in-Ok.ensures.clean) in
@@ -28,5 +28,5 @@ returns-clause-same g c clean =
     let trees = c.in-Ok.ensures.trees clean ∙ (c.into_store-store.ensures.undone.undone is_open).0 in
     one_database (state g.S.Store c.in-Ok.conn).now (state g.S.Store c.args.conn).committed trees (opened.1 opened.0.is_open).0 (c.schema-schema.ensures.live was_open).1
 
-pub returns-clause-clean : goal.returns-clause-clean
-returns-clause-clean g c clean = omega (arith, c.into_store-store.ensures.quiet.clean, c.in-Ok.ensures.clean, clean)
+pub returns-in-Ok-clause-clean : goal.returns-in-Ok-clause-clean
+returns-in-Ok-clause-clean g c clean = omega (arith, c.into_store-store.ensures.quiet.clean, c.in-Ok.ensures.clean, clean)

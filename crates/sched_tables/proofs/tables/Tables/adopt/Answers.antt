@@ -5,7 +5,8 @@ use Rattle.sqlite.specs.State.{State, HasCleanDisk}
 use Rattle.table_meaning.specs.Holding.{AreKnown}
 use Rattle.table_reading.specs.Reading.{AreUtf8, WereKnown, HasBadTable, RepresentNone, HasOtherSchema}
 use Rattle.table_reading.proofs.ReadsOn.{refused_on}
-use Rattle.table_rows.specs.Refusing.{HasNoTransaction}
+use Rattle.table_rows.specs.Refusing.{rest_of, HasNoTransaction, IsRestOf}
+use Rattle.table_rows.proofs.Rests.{opened_rest, read_rest}
 use Rattle.sched_tables.specs.Held.{IsHonest}
 use Rattle.sched_tables.proofs.Refusals.{told_by_schema, told_by_rows, given_same}
 use Rattle.sched_tables.proofs.Reopened.{rest_reopens, kept_can_be_opened}
@@ -133,7 +134,7 @@ returns-in-Err-clause-refused g c =
     (λ clean. subst AreKnown (same clean) (were clean).known)
     (λ clean is. subst (λ (d : Database). HasOtherSchema d.trees) (same clean) (c.in-Err.ensures.other_schema (were clean) is))
     (λ clean is. subst (λ (d : Database). HasBadTable d.trees ⊎ RepresentNone d.trees) (same clean) (c.in-Err.ensures.bad (were clean) is))
-    c.of.result c.of.ensures
+    c.of.result c.of.ensures.given.0 c.of.ensures.given.1
 
 pub returns-in-Err-clause-back : goal.returns-in-Err-clause-back
 returns-in-Err-clause-back g c =
@@ -154,4 +155,22 @@ returns-in-Err-clause-back g c =
       now = shows ∙ c.in_ok-conn.ensures.same before;
       committed = (reads.same honest.0 honest.1 (opens before).clean).1 ∙ sym (opens before).clean ∙ c.in_ok-conn.ensures.same before;
     })
-    c.of.result c.of.ensures
+    c.of.result c.of.ensures.given.0 c.of.ensures.given.1
+
+pub returns-in_err-conn-clause-rest : goal.returns-in_err-conn-clause-rest
+returns-in_err-conn-clause-rest g c =
+    refused_on c.from_residual.result (λ e. IsRestOf g.S.Store (state g.S.Store c.args.conn) (rest_of e)) c.in_err-conn.field-0.0 c.from_residual.ensures.1 c.in_err-conn.ensures.rest
+
+pub returns-then-is_err-clause-rest : goal.returns-then-is_err-clause-rest
+returns-then-is_err-clause-rest g c =
+    let taken = c.in_ok-conn.conn in
+    let last = c.test_open.new.conn in
+    opened_rest g.S.Store (state g.S.Store c.args.conn) taken c.into_store.result g.met.S.Store.settled c.in_ok-conn.ensures.opens c.in_ok-conn.ensures.same c.in_ok-conn.ensures.clean
+    (read_rest g.S.Store taken last c.into_store.result (reads_on (state g.S.Store taken) (state g.S.Store c.stored_world-read.new.conn) (state g.S.Store last) c.stored_world-read.ensures.reads c.test_open.ensures.reads) c.into_store.ensures.quiet)
+
+pub returns-in-Err-clause-rest : goal.returns-in-Err-clause-rest
+returns-in-Err-clause-rest g c =
+    let taken = c.in_ok-conn.conn in
+    let last = c.test_open.new.conn in
+    opened_rest g.S.Store (state g.S.Store c.args.conn) taken (rest_of c.of.result) g.met.S.Store.settled c.in_ok-conn.ensures.opens c.in_ok-conn.ensures.same c.in_ok-conn.ensures.clean
+    (read_rest g.S.Store taken last (rest_of c.of.result) (reads_on (state g.S.Store taken) (state g.S.Store c.stored_world-read.new.conn) (state g.S.Store last) c.stored_world-read.ensures.reads c.test_open.ensures.reads) c.of.ensures.rest)

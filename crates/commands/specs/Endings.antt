@@ -1,0 +1,43 @@
+-- Promise. How an order ends: its exit status, and what its answer says of it. (This project's own: docs/PROFILE.md, "The program".)
+use Rattle.std.specs.Prelude.{◌≡◌, ℕ, Result, Ok, Err, OnOk}
+use Rattle.http.specs.StatusCode.{IsInClass}
+use Rattle.http_responses.specs.declared.answer.Answer.{Answer}
+use Rattle.http_responses.specs.declared.answer.Answer.TheVariants as answer
+use Rattle.http_responses.specs.declared.response.Response.{Response}
+use Rattle.commands.specs.declared.ending.Ending.{Ending}
+use Rattle.commands.specs.declared.ending.Ending.TheVariants.{Done, Refused}
+use Rattle.commands.specs.declared.ending.Failure.{Failure}
+use Rattle.commands.specs.declared.ending.Failure.TheVariants as failure
+use Rattle.commands.specs.declared.ending.Left.{Left}
+use Rattle.commands.specs.declared.ending.Left.TheVariants as left
+
+-- ---- exit statuses
+
+abbrev pub status_of_ending : Ending → ℕ
+status_of_ending Done = 0
+status_of_ending Refused = 1
+
+abbrev pub status_of_failure : Failure → ℕ
+status_of_failure failure.Settings = 1
+status_of_failure failure.File = 1
+status_of_failure failure.OldSchema = 1
+status_of_failure (failure.Line number) = 1
+status_of_failure failure.Unavailable = 2
+
+-- ---- an order that sends one message
+
+-- An order that was done got a response of the class 2xx (RFC 9110, section 15.3), and one that was refused got another response. An order
+-- that failed may have got any answer: it was unavailable, or it could not be printed.
+abbrev pub EndsBy : Answer → Result Ending Failure → Type 0
+EndsBy got (Ok Done) = (response : Response) × (got ≡ answer.Response response) × IsInClass 200 response.status
+EndsBy got (Ok Refused) = (response : Response) × (got ≡ answer.Response response) × (¬ IsInClass 200 response.status)
+EndsBy got (Err why) = Unit {0}
+
+-- ---- what is left
+
+-- The files of the tables were opened. If tables could not be opened or made, the order did not end well, and P holds of what is left.
+-- Otherwise Q holds of the store.
+abbrev pub LeavesBy : {S R : Type 0} → (R → Type 0) → (S → Type 0) → Result Ending Failure → Left S R → Type 0
+LeavesBy P Q ended left.Nothing = ⊥
+LeavesBy P Q ended (left.Refused rest) = OnOk ended ⊥ × P rest
+LeavesBy P Q ended (left.Tables store) = Q store
