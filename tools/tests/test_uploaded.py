@@ -304,6 +304,18 @@ def test_an_output_that_names_a_file_twice_changes_no_stored_file(
         assert content_of(uploads, sha256) == data
 
 
+@pytest.mark.parametrize("is_linked", [False, True])
+def test_a_file_that_is_there_is_never_written(uploads: Path, tmp_path: Path, is_linked: bool) -> None:
+    """As a link it is the bridge's own file."""
+    names = {data: content(uploads, data) for data in (b"one", b"two")}
+    both = [UploadedFile("out", 3, sha256, uploads / "store" / sha256) for sha256 in names.values()]
+    with OutputFolder(tmp_path, is_linked) as folder, pytest.raises(Fault, match="w1: File exists"):
+        folder.place(both, "w1")
+    assert not (tmp_path / "w1").exists()
+    for data, sha256 in names.items():
+        assert content_of(uploads, sha256) == data
+
+
 def test_an_output_with_a_name_that_no_file_can_have_names_none(uploads: Path, tables: Path) -> None:
     sha256 = content(uploads, b"data")
     for name in ("n" * 129, "..", "a/b", ".hidden"):
