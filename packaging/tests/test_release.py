@@ -148,6 +148,7 @@ def test_installed_pages_link_to_installed_pages() -> None:
         ("bsched import --kind w", "workunits"),
         ("bsched serve --c", "--count"),
         ("bsched-project --a", "--add-bridge"),
+        ("bsched-project --c", "--complete"),
     ],
 )
 def test_completion(line: str, offered: str) -> None:

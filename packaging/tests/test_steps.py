@@ -1,4 +1,4 @@
-"""Runs the commands that bsched-project prints, with the tools of this clone and the twin in place of bsched."""
+"""Runs what bsched-project prints, with the tools of this clone and the twin in place of bsched."""
 import re
 import shutil
 import sqlite3
