@@ -1,4 +1,4 @@
-"""A clean Debian 12 in a folder, and a machine that runs in it."""
+"""A clean Debian in a folder, and a machine that runs in it."""
 import os
 import shutil
 import signal
@@ -7,7 +7,7 @@ import time
 from pathlib import Path
 from typing import TypeAlias
 
-SUITE = "bookworm"
+SUITES = {"bookworm": "Debian 12", "trixie": "Debian 13"}
 BOOT_SECONDS = 120
 CLEAN = {
     "PATH": "/usr/sbin:/usr/bin:/sbin:/bin",
@@ -61,10 +61,10 @@ class Root:
         return set(self.run("dpkg-query --show --showformat='${Package}\\n'").split())
 
 
-def new_root(path: Path, mirror: str, extra: str) -> Root:
-    """Makes the folder of a clean Debian."""
+def new_root(path: Path, suite: str, mirror: str, extra: str) -> Root:
+    """Makes the folder of a clean Debian, of one of the suites."""
     options = ["--quiet", "--variant=apt", f"--include={extra}"]
-    run(["mmdebstrap", *options, SUITE, str(path), mirror], 900)
+    run(["mmdebstrap", *options, suite, str(path), mirror], 900)
     shutil.copy("/etc/resolv.conf", path / "etc" / "resolv.conf")
     return Root(path)
 
