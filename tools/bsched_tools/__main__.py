@@ -41,9 +41,9 @@ FAULT = 1
 Arguments = argparse.Namespace
 
 
-def project_named(args: Arguments) -> Project | None:
+def project_named(args: Arguments, stays_root: bool = False) -> Project | None:
     """Returns the project of the command line, if it names one. As root the command goes on as its owner, who
-    may not make the public folders."""
+    may not make the public folders, unless it stays root."""
     if args.project is None:
         return None
     project = project_of(args.project)
@@ -51,7 +51,8 @@ def project_named(args: Arguments) -> Project | None:
     public = {"report": units.page, "statistics": units.statistics}.get(args.command)
     if public is not None and args.to is None:
         project.made(public, 0o755)
-    project.become_owner()
+    if not stays_root:
+        project.become_owner()
     return project
 
 
@@ -113,8 +114,9 @@ def copy_state(project: Project, folder: Path, keep: int | None) -> None:
 
 
 def results(args: Arguments) -> int:
-    """Writes the results. Returns 1 if the files of some are spoiled."""
-    project = project_named(args)
+    """Writes the results. Returns 1 if the files of some are spoiled. With files it stays root, to give them
+    to the owner of their folder."""
+    project = project_named(args, stays_root=args.files is not None)
     names = chosen(project).names
     uploads = args.uploads or (project.uploads if project else None)
     if args.files is not None and uploads is None:
@@ -139,10 +141,12 @@ def results(args: Arguments) -> int:
     return say_spoiled(written.spoiled)
 
 
-def process(args: Arguments) -> None:
-    """Hands new results to the operator's program."""
+def process(args: Arguments) -> int:
+    """Hands new results to the operator's program. Returns 1 if the files of some are spoiled."""
     project = project_named(args) or project_of(args.project)
-    print(hand_on(project, project.units(), chosen(project).names))
+    handed = hand_on(project, project.units(), chosen(project).names)
+    print(f"{count_text(handed.count, 'workunit')} handed on")
+    return say_spoiled(handed.spoiled)
 
 
 def counts(args: Arguments) -> None:

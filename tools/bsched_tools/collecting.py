@@ -200,7 +200,7 @@ def collect_files(
 def collected_lines(look: Look, found: Collected, folder: Path) -> Iterator[str]:
     """Yields what a run collected."""
     yield look.moment_line
-    spoiled = f"; {len(found.spoiled):,} not collected" if found.spoiled else ""
+    spoiled = f"; {len(found.spoiled):,} left out" if found.spoiled else ""
     yield f"{folder}: {found.fresh:,} new of {found.done:,} done; {len(found.failed):,} failed{spoiled}"
     if found.stuck:
         yield f"stuck: {len(found.stuck):,} of {len(found.open):,} open ({OPENED}): {named(found.stuck)}"

@@ -6,6 +6,7 @@ For other workunits it has the place of the last result that was given out.
 import fcntl
 import hashlib
 import json
+import os
 from collections.abc import Iterator
 from contextlib import contextmanager
 from dataclasses import dataclass, field
@@ -123,10 +124,11 @@ class Cursor:
 
 @contextmanager
 def cursor_at(path: Path) -> Iterator[Cursor]:
-    """Yields the cursor in a file, for one run at a time."""
+    """Yields the cursor in a file, for one run at a time. Root's lock can be taken by others, too."""
     if not path.parent.is_dir():
         raise Fault(f"{path}: its folder does not exist: make it first")
-    with path.with_name(f"{path.name}.lock").open("w") as lock:
+    name = path.with_name(f"{path.name}.lock")
+    with open(os.open(name, os.O_RDONLY | os.O_CREAT | os.O_NOFOLLOW, 0o644)) as lock:
         try:
             fcntl.flock(lock, fcntl.LOCK_EX | fcntl.LOCK_NB)
         except BlockingIOError:

@@ -1,9 +1,11 @@
 """New results for a program of the operator (BOINC: an assimilator). Each run hands on what is new.
 
-The file with the results is written before the cursor, and removed after the program has taken it. So no
-result is lost at a stop, and some may come twice: the program recognizes a result by its name.
+The cursor is written after the program has taken the results. So no result is lost at a stop, and some may
+come twice: the program recognizes a result by its name. A workunit with a spoiled file is left out, and comes
+with a later run.
 """
 import subprocess
+from dataclasses import dataclass, field
 
 from .catalogue_file import output_names_of
 from .copies import turn
@@ -15,30 +17,45 @@ from .results import write_results
 TURN_SECONDS = 0.0  # another run is at work, and will do it
 
 
-def hand_on(project: Project, settings: UnitSettings, names: dict[str, str]) -> str:
-    """Hands new results to the program of the settings, and says what was done."""
+@dataclass(slots=True)
+class Handed:
+    """What a run did."""
+
+    count: int = 0  # the workunits that were handed on
+    spoiled: list[str] = field(default_factory=list)  # for each file that is wrong what is wrong with it
+
+
+def hand_on(project: Project, settings: UnitSettings, names: dict[str, str]) -> Handed:
+    """Hands new results to the program of the settings."""
     if not settings.results_command:
         where = project.folder / "units.toml"
         raise Fault(f'{where}: write command = ["/path/of/your/program"] into its table [results]')
     folder = project.made(project.made(project.work, 0o700) / "results", 0o700)
-    new = folder / "new"
-    with turn(folder, TURN_SECONDS, "another `process` is at work"):
-        if not new.exists():
-            write_results(
-                [*project.archives, settings.copies],
-                as_lines=True,
-                cursor=folder / "cursor",
-                target=new,
-                names=names,
-                uploads=project.uploads,
-                output_names=output_names_of(project),
-            )
-        count = len(new.read_bytes().splitlines())
-        if count:
+    new, handed = folder / "new", Handed()
+
+    def take() -> None:
+        """Hands on the file with the results."""
+        with new.open("rb") as lines:
+            handed.count = sum(1 for _ in lines)
+        if handed.count:
             run([*settings.results_command, str(new)])
+
+    with turn(folder, TURN_SECONDS, "another `process` is at work"):
+        new.unlink(missing_ok=True)  # of a run that failed: its results come again
+        handed.spoiled = write_results(
+            [*project.archives, settings.copies],
+            as_lines=True,
+            cursor=folder / "cursor",
+            target=new,
+            names=names,
+            uploads=project.uploads,
+            output_names=output_names_of(project),
+            are_compared=True,
+            take=take,
+        ).spoiled
         new.unlink()
         sync(folder)
-    return f"{count} workunits were handed on"
+    return handed
 
 
 def run(command: list[str]) -> None:

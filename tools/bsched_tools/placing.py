@@ -182,4 +182,4 @@ def compare(file: UploadedFile, found: Copied, workunit: str) -> None:
 
 def spoiled_text(file: UploadedFile, workunit: str, what: str) -> str:
     """Returns what is wrong with a file, in a line."""
-    return f"{workunit}: not collected: its file {file.name} is spoiled: {file.path}: {what}"
+    return f"{workunit}: left out: its file {file.name} is spoiled: {file.path}: {what}"

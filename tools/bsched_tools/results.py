@@ -3,7 +3,7 @@ import json
 import os
 import stat
 import sys
-from collections.abc import Iterable, Iterator, Mapping
+from collections.abc import Callable, Iterable, Iterator, Mapping
 from contextlib import ExitStack, suppress
 from dataclasses import dataclass, field, replace
 from pathlib import Path
@@ -12,7 +12,7 @@ from typing import TextIO
 from .cursors import Cursor, Given, cursor_at
 from .faults import Fault
 from .files import replace_file, sync
-from .placing import OutputFolder, Spoiled
+from .placing import OutputFolder, Spoiled, check_stored
 from .stuck import Stuck, stuck_in
 from .tables import Tables, all_opened
 from .texts import json_text, table_text
@@ -140,14 +140,19 @@ class Output:
     as_lines: bool  # lines of JSON
     uploads: Uploads | None  # the bridge's folder of uploads, if files are asked for
     files_to: OutputFolder | None  # the folder that gets the files
+    are_compared: bool = False  # each file is compared, also without such a folder
 
     def text(self, line: Line) -> str:
         """Returns the text of a line. Its files are in their place then. Raises Spoiled if one of them is not
         what the host uploaded."""
         if self.uploads is not None:
-            line = replace(line, files=self.uploads.files_of(line.workunit))
-            if self.files_to is not None and line.files and not line.is_late:
-                self.files_to.place(line.files, line.workunit.name)
+            files = self.uploads.files_of(line.workunit)
+            line = replace(line, files=files)
+            if self.files_to is not None and not line.is_late:
+                self.files_to.place(files, line.workunit.name)
+            elif self.are_compared and not line.is_late:
+                for file in files:
+                    check_stored(file, line.workunit.name)
         return as_json(line) if self.as_lines else as_csv(line)
 
 
@@ -194,10 +199,13 @@ def write_results(
     output_names: OutputNames | None = None,
     files_to: Path | None = None,
     is_linked: bool = False,
+    are_compared: bool = False,
+    take: Callable[[], None] | None = None,
 ) -> Written:
     """Writes the results of tables to standard output or to a new file, as comma-separated values or as lines
     of JSON. With a folder of uploads they name the files of canonical results, and files_to gets these files.
-    The cursor is written last. If a stop comes before that, the same results come again.
+    Then `take` is called. The cursor is written last. If a stop or a fault comes before that, the same
+    results come again.
     """
     outcome = Written()
     with ExitStack() as stack:
@@ -212,7 +220,7 @@ def write_results(
             stack.enter_context(uploads_in(uploads, output_names)) if uploads is not None else None
         )
         folder = None if files_to is None else stack.enter_context(OutputFolder(files_to, is_linked))
-        output = Output(as_lines, opened_uploads, folder)
+        output = Output(as_lines, opened_uploads, folder, are_compared)
         parts = texts(all_tables, output, after, kept, outcome.spoiled)
         if target is not None:
             replace_file(target, (part.encode() for part in parts))
@@ -222,6 +230,8 @@ def write_results(
             flushed(stream)
         if files_to is not None:
             sync(files_to)
+        if take is not None:
+            take()
         if kept is not None:
             kept.write()
             outcome.why_nothing = None if outcome.spoiled else kept.why_nothing()

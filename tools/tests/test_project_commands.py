@@ -234,7 +234,7 @@ def test_new_results_for_a_program(project: MadeProject, tmp_path: Path) -> None
     take.chmod(0o755)
     units = f'[copy]\nfolder = "copies"\ncheck = false\n[results]\ncommand = ["{take}"]\n'
     (project.folder / "units.toml").write_text(units)
-    assert project.tools("process") == (0, "0 workunits were handed on\n", "")
+    assert project.tools("process") == (0, "0 workunits handed on\n", "")
     assert not taken.exists()
     for user in (1, 2):
         project.call(user, 1, work_req_seconds=1)
@@ -243,9 +243,9 @@ def test_new_results_for_a_program(project: MadeProject, tmp_path: Path) -> None
     status, _, fault = project.tools("process")
     assert status == 1 and f"{take}: status 1" in fault
     (tmp_path / "good").touch()
-    assert project.tools("process") == (0, "1 workunits were handed on\n", "")
+    assert project.tools("process") == (0, "1 workunit handed on\n", "")
     assert [json.loads(line)["workunit"] for line in taken.read_text().splitlines()] == ["w1", "w1"]
-    assert project.tools("process") == (0, "0 workunits were handed on\n", "")
+    assert project.tools("process") == (0, "0 workunits handed on\n", "")
 
 
 def test_page_and_statistics_of_a_project(project: MadeProject, tmp_path: Path) -> None:

@@ -202,7 +202,7 @@ def test_a_spoiled_file_is_not_collected(
         named = [json.loads(line)["workunit"] for line in output.getvalue().splitlines()]
         assert named == ([line["workunit"] for line in lines if line["workunit"] != unit] if is_first else [])
         (what,) = written.spoiled
-        assert what.startswith(f"{unit}: not collected: its file log is spoiled: {path}: ")
+        assert what.startswith(f"{unit}: left out: its file log is spoiled: {path}: ")
         assert re.search(SPOILED[how], what) and written.why_nothing is None
         assert not list(target.glob(".*")) and not (target / unit).exists()
         assert len(files_below(target)) == len(expected(lines)) - 2
