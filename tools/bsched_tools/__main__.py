@@ -120,6 +120,8 @@ def results(args: Arguments) -> int:
     names = chosen(project).names
     uploads = args.uploads or (project.uploads if project else None)
     if args.files is not None and uploads is None:
+        if project is not None:
+            project.check_uploads()
         new_parser().error("results: --files needs --uploads FOLDER, or a project whose bridge has uploads")
     written = write_results(
         copies_of(args, project),

@@ -331,6 +331,8 @@ def advice_to_sign(addition: Addition, names: list[str]) -> Iterator[str]:
 def add_app(project: Project, app: NewApp, key: Path | None) -> Iterator[str]:
     """Adds an application or a version, and yields what was done."""
     check_words(app)
+    if app.members.get("output_files"):
+        project.check_uploads()
     catalogue = CatalogueFile(project)
     if not catalogue.public_key.exists():
         where = catalogue.public_key.parent

@@ -29,7 +29,8 @@ def hand_on(project: Project, settings: UnitSettings, names: dict[str, str]) -> 
     """Hands new results to the program of the settings."""
     if not settings.results_command:
         where = project.folder / "units.toml"
-        raise Fault(f'{where}: write command = ["/path/of/your/program"] into its table [results]')
+        missing = "" if where.exists() else f"; {project.completing}"
+        raise Fault(f'{where}: write command = ["/path/of/your/program"] into its table [results]{missing}')
     folder = project.made(project.made(project.work, 0o700) / "results", 0o700)
     new, handed = folder / "new", Handed()
 

@@ -140,6 +140,18 @@ class Project:
         return path if path is not None and (path / "uploads.db").exists() else None
 
     @property
+    def completing(self) -> str:
+        """The advice for a project that lacks what a new one has."""
+        return f"`bsched-project --complete {self.name}` adds what a new project has"
+
+    def check_uploads(self) -> None:
+        """Refuses a project whose bridge has no output files."""
+        if self.bridge_file.exists() and "uploads" not in toml_of(self.bridge_file):
+            raise Fault(
+                f"{self.bridge_file}: it has no [uploads], which output files need: {self.completing}"
+            )
+
+    @property
     def bridge_state(self) -> Path | None:
         """The state file of the bridge, or None if there is no bridge."""
         file = toml_of(self.bridge_file).get("state") if self.bridge_file.exists() else None

@@ -48,6 +48,7 @@ def app(args: Arguments, printed: Printer) -> None:
         "rsc_memory_bound": args.memory,
         "rsc_disk_bound": args.disk,
         "fpops_bound_factor": args.limit,
+        "report_immediately": args.report_immediately or None,
     }
     files = read_files(args.program, args.file)
     with turn_of(project):

@@ -75,6 +75,11 @@ def add_app(commands: "argparse._SubParsersAction[Any]") -> argparse.ArgumentPar
     app.add_argument(
         "--limit", type=factor, metavar="N", help="a job is ended after N times its hours; default 10"
     )
+    app.add_argument(
+        "--report-immediately",
+        action="store_true",
+        help="clients report a finished job at once, and not with their next request, within an hour",
+    )
     app.add_argument("--key", type=Path, metavar="FILE", help="the private key for code signing")
     return app
 

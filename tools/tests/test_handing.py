@@ -106,6 +106,15 @@ def test_a_file_that_is_spoiled_while_the_program_fails_is_compared_again(
     assert units_in(taken) == ["w2", "w1"]
 
 
+def test_files_of_a_project_that_has_none(project: WorkProject, tmp_path: Path) -> None:
+    settings = project.bridge / "bridge.toml"
+    settings.write_text(settings.read_text().partition("[uploads]")[0])
+    status, output, fault = project.tools("results", "--files", tmp_path)
+    assert (status, output) == (1, "")
+    advice = "`bsched-project --complete sums` adds what a new project has"
+    assert fault == f"bsched-tools: {settings}: it has no [uploads], which output files need: {advice}\n"
+
+
 @pytest.mark.skipif(os.geteuid() != 0, reason="only root can give files away")
 def test_results_as_root_give_files_to_the_owner_of_their_folder(
     project: WorkProject, tmp_path: Path

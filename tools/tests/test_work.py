@@ -204,6 +204,23 @@ def test_other_faults_of_an_application(work: WorkProject, tmp_path: Path) -> No
     assert status == 1 and "bsched-bridge keygen" in line
 
 
+def test_what_an_older_project_lacks_is_added_by_a_command(bare: WorkProject) -> None:
+    settings = bare.bridge / "bridge.toml"
+    settings.write_text(settings.read_text().partition("[uploads]")[0])
+    (bare.folder / "units.toml").unlink()
+    before = bare.state()
+    advice = "`bsched-project --complete sums` adds what a new project has\n"
+    is_refused(
+        bare,
+        bare.app("--output", "out:1M"),
+        f"it has no [uploads], which output files need: {advice}",
+        before,
+    )
+    (bare.folder / "copies").mkdir()
+    assert bare.app()[0] == 0
+    is_refused(bare, bare.tools("process"), f"into its table [results]; {advice}", bare.state())
+
+
 # ---- Work
 
 
@@ -915,6 +932,18 @@ def test_the_limit_of_a_jobs_time(bare: WorkProject) -> None:
     output = bare.submit("--hours", "2", bare.inputs, "--dry-run")[1]
     assert "limit      a job is ended after 25 times its hours, 50 on a usual PC\n" in output
     assert bare.app("--limit", "0")[0] == 64
+
+
+def test_jobs_that_are_reported_at_once(bare: WorkProject) -> None:
+    """Who does not ask for it gets no entry. An application that is there is not changed by the option."""
+    assert bare.app("--report-immediately")[0] == 0
+    assert bare.app(name="later")[0] == 0
+    catalogue = CatalogueFile(projects.Project(bare.folder))
+    apps = [catalogue.app(name) for name in ("count", "later")]
+    assert [app and app.members.get("report_immediately") for app in apps] == [True, None]
+    assert bare.app()[0] == 0
+    fault = "later is there with another report_immediately: edit it there"
+    is_refused(bare, bare.app("--report-immediately", name="later"), fault, bare.state())
 
 
 # ---- The tables of a folder
