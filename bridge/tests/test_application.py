@@ -73,7 +73,7 @@ def test_no_client_makes_an_account(bridge: Bridge) -> None:
 def cells(page: str, before: str, place: int) -> list[str]:
     """Returns the numbers in the rest of a table row, after the place-th occurrence of a text."""
     rest = page.split(before)[place].partition("</tr>")[0]
-    return re.findall('<td class="number(?: less)?">([^<]*)</td>', rest)
+    return re.findall('<td class="number(?: less)?"[^>]*>([^<]*)</td>', rest)
 
 
 def test_the_status_page(bridge: Bridge) -> None:

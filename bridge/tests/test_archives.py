@@ -115,7 +115,7 @@ def test_replies_and_the_page_have_the_credit(project: Path, bridge: Bridge) -> 
 def shown(bridge: Bridge, page: str) -> list[str]:
     """Returns the numbers in the tables of a page."""
     text = bridge.got(f"/p/{page}")[2].decode()
-    return re.findall('<td class="number(?: less)?">(?:<a [^>]*>)?([^<]*)(?:</a>)?</td>', text)
+    return re.findall('<td class="number(?: less)?"[^>]*>(?:<a [^>]*>)?([^<]*)(?:</a>)?</td>', text)
 
 
 ANN = "account_finish.php?auth=ann-key"

@@ -292,6 +292,19 @@ def test_the_status_has_the_words_of_the_bar(project: Path, bridge: Bridge) -> N
     assert text.partition("statusworkunits\n")[2].split("\n")[:5] == rows
 
 
+def test_a_narrow_screen_shows_each_number_of_a_computer(bridge: Bridge) -> None:
+    """There the heads are not shown, so each cell has the word of its own."""
+    bridge.call(request())
+    tags = page_of(bridge.got("/p/status")).tags
+    assert ("table", {"class": "lines"}) in tags and ("tr", {"class": "heads"}) in tags
+    cells = [fields for tag, fields in tags if tag in ("th", "td")]
+    assert not [fields for fields in cells if "less" in fields.get("class", "")]
+    results = ["out", "waiting", "done", "late", "failed"]
+    front = ["computer", "user", "called last (UTC)", "credit"]
+    labels = [fields["data-label"] for fields in cells if "data-label" in fields]
+    assert labels == [*front, *results, *results]  # of a computer, and of all of them
+
+
 def with_key(project: Path, bridge: Bridge, text: str) -> None:
     """Adds a line to the settings, and starts the bridge again."""
     (project / "bridge.toml").write_text(f"{text}\n" + (project / "bridge.toml").read_text())

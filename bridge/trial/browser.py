@@ -180,6 +180,11 @@ class Browser:
         """Returns whether there is such an element."""
         return bool(self.driver.find_elements(By.CSS_SELECTOR, selector))
 
+    def hidden(self, selector: str) -> int:
+        """Returns how many of the elements that a selector finds are not shown."""
+        found = self.driver.find_elements(By.CSS_SELECTOR, selector)
+        return sum(not one.is_displayed() for one in found)
+
     # ---- Forms
 
     def fill(self, form: str, **fields: str) -> None:

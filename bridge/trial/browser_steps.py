@@ -368,6 +368,10 @@ class BrowserTrial(Run):
                 name = kind if language == "en" else f"{kind}-{language}"
                 least = min(least, self.looked_at(name, address, browser, LOOKS))
             wants(browser.language == language, f"the pages are in {language}")
+            browser.open(f"{URL}status")
+            browser.look(LOOKS[0])
+            wants(browser.has("td[data-label]"), "the status page has computers")
+            wants(browser.hidden("td[data-label]") == 0, "a narrow screen shows each of their numbers")
         browser = self.browsers["en"]
         self.log_in(browser, *ANN)
         browser.fill(NAME_FORM, name=" ")

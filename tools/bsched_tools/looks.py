@@ -15,7 +15,7 @@ from .copying import copy_tables
 from .faults import Fault
 from .jobs import moment_text
 from .projects import Project
-from .tables import Tables, found_copy, moment_of, opened
+from .tables import Tables, copies_in, found_copy, moment_of, opened
 
 ASK_SECONDS = 15.0
 NO_MEMBER = "only root and members of the group bsched may use this project"
@@ -120,14 +120,17 @@ def looked_at(project: Project) -> Iterator[Look]:
         try:
             look = fresh_copy(project, stack)
         except (Fault, OSError) as fault:
-            look = Look(newest_copy(project), False, False, str(fault))
+            look = Look(newest_copy(project, str(fault)), False, False, str(fault))
         yield look
 
 
-def newest_copy(project: Project) -> Path:
-    """Returns the newest copy of a project."""
+def newest_copy(project: Project, why: str) -> Path:
+    """Returns the newest copy of a project, of which no copy could be taken now."""
     folder = project.units().copies
     try:
+        if not folder.is_dir() or not copies_in(folder):
+            advice = f"make one by `bsched-tools copy --project {project.name}`, as root"
+            raise Fault(f"{why}; and there is no older copy: {advice}")
         return found_copy(folder)
     except OSError as error:
         raise Fault(f"{folder}: {error.strerror}: run this as root") from None

@@ -946,6 +946,19 @@ def test_jobs_that_are_reported_at_once(bare: WorkProject) -> None:
     is_refused(bare, bare.app("--report-immediately", name="later"), fault, bare.state())
 
 
+def test_why_no_copy_can_be_taken_is_said_if_there_is_no_older_one(
+    bare: WorkProject, capsys: pytest.CaptureFixture[str], monkeypatch: pytest.MonkeyPatch
+) -> None:
+    def refuse(*_args: object) -> None:
+        raise Fault("project.db: the disk is full")
+
+    monkeypatch.setattr("bsched_tools.looks.copy_tables", refuse)
+    status, output, fault = run_here(capsys, "progress", "--project", f"{bare.folder}/")
+    advice = "make one by `bsched-tools copy --project sums`, as root"
+    assert (status, output) == (1, "")
+    assert fault == f"bsched-tools: project.db: the disk is full; and there is no older copy: {advice}\n"
+
+
 # ---- The tables of a folder
 
 
