@@ -166,12 +166,14 @@ def between(text: bytes, begins: bytes, ends: bytes, to_the_last: bool = False) 
 def output_of(text: bytes) -> str:
     """Returns what a program wrote to its standard error, without blanks around it. If the program marked an
     answer in it, only that is returned. If it wrote nothing, the message of the client is returned, which
-    says why the result failed. Bytes that are not UTF-8, and characters that XML does not allow, are U+FFFD.
+    says why the result failed: it is before the text, or after it if an upload failed. Bytes that are not
+    UTF-8, and characters that XML does not allow, are U+FFFD.
     """
     inner = between(text, TEXT_BEGINS, TEXT_ENDS, to_the_last=True)
     if inner is not None and not inner.strip(BLANKS):
-        inner = between(text[: text.find(TEXT_BEGINS)], MESSAGE_BEGINS, MESSAGE_TEXT_ENDS)
-        inner = inner or b""
+        parts = text[: text.find(TEXT_BEGINS)], text[text.rfind(TEXT_ENDS) :]
+        messages = (between(part, MESSAGE_BEGINS, MESSAGE_TEXT_ENDS) for part in parts)
+        inner = next((message for message in messages if message), b"")
     text = text if inner is None else inner
     marked = between(text, ANSWER_BEGINS, ANSWER_ENDS)
     text = (text if marked is None else marked).lstrip(BLANKS)[:MOST_LOOKED_AT]

@@ -204,10 +204,16 @@ TOO_LARGE = "upload failure: <file_xfer_error>\n  <error_code>-131 (file size to
         ("", "process exited with code 3 (0x3)", "process exited with code 3 (0x3)"),
     ],
 )
-def test_a_result_whose_program_says_nothing(text: str, message: str, output: str) -> None:
-    """The client says why an output file is too large, and its exit status is 0."""
+@pytest.mark.parametrize("is_after", [False, True])
+def test_a_result_whose_program_says_nothing(text: str, message: str, output: str, is_after: bool) -> None:
+    """The client says why an output file is too large, after the text, and its exit status is 0. Other
+    messages are before the text."""
     body = request(reports=[("u1_0", text)]).replace("0</exit_status><state>5", "0</exit_status><state>3")
-    body = body.replace("<stderr_txt>", f"<message>\n{message}\n</message>\n<stderr_txt>")
+    told = f"<message>\n{message}\n</message>"
+    front, back = ("", f"\n{told}") if is_after else (f"{told}\n", "")
+    body = body.replace("<stderr_txt>", f"{front}<stderr_txt>").replace(
+        "</stderr_txt>", f"</stderr_txt>{back}"
+    )
     (report,) = read_request(body.encode()).results
     assert (report.exit_status, report.output) == (1, output)
 

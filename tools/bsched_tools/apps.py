@@ -157,6 +157,16 @@ def check_app(catalogue: CatalogueFile, app: NewApp, agreement: str | None) -> N
             raise Fault(f"{catalogue.path}: {app.name} is there with another {key}: edit it there")
 
 
+def check_plan_class(catalogue: CatalogueFile, platform: str) -> None:
+    """Refuses a plan class, which is after the dot of a platform, that the catalogue does not have."""
+    _, _, name = platform.partition(".")
+    classes = catalogue.members.get("plan_class", [])
+    if name and name not in [one.get("name") for one in classes if isinstance(one, dict)]:
+        lines = f'write [[plan_class]] and, on the next line, name = "{name}" at the end of {catalogue.path}'
+        more = 'bridge/README, "Several processors, and coprocessors", has the further keys'
+        raise Fault(f"--platform {platform}: there is no [[plan_class]] {name}: {lines}; {more}")
+
+
 def name_in_project(app: NewApp, number: int, file: ProgramFile) -> str:
     """Returns the name of a file of a version, which no other version has. The main program keeps the end of
     its name, such as `.exe`.
@@ -334,6 +344,7 @@ def add_app(project: Project, app: NewApp, key: Path | None) -> Iterator[str]:
     if app.members.get("output_files"):
         project.check_uploads()
     catalogue = CatalogueFile(project)
+    check_plan_class(catalogue, app.platform)
     if not catalogue.public_key.exists():
         where = catalogue.public_key.parent
         raise Fault(

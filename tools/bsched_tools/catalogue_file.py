@@ -130,7 +130,7 @@ class CatalogueFile:
         new = self.path.with_name(f".{self.path.name}.new")
         try:
             write_file(self.project, new, text.encode())
-            check_by_bridge(self.project, new)
+            check_by_bridge(self.project, new, self.path)
             os.replace(new, self.path)
             sync(self.path.parent)
         except OSError as error:
@@ -200,8 +200,10 @@ def made_for_group(project: Project, folder: Path) -> Path:
     return folder
 
 
-def check_by_bridge(project: Project, catalogue: Path) -> None:
-    """Has the bridge check its settings with a catalogue, as the user who runs it."""
+def check_by_bridge(project: Project, catalogue: Path, former: Path) -> None:
+    """Has the bridge check its settings with a new catalogue in place of the former one, as the user who runs
+    it. A fault names the former one, since the new one is removed then.
+    """
     words = [
         *command_of_bridge(),
         "--config",
@@ -223,4 +225,5 @@ def check_by_bridge(project: Project, catalogue: Path) -> None:
         raise Fault(f"{words[0]}: {getattr(error, 'strerror', None) or error}") from None
     if done.returncode:
         last = (done.stderr.strip().splitlines() or ["it gives no reason"])[-1]
-        raise Fault(f"the bridge refuses it: {last.removeprefix('bsched-bridge: ')}")
+        says = last.removeprefix("bsched-bridge: ").replace(str(catalogue), f"{former} with the new entries")
+        raise Fault(f"the bridge refuses it: {says}")

@@ -13,7 +13,7 @@ from .jobs import moment_text
 from .looks import Look
 from .stuck import Stuck, named, stuck_in
 from .tables import Tables, copies_in, moment_of, opened
-from .texts import first_line
+from .texts import main_line
 from .workunits import IS_HELD, OPEN, REASONS
 
 LEAST_SECONDS = 60  # between two copies from which a rate follows
@@ -95,7 +95,7 @@ def progress_of(tables: Tables, names: set[str] | None) -> Progress:
     if progress.failed:
         for name, output in tables.rows(ERRORS):
             if names is None or name in names:
-                progress.errors[first_line(output or "")] += 1
+                progress.errors[main_line(output or "")] += 1
     return progress
 
 

@@ -11,7 +11,7 @@ from dataclasses import dataclass
 
 from .amounts import count_text
 from .tables import Tables
-from .texts import first_line, shown
+from .texts import main_line, shown
 from .workunits import IS_HELD
 
 MOST_OWNERS = 100  # a workunit has no more instances, so no more users can have had one
@@ -152,7 +152,7 @@ def stuck_in(tables: Tables, names: set[str] | None = None) -> Iterator[Stuck]:
 def stuck_of(tables: Tables, number: int, name: str, why: str | None) -> Stuck:
     """Returns a stuck workunit; without a reason it waits for a further user."""
     errors = [output or "" for output, in tables.rows(ERRORS, number)]
-    last = shown(first_line(errors[-1])) if errors else ""
+    last = shown(main_line(errors[-1])) if errors else ""
     return Stuck(name, why or "it waits for a computer of a further user", len(errors), last)
 
 

@@ -12,6 +12,8 @@ from collections.abc import Iterable
 UNKNOWN = "\ufffd"  # takes the place of a character that can't be printed
 MOST_TEXT = 70  # characters of a line that is cut
 FORMULA = ("=", "+", "-", "@", "\t", "\r")
+TRACEBACK = "Traceback (most recent call last)"
+UPLOAD_FAILURE = re.compile("upload failure: <file_xfer_error>.*?<error_code>([^<\n]+)<", re.DOTALL)
 NUMBER = re.compile(r"[+-]?(\d+\.?\d*|\.\d+)([eE][+-]?\d+)?", re.ASCII)
 
 
@@ -27,10 +29,15 @@ def shown(text: str, kept: str = "\t") -> str:
     return "".join(one if is_harmless(one) or one in kept else UNKNOWN for one in text)
 
 
-def first_line(text: str) -> str:
-    """Returns the first line of a text that is not empty, cut if it is long."""
+def main_line(text: str) -> str:
+    """Returns the line of an error that says most, cut if it is long: the first one that is not empty, the
+    last one of a traceback of Python, and the client's code of an upload that failed."""
     lines = [line.strip() for line in text.splitlines() if line.strip()]
     line = lines[0] if lines else "nothing"
+    if line.startswith(TRACEBACK):
+        line = lines[-1]
+    elif (code := UPLOAD_FAILURE.match(text)) is not None:
+        line = f"upload failure: {code[1]}"
     return line if len(line) <= MOST_TEXT else f"{line[:MOST_TEXT]}.."
 
 

@@ -7,7 +7,7 @@ import pytest
 from hypothesis import given
 from hypothesis import strategies as st
 
-from bsched_tools.texts import FORMULA, cell, csv_text, json_text, shown, table_text
+from bsched_tools.texts import FORMULA, cell, csv_text, json_text, main_line, shown, table_text
 
 HOSTILE = [
     "\x00",
@@ -80,3 +80,23 @@ def test_a_table_is_read_as_it_was_written(row: list[str]) -> None:
 def test_json_is_exact_and_harmless(text: str) -> None:
     line = json_text({"output": text})
     assert json.loads(line) == {"output": text} and line.isprintable()
+
+
+@pytest.mark.parametrize(
+    "text, line",
+    [
+        ("", "nothing"),
+        ("\n \n  no numbers\nmore", "no numbers"),
+        ("x" * 71, "x" * 70 + ".."),
+        ("Traceback (most recent call last):\n  File ..\nValueError: three\n", "ValueError: three"),
+        ("Traceback (most recent call last):", "Traceback (most recent call last):"),
+        (
+            "upload failure: <file_xfer_error>\n  <file_name>a_0</file_name>\n"
+            "  <error_code>-131 (file size too big)</error_code>\n</file_xfer_error>",
+            "upload failure: -131 (file size too big)",
+        ),
+        ("upload failure: <file_xfer_error>", "upload failure: <file_xfer_error>"),
+    ],
+)
+def test_the_line_of_an_error_that_says_most(text: str, line: str) -> None:
+    assert main_line(text) == line

@@ -204,6 +204,20 @@ def test_other_faults_of_an_application(work: WorkProject, tmp_path: Path) -> No
     assert status == 1 and "bsched-bridge keygen" in line
 
 
+def test_a_plan_class_that_the_catalogue_does_not_have(bare: WorkProject) -> None:
+    """The fault says what to write, and then it works. What only the bridge refuses names the catalogue."""
+    platform = f"{PLATFORM}.mt"
+    outcome = bare.app("--platform", platform)
+    is_refused(bare, outcome, f'name = "mt" at the end of {bare.catalogue}; ', bare.state())
+    with bare.catalogue.open("a") as file:
+        file.write('[[plan_class]]\nname = "mt"\n')
+    assert bare.app("--platform", platform)[0] == 0
+    outcome = bare.app("--command-line", "x" * 5000, name="long")
+    is_refused(
+        bare, outcome, f"the bridge refuses it: {bare.catalogue} with the new entries: line ", bare.state()
+    )
+
+
 def test_what_an_older_project_lacks_is_added_by_a_command(bare: WorkProject) -> None:
     settings = bare.bridge / "bridge.toml"
     settings.write_text(settings.read_text().partition("[uploads]")[0])
