@@ -30,7 +30,7 @@ MOST_HOSTS = 20  # with the most errors
 MINUTES, HOUR = 5, 60  # the minutes of the two spans for which calls are shown
 PUT_OFF_SECONDS = 3600  # within which a report that was put off is worth a warning
 HEALTH_SECONDS = 30 * 60  # after which the findings of bsched-tools health are too old
-NUMBER = re.compile("[1-9][0-9]{0,8}")
+NUMBER = re.compile("[1-9][0-9]{0,9}")  # a hostid
 ACTIONS = {"bar": bar_account, "unbar": unbar_account}
 WHAT_ENDS_MEAN = {
     End.ANSWERED: "answered by the scheduler",

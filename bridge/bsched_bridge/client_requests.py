@@ -207,7 +207,7 @@ def without_words(status: int, state: int) -> str:
     """Returns what is known of a result that failed and of which neither program nor client said a word."""
     if status:
         return f"exit status {status}"
-    return f"the client says that it failed (state {state}), and sent no exit status"
+    return f"a failure (state {state}), without a word or an exit status"
 
 
 def report_of(result: Element) -> Report | None:

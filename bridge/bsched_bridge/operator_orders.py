@@ -239,7 +239,8 @@ def unbar_account(state: State, name: str) -> str:
     if member.authenticator in state.settings.host_rules.barred:
         raise OrderFault("the key is in the list `barred` of bridge.toml: remove it there")
     state.barring.unbar(member.authenticator)
-    return f"{member.name} ({shown_key(member.authenticator)}) is not barred"
+    when = "its computers ask again within 24 hours, or at once if the user presses Update"
+    return f"{member.name} ({shown_key(member.authenticator)}) is not barred: {when}"
 
 
 def is_agreed(question: str) -> bool:

@@ -13,9 +13,9 @@ FORMS = ("GET", "HEAD", "POST")
 
 
 class Number(BaseConverter):
-    """A number in a path, without zeros in front and of at most nine digits."""
+    """A number in a path, without zeros in front and of at most ten digits, as hostids have."""
 
-    regex = "[1-9][0-9]{0,8}"
+    regex = "[1-9][0-9]{0,9}"
 
     def to_python(self, value: str) -> int:
         """Returns the number."""

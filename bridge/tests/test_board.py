@@ -9,11 +9,13 @@ from urllib.parse import urlencode
 import pytest
 from bridges import Bridge
 from messages import FIRST, jobs, request, value
+from numbering import NEW_HOSTID
 from test_pages import Page, page_of
 from twin import Twin
 
 from bsched_bridge import board as board_module
 from bsched_bridge.board import Board, age_text, seconds_text
+from bsched_bridge.hosts import MOST_NUMBER
 from bsched_bridge.limits import RecentCounts
 from bsched_bridge.measurements import End
 from bsched_bridge.settings import project_of
@@ -290,7 +292,7 @@ def test_an_account_is_barred_and_no_longer(bridge: Bridge) -> None:
     assert "Ann (ann..) is barred" in rows(page)
     assert b"has barred this account" in bridge.call(request(hostid=FIRST, seqno=1))
     page = board(bridge, action="unbar", account=" Ann ")
-    assert "Ann (ann..) is not barred" in rows(page)
+    assert "Ann (ann..) is not barred: its computers ask again within 24 hours" in page.text
     assert b"has barred this account" not in bridge.call(request(hostid=FIRST, seqno=1))
 
 
@@ -313,6 +315,16 @@ def test_names_are_escaped(bridge: Bridge) -> None:
     text = answer[2].decode()
     assert page_of(answer, has_key=True).text.count("<script>&\"'") == 2  # what was done, and the computer
     assert "<script" not in text and "&lt;script&gt;&amp;&#34;&#39;" in text
+
+
+def test_the_results_of_a_computer_with_the_largest_number(
+    bridge: Bridge, monkeypatch: pytest.MonkeyPatch
+) -> None:
+    monkeypatch.setattr(NEW_HOSTID, lambda _connection: MOST_NUMBER)
+    bridge.call(request())
+    page = board(bridge, action="results", computer=str(MOST_NUMBER))
+    assert f"Results of computer {MOST_NUMBER}" in page.text
+    assert page.inputs["computer"]["maxlength"] == "10"
 
 
 def test_the_results_of_a_computer(bridge: Bridge, twin: Twin) -> None:

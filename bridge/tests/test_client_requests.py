@@ -185,7 +185,7 @@ def test_exit_statuses(exit_elements: str, status: int) -> None:
     assert report.exit_status == status
     sent = int(exit_elements.partition("<")[0])
     if sent == 0 != status:
-        assert report.output == "the client says that it failed (state 3), and sent no exit status"
+        assert report.output == "a failure (state 3), without a word or an exit status"
     else:
         assert report.output == ("" if status == 0 else f"exit status {status}")
 
@@ -200,7 +200,7 @@ TOO_LARGE = "upload failure: <file_xfer_error>\n  <error_code>-131 (file size to
         (" \n\t\n", TOO_LARGE, TOO_LARGE.strip()),
         ("no numbers", TOO_LARGE, "no numbers"),
         ("<message>mine</message>", TOO_LARGE, "<message>mine</message>"),
-        ("", "", "the client says that it failed (state 3), and sent no exit status"),
+        ("", "", "a failure (state 3), without a word or an exit status"),
         ("", "process exited with code 3 (0x3)", "process exited with code 3 (0x3)"),
     ],
 )

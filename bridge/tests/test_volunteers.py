@@ -11,13 +11,14 @@ from hypothesis import given, strategies as st
 from bridges import Bridge
 from joining import create
 from messages import FIRST, request
+from numbering import NEW_HOSTID
 from test_pages import Page, page_of, posted, with_key
 from twin import Twin
 
 from bsched_bridge.charts import chart_of
 from bsched_bridge.credit_days import DAY, CreditDay, CreditDays
 from bsched_bridge.descriptions import Description, one_line, read_description, system_of
-from bsched_bridge.hosts import Key
+from bsched_bridge.hosts import MOST_NUMBER, Key
 from bsched_bridge.scheduler import Reply
 
 TODAY = 20_000
@@ -423,3 +424,12 @@ def test_each_page_has_one_first_heading(open_bridge: Bridge) -> None:
     for path in (*paths, "delete_account.php"):
         page: Page = page_of(open_bridge.got(f"/p/{path}"))
         assert [tag for tag, _ in page.tags if tag in ("h1", "main", "header", "nav")].count("h1") == 1, path
+
+
+def test_a_computer_with_the_largest_number_has_a_page(
+    bridge: Bridge, monkeypatch: pytest.MonkeyPatch
+) -> None:
+    monkeypatch.setattr(NEW_HOSTID, lambda _connection: MOST_NUMBER)
+    bridge.call(request())
+    assert f"computer/{MOST_NUMBER}" in page_of(bridge.got("/p/status")).links
+    assert str(MOST_NUMBER) in page_of(bridge.got(f"/p/computer/{MOST_NUMBER}")).text

@@ -43,6 +43,7 @@ MOST_INSTANCES = 100  # of a workunit
 ERRORS_COLUMN = 2  # in the columns of a record
 FORMAT = 1
 SHOWN_WORKUNITS = 3
+QUEUED = "SELECT name, sum(queued) FROM instance JOIN unit ON unit.id = unit_id WHERE queued GROUP BY unit_id"
 READ_BY_OTHERS, READ_BY_GROUP = stat.S_IROTH, stat.S_IRGRP
 
 
@@ -418,19 +419,21 @@ def import_all(project: Project, name: str, missing: list[Batch]) -> int:
 
 def queue_line(project: Project, tables: Tables) -> str | None:
     """Returns how many jobs wait before new ones, and how long they take at the present rate. Jobs go out in
-    the order of import, those of every batch."""
-    waiting = tables.number("SELECT sum(queued) FROM instance")
+    the order of import, those of every batch. Those of stuck workunits don't go out."""
+    stuck = {one.name for one in stuck_in(tables)}
+    waiting = sum(count for name, count in tables.rows(QUEUED) if name not in stuck)
     if not waiting:
         return None
     now = progress_of(tables, None)
     begin = begun(now, earlier(project.units().copies, now, None))
-    text = f"{count_text(waiting, 'job')} of other batches {'waits' if waiting == 1 else 'wait'}"
+    do = "waits, and goes out first" if waiting == 1 else "wait, and go out first"
+    text = f"before     {count_text(waiting, 'job')} of other batches {do}"
     ended = 0 if begin is None else now.ended - begin[1]
     if begin is None or not ended:
-        return f"before     {text}, and go out first"
+        return text
     # a workunit that ends takes as many jobs as one that waits, as far as anybody knows
-    seconds = (now.waiting + now.out) * max(1, now.moment - begin[0]) // ended
-    return f"before     {text}, and go out first: {span_text(seconds)} at the present rate"
+    seconds = (now.waiting + now.out - len(stuck)) * max(1, now.moment - begin[0]) // ended
+    return f"{text}: {span_text(seconds)} at the present rate"
 
 
 def sum_lines(plan: Plan, left: list[tuple[Input, Path]], missing: list[Batch], room: int) -> Iterator[str]:

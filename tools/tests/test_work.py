@@ -1008,6 +1008,8 @@ def test_what_is_open_and_stuck_has_a_row(bare: WorkProject, tmp_path: Path) -> 
     assert "bsched-tools: 21 workunits stuck: w1 (no version of dock is for" in bare.tools("results")[2]
     assert "warning   stuck        21 workunits: " in bare.tools("health")[1]
     assert "stuck, of the open ones" in bare.tools("counts")[1]
+    output = bare.submit("--memory", "1k", "--disk", "100k", bare.inputs, batch="next")[1]
+    assert "before     1 job of other batches waits, and goes out first" in output
 
 
 def test_a_folder_keeps_the_rows_of_every_batch(bare: WorkProject, tmp_path: Path) -> None:
