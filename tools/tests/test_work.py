@@ -768,7 +768,7 @@ def test_a_stop_of_app_at_each_step(
         left = 1000
         assert f"a{number}: version 1 for {PLATFORM} is added" in run_here(capsys, *words)[1]
     assert stopped > 7
-    checked(projects.Project(bare.folder), bare.catalogue)
+    checked(projects.Project(bare.folder), bare.catalogue, bare.catalogue)
     versions = CatalogueFile(projects.Project(bare.folder)).members["version"]
     names = [f"a{number}" for number in range(stopped + 1)]
     assert [(one["app"], one["version_num"]) for one in versions] == [(name, 1) for name in names]
