@@ -237,6 +237,18 @@ class Exchange:
         except CountEnded:
             return COUNT_ENDED
 
+    def refusal_of(self, authenticator: str) -> PutOff | None:
+        """Returns what a client reads whose account is refused or does not exist, or None for other accounts.
+        If that can't be known now, its call is put off.
+        """
+        refused = self._refused(authenticator, self.barring.reason(authenticator))
+        if refused is not None or self.numbers.knows_account(authenticator):
+            return refused
+        try:
+            return None if self.scheduler.has_account(authenticator) else put_off_by(Refusal("bad_account"))
+        except NoAnswer:
+            return PutOff(NO_ANSWER, self.retry_delay, is_down=True, end=End.NO_ANSWER)
+
     def _refused(self, authenticator: str, reason: Barred | None) -> PutOff | None:
         """Returns what a client of a barred or a deleted account reads, or None for other accounts."""
         if reason is Barred.DELETED:
