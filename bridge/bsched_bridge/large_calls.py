@@ -3,7 +3,8 @@ of its client, before the call takes a place of the bridge.
 
 Anybody can send such a call. So the bridge first reads its front, which has the account key. Nothing of a
 body is on the disk before the account is known to exist. Then the body comes into a file without a name, in
-the folder of the state file. Of an account only a few bodies come at once.
+the folder of the state file. Of an account only a few bodies come at once. Nor is the XML of a call of middle
+size read before its account is known.
 """
 import logging
 import re
@@ -25,6 +26,7 @@ from .limits import NoPlace
 
 # A web server has the whole body of a smaller call before it passes it on (packaging/nginx).
 LARGE = 100_000  # bytes
+SMALL = 16_384  # bytes of a call that is read before its account is known: reading them costs little
 FRONT, FRONT_SECONDS = 65_536, 5.0  # BOINC's client begins with the account key
 LEAST_RATE, MORE_SECONDS = 16_384, 30.0  # bytes a second of a body, and the seconds that it has besides
 MOST_OF_ACCOUNT, MOST_AT_ONCE = 2, 16  # bodies that come at once
@@ -90,6 +92,25 @@ class LargeCalls:
         self.folder, self.refusal_of = folder, refusal_of
         self._lock, self._coming = threading.Lock(), Counter[str]()
 
+    def checked(self, blocks: Iterator[bytes], length: int) -> Iterator[bytes]:
+        """Yields the blocks of a body that is there. Before the first one it raises Refused or RequestFault,
+        unless the account of the call exists, or the call is small.
+        """
+        if length > SMALL:
+            first = next(blocks)
+            found = KEY.search(first)
+            if found is None:
+                raise word_fault("authenticator")
+            self._check(found[1].decode())
+            yield first
+        yield from blocks
+
+    def _check(self, authenticator: str) -> None:
+        """Raises Refused for an account that is refused or does not exist."""
+        refused = self.refusal_of(authenticator)
+        if refused is not None:
+            raise Refused(refused)
+
     @contextmanager
     def received(self, stream: Stream, length: int) -> Iterator[Iterator[bytes]]:
         """Yields the body of a call, once all of it has come. Raises Refused, RequestFault, NoPlace or
@@ -97,9 +118,7 @@ class LargeCalls:
         """
         coming, ends = Coming(stream, length), time.monotonic() + MORE_SECONDS + length / LEAST_RATE
         authenticator, front = coming.front()
-        refused = self.refusal_of(authenticator)
-        if refused is not None:
-            raise Refused(refused)
+        self._check(authenticator)
         with self._turn(authenticator), tempfile.TemporaryFile(dir=self.folder) as file:
             block = front
             while True:

@@ -81,11 +81,12 @@ class SchedulerMessages:
         with ExitStack() as stack:
             try:
                 if comes_slowly(stream := environ["wsgi.input"], length):
-                    blocks = stack.enter_context(self.large.received(stream, length))
+                    checked = stack.enter_context(self.large.received(stream, length))
                 else:
                     blocks = blocks_of(environ, length)
+                    checked = self.large.checked(blocks, length)
                 with self.places.taken(0.0 if self.exchange.scheduler.is_slow else PLACE_SECONDS):
-                    asked = self.reader.read(blocks, length)
+                    asked = self.reader.read(checked, length)
                     catalogue = self.catalogue()
                     request = catalogue.by_resource(asked)
                     answered = self.exchange.answer(request)

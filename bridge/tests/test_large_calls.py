@@ -13,7 +13,7 @@ from werkzeug.exceptions import BadRequest
 
 from bsched_bridge import large_calls
 from bsched_bridge.exchange import BARRED, PutOff
-from bsched_bridge.large_calls import FRONT, LARGE, MOST_OF_ACCOUNT, LargeCalls, Refused
+from bsched_bridge.large_calls import FRONT, LARGE, MOST_OF_ACCOUNT, SMALL, LargeCalls, Refused
 from bsched_bridge.limits import NoPlace
 from bsched_bridge.measurements import End
 from bsched_bridge.request_parts import RequestFault
@@ -171,6 +171,21 @@ def test_a_stranger_is_refused_by_the_front(bridge: Bridge) -> None:
     assert "Invalid or missing account key" in value(reply, "message")
     assert stream.given < 65_536 < len(stream.body)
     assert bridge.application.measurements.calls.all().ends[End.BAD_ACCOUNT] == 1
+
+
+@pytest.mark.parametrize("length, is_read", [(SMALL, True), (SMALL + 1, False)])
+def test_the_xml_of_a_stranger_is_read_only_if_it_is_small(
+    bridge: Bridge, length: int, is_read: bool
+) -> None:
+    """To read it takes many times the processor time of a refusal."""
+    reply = bridge.call(request(key="made-up")[:200].ljust(length, "<"))
+    assert ("XML" in value(reply, "message")) == is_read
+    assert ("Invalid or missing account key" in value(reply, "message")) != is_read
+
+
+def test_a_call_of_middle_size_without_a_key(bridge: Bridge) -> None:
+    reply = bridge.call("<scheduler_request>".ljust(70_000))
+    assert "authenticator is missing" in value(reply, "message")
 
 
 def test_a_barred_account_is_refused_by_the_front(bridge: Bridge) -> None:
