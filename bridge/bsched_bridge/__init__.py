@@ -8,6 +8,7 @@ A request goes through these modules, in this order:
 application      the WSGI application: it makes the parts, and says what answers at each URL
 routes           the URLs, which Werkzeug compares
 scheduler_messages  a scheduler_request from its bytes to those of its reply
+large_calls      a body that comes slowly, from an account that exists
 request_parts    the parts of a request as it arrives: XML, and what programs wrote
 client_requests  what a client's XML says
 exchange         one request and its answer: resends, whose host a client is, what it reads after a refusal

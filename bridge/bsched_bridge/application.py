@@ -30,6 +30,7 @@ from .host_rules import HostRuleReader
 from .host_search import HostSearch
 from .hosts import Hosts
 from .http_messages import TEXT, XML, Message, answer, is_of_this_machine, log_fault, plain_answer
+from .large_calls import LargeCalls
 from .limits import Places
 from .measurements import Measurements
 from .members import Members
@@ -59,7 +60,8 @@ from .uploads import Uploads
 from .volunteer_pages import VolunteerPages
 
 KEPT_THREADS = 2  # for pages and files, which need nothing of bsched
-UPLOADS_WAITING = 16  # for a place; the server has as many threads besides `threads`
+# for a place; the server has as many threads besides `threads`, and those of large calls
+UPLOADS_WAITING = 16
 
 log = logging.getLogger(__name__)
 
@@ -102,9 +104,10 @@ class Application:
                 settings.accounts, self.members, scheduler, key, passwords or Passwords(), barring
             )
         reports: ReportChecks | None = None
+        self.digests: DigestQueue | None = None
         if store is not None and key is not None:
             jobs = HandedOut(store.tables)
-            digests = DigestQueue(store, jobs, store.settings.digest_seconds)
+            self.digests = digests = DigestQueue(store, jobs, store.settings.digest_seconds)
             reports = ReportChecks(current, store, jobs, hosts, scheduler, key, digests, measured.put_offs)
         self.exchange = Exchange(
             hosts,
@@ -126,7 +129,13 @@ class Application:
             current(), settings.name, settings.url, tokens, has_accounts=self.accounts is not None
         )
         self.requests = SchedulerMessages(
-            self.exchange, current, self.writer, recent, self.places, measured.calls
+            self.exchange,
+            current,
+            self.writer,
+            recent,
+            self.places,
+            LargeCalls(settings.state.parent, self.exchange.refusal_of),
+            measured.calls,
         )
         self.statements = Statements(hosts, self.members, scheduler, key, settings.counts, archives, recent)
         self.templates = Templates(settings)
@@ -199,7 +208,9 @@ class Application:
         """Returns what answers at the operator's URLs. They do not exist for messages from elsewhere."""
         settings, key = self.settings, self.settings.operator_key
         probe = SchedulerProbe(self.scheduler, key)
-        overviews = Overviews(settings, self.file, self.store, self.measurements, probe, self.faults)
+        overviews = Overviews(
+            settings, self.file, self.store, self.measurements, probe, self.faults, self.digests
+        )
         routes = [Route("operator/metrics", self._for_operator(Metrics(overviews).answer))]
         if key is not None:
             board = Board(

@@ -221,6 +221,15 @@ class CallNumbers:
         )
         return None if row is None else Key(cast(str, row[0]), cast(str, row[1]))
 
+    def knows_account(self, authenticator: str) -> bool:
+        """Returns whether the state file has an account, or a host of it that had a reply."""
+        row = self.file.row(
+            "SELECT 1 FROM member WHERE authenticator = ?1 UNION ALL "
+            "SELECT 1 FROM host WHERE authenticator = ?1 AND scheduler_hostid IS NOT NULL LIMIT 1",
+            authenticator,
+        )
+        return row is not None
+
     def has_many_of_strangers(self) -> bool:
         """Returns whether there are as many open calls of unknown accounts as there may be."""
         row = self.file.row(

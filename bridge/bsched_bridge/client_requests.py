@@ -167,9 +167,14 @@ class Fields:
         """Returns the word of an element, which must exist."""
         word = self.text(name)
         if word is None or not is_word(word):
-            message = gettext_noop("%(name)s is missing, or is not 1 to 64 letters, digits, '_', '-' and '.'")
-            raise self._fault(message, name)
+            raise word_fault(f"{self._of}{name}")
         return word
+
+
+def word_fault(name: str) -> RequestFault:
+    """Returns the fault of a request without the word of an element."""
+    message = gettext_noop("%(name)s is missing, or is not 1 to 64 letters, digits, '_', '-' and '.'")
+    return RequestFault(Text(message, {"name": name}))
 
 
 def is_result_name(name: str) -> bool:

@@ -237,6 +237,18 @@ class Exchange:
         except CountEnded:
             return COUNT_ENDED
 
+    def refusal_of(self, authenticator: str) -> PutOff | None:
+        """Returns what a client reads whose account is refused or does not exist, or None for other accounts.
+        If that can't be known now, its call is put off.
+        """
+        refused = self._refused(authenticator, self.barring.reason(authenticator))
+        if refused is not None or self.numbers.knows_account(authenticator):
+            return refused
+        try:
+            return None if self.scheduler.has_account(authenticator) else put_off_by(Refusal("bad_account"))
+        except NoAnswer:
+            return PutOff(NO_ANSWER, self.retry_delay, is_down=True, end=End.NO_ANSWER)
+
     def _refused(self, authenticator: str, reason: Barred | None) -> PutOff | None:
         """Returns what a client of a barred or a deleted account reads, or None for other accounts."""
         if reason is Barred.DELETED:
@@ -300,12 +312,17 @@ class Exchange:
         """
         if original is None:
             found = self._host_of(request)
-        else:
-            log.warning("a client of host %d is a copy, and gets a number of its own", request.hostid)
-            found = self._host_of_copy(request, original)
-        if isinstance(found, PutOff):
-            return found
-        return self._of_found(request, *found, original)
+            if isinstance(found, PutOff):
+                return found
+            return self._of_found(request, *found, None)
+        holders = self._holders_for_copy(request, original)
+        if isinstance(holders, PutOff):
+            return holders
+        if not self._is_copy(request, original, holders):
+            log.warning("host %d is another computer than its number says", request.hostid)
+            return self._of_unknown(request, None)
+        log.warning("a client of host %d is a copy, and gets a number of its own", request.hostid)
+        return self._of_found(request, None, holders, original)
 
     def _of_found(
         self, request: ClientRequest, key: Key | None, holders: dict[str, Key], original: KnownHost | None
@@ -375,9 +392,9 @@ class Exchange:
             last = replace(reply, result_ack=(last.result_ack if last else []) + reply.result_ack)
         return None if last is None else Answered(last)
 
-    def _host_of_copy(self, request: ClientRequest, original: KnownHost) -> "Found | PutOff":
-        """Returns that a copy is a new host, and which host has each of its reported results. Those that the
-        original had when it was copied are the original's.
+    def _holders_for_copy(self, request: ClientRequest, original: KnownHost) -> dict[str, Key] | PutOff:
+        """Returns which host has each of a copy's reported results. Those that the original had when it was
+        copied are the original's.
         """
         reported = names_of(request.results)
         if reported and self.search.operator_key is not None and not self._has_host(original.key):
@@ -385,8 +402,19 @@ class Exchange:
             if isinstance(asked, PutOff):
                 return asked
         if self.search.operator_key is None:
-            return None, dict.fromkeys(reported, original.key)
-        return None, self.search.holders(original.key, reported)
+            return dict.fromkeys(reported, original.key)
+        return self.search.holders(original.key, reported)
+
+    def _is_copy(self, request: ClientRequest, original: KnownHost, holders: dict[str, Key]) -> bool:
+        """Returns whether a client that sends the number of a host is a copy of its computer. After a loss of
+        the state file the number may have been given a second time. Then the client is another computer: it
+        has another host_cpid, and reports what the host does not have.
+        """
+        if request.host_cpid == original.key.host_cpid:
+            return True
+        if self._cpids.has((original.key, request.host_cpid)):
+            return True
+        return all(holders.get(name) == original.key for name in names_of(request.results))
 
     def _host_of(self, request: ClientRequest) -> "Found | PutOff":
         """Returns the key of a client whose number is not known, and which host has each of its results, as

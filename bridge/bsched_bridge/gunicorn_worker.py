@@ -7,6 +7,7 @@ once, so none is kept open here. The unit runs gunicorn with
 `--worker-class bsched_bridge.gunicorn_worker.Worker`.
 """
 import errno
+import math
 import socket
 import struct
 import threading
@@ -21,6 +22,8 @@ from gunicorn.workers.gthread import TConn, ThreadWorker  # type: ignore[import]
 WAIT_SECONDS = 1  # until a thread that waits for a connection looks whether the worker ends
 PAUSE_SECONDS = 0.1  # after a connection that can't be taken, for example for want of descriptors
 PASSING = (errno.EAGAIN, errno.ECONNABORTED)  # nobody came, or somebody who has gone
+# how long, and how many bytes of a body that nobody needs are read after the answer
+REST_SECONDS, MOST_REST = 2.0, 1024 * 1024
 
 
 def set_wait(one: socket.socket, seconds: int) -> None:
@@ -30,6 +33,28 @@ def set_wait(one: socket.socket, seconds: int) -> None:
 
 class Input(Body):  # type: ignore[misc]
     """The body of a message. It reads a block at once, and not by the kilobyte."""
+
+    def __init__(self, reader: Any, connection: socket.socket) -> None:
+        super().__init__(reader)
+        self._connection = connection
+
+    def read_some(self, most: int, seconds: float) -> bytes:
+        """Returns the next bytes as soon as some have come, or none at the end. Raises TimeoutError if none
+        come for so many seconds.
+        """
+        if seconds <= 0:
+            raise TimeoutError
+        set_wait(self._connection, math.ceil(seconds))
+        try:
+            block: bytes = self.reader.unreader.read()
+        except BlockingIOError:
+            raise TimeoutError from None
+        finally:
+            set_wait(self._connection, 0)
+        most = min(most, self.reader.length)
+        self.reader.unreader.unread(block[most:])
+        self.reader.length -= len(block[:most])
+        return block[:most]
 
     def read(self, size: int | None = None) -> bytes:
         """Returns the next bytes, all of them without a size."""
@@ -90,11 +115,13 @@ class Worker(ThreadWorker):  # type: ignore[misc]
         response, environ = wsgi.create(request, taken.sock, taken.client, taken.server, self.settings)
         response.force_close()
         environ["wsgi.multithread"] = True
-        environ["wsgi.input"] = Input(request.body.reader)
+        environ["wsgi.input"] = Input(request.body.reader, taken.sock)
         blocks = self.wsgi(environ, response.start_response)
         try:
             if isinstance(blocks, list):
                 send_whole(taken.sock, response, b"".join(blocks))
+                if getattr(request.body.reader, "length", 0):
+                    read_rest(taken.sock)
                 return False
             if isinstance(blocks, environ["wsgi.file_wrapper"]):
                 response.write_file(blocks)
@@ -121,3 +148,20 @@ def send_whole(connection: socket.socket, response: Any, body: bytes) -> None:
     head += [f"{name}: {value}" for name, value in response.headers]
     response.headers_sent = True
     connection.sendall("\r\n".join([*head, "", ""]).encode("latin-1") + body)
+
+
+def read_rest(connection: socket.socket) -> None:
+    """Reads what still comes of a body, until the other side has closed. To close a connection with unread
+    bytes resets it, and nginx may not have read the answer yet.
+    """
+    ends, left = time.monotonic() + REST_SECONDS, MOST_REST
+    connection.shutdown(socket.SHUT_WR)
+    set_wait(connection, WAIT_SECONDS)
+    while left > 0 and time.monotonic() < ends:
+        try:
+            block = connection.recv(min(left, 65536))
+        except BlockingIOError:
+            return
+        if not block:
+            return
+        left -= len(block)

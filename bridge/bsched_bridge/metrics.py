@@ -75,10 +75,15 @@ def of_bridge(overview: Overview) -> Iterator[Metric]:
     yield from labelled("bridge_disk_free_bytes", "Free room of the disk of a folder.", "folder", free)
     yield from labelled("bridge_disk_bytes", "The size of the disk of a folder.", "folder", total)
     if overview.uploads is not None:
-        pending, room = overview.uploads.pending, overview.uploads.room
+        pending, room, largest = overview.uploads.pending, overview.uploads.room, overview.uploads.largest
         yield from gauge("bridge_uploads_pending", "Files whose results are not reported yet.", pending)
         yield from gauge("bridge_uploads_used_bytes", "The bytes of all uploaded files.", room.used)
         yield from gauge("bridge_uploads_limit_bytes", "How many bytes they may have.", room.most)
+        text = "The bytes of files that are not reported, of the account that has most."
+        yield from gauge("bridge_uploads_largest_account_bytes", text, largest.used)
+        yield from gauge("bridge_uploads_account_limit_bytes", "How many an account may have.", largest.most)
+    text = "Results that wait for their digest program."
+    yield from gauge("bridge_digests_waiting", text, overview.digests_waiting)
     text = "Computers that get fewer jobs, since they reported errors."
     yield from gauge("bridge_held_back_hosts", text, overview.held_back)
     good = float(overview.faults.edit is None)

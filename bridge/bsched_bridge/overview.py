@@ -6,6 +6,7 @@ from pathlib import Path
 from typing import cast
 
 from .current_catalogue import CatalogueFaults
+from .digest_queue import DigestQueue
 from .measurements import Measurements
 from .members import DAY, MADE_BETWEEN
 from .scheduler_probe import Probe, SchedulerProbe
@@ -17,6 +18,9 @@ from .upload_store import UploadStore
 OPEN_CALLS = "SELECT count(*) FROM host WHERE open_call IS NOT NULL"
 OPEN_IMPORTS = "SELECT count(*) FROM member WHERE is_imported = 0"
 PENDING = "SELECT count(*) FROM upload"
+LARGEST = (
+    "SELECT coalesce(max(nbytes), 0) FROM (SELECT sum(nbytes) AS nbytes FROM upload GROUP BY authenticator)"
+)
 
 
 @dataclass(frozen=True, slots=True)
@@ -34,6 +38,7 @@ class Uploads:
 
     pending: int  # files whose results are not reported yet
     room: Limit  # bytes of all files
+    largest: Limit  # bytes of the account that has most in files whose results are not reported yet
 
 
 @dataclass(frozen=True, slots=True)
@@ -53,6 +58,7 @@ class Overview:
     timers: list[Timer]
     faults: CatalogueFaults
     held_back: int  # computers that get fewer jobs
+    digests_waiting: int | None  # results that wait for their digest program; None without [uploads]
 
 
 def disk_of(folder: Path) -> Disk:
@@ -72,8 +78,9 @@ class Overviews:
         measurements: Measurements,
         probe: SchedulerProbe,
         faults: CatalogueFaults | None = None,
+        digests: DigestQueue | None = None,
     ) -> None:
-        self.faults = faults or CatalogueFaults()
+        self.faults, self.digests = faults or CatalogueFaults(), digests
         self.settings, self.file, self.store = settings, file, store
         self.measurements, self.probe = measurements, probe
 
@@ -99,6 +106,7 @@ class Overviews:
             timers_of(settings.project, now),
             CatalogueFaults(self.faults.edit, dict(self.faults.digests)),
             self.measurements.held_back.count(),
+            None if self.digests is None else self.digests.waiting(),
         )
 
     def _disks(self) -> dict[str, Disk]:
@@ -118,5 +126,9 @@ class Overviews:
 
 def uploads_of(store: UploadStore) -> Uploads:
     """Returns what the folder of uploads has."""
-    row = store.tables.row(PENDING)
-    return Uploads(cast(int, row[0]) if row else 0, Limit(store.tables.used(), store.settings.most_bytes))
+    pending, largest = store.tables.row(PENDING), store.tables.row(LARGEST)
+    return Uploads(
+        cast(int, pending[0]) if pending else 0,
+        Limit(store.tables.used(), store.settings.most_bytes),
+        Limit(cast(int, largest[0]) if largest else 0, store.settings.most_account_bytes),
+    )

@@ -1,6 +1,7 @@
 """Answers the scheduler_requests of clients: reads a request, and writes the reply to it."""
 import time
-from collections.abc import Callable, Iterable
+from collections.abc import Callable, Iterable, Iterator
+from contextlib import ExitStack
 
 from werkzeug.exceptions import HTTPException
 from wsgiref.types import WSGIEnvironment
@@ -12,6 +13,7 @@ from .exchange import HOUR, TOO_BUSY, Exchange, PutOff
 from .http_messages import XmlAnswer, blocks_of, length_of
 from .key_locks import Busy, KeyLocks
 from .languages import asked_language, gettext_lazy
+from .large_calls import LargeCalls, Refused, comes_slowly
 from .limits import NoPlace, Places
 from .measurements import Calls, End
 from .recent_credit import Recent, RecentCredit
@@ -50,10 +52,11 @@ class SchedulerMessages:
         writer: ReplyWriter,
         recent: RecentCredit,
         places: Places,
+        large: LargeCalls,
         calls: Calls | None = None,
     ) -> None:
         self.exchange, self.catalogue, self.writer = exchange, catalogue, writer
-        self.recent, self.places, self.calls = recent, places, calls or Calls()
+        self.recent, self.places, self.large, self.calls = recent, places, large, calls or Calls()
         self.reader = RequestReader()
 
     def answer(self, environ: WSGIEnvironment) -> XmlAnswer:
@@ -71,24 +74,31 @@ class SchedulerMessages:
     def _answered(self, environ: WSGIEnvironment, began: float) -> tuple[bytes, End]:
         """Returns the answer to a scheduler_request, and how the call ends. The client always gets a
         scheduler_reply. Of a request that is refused the rest is read, too: a proxy may not read the answer
-        before.
+        before. But of a large one only the front is read, if that is refused.
         """
         length, language = length_of(environ, MOST_BYTES), asked_language(environ)
-        blocks = blocks_of(environ, length)
-        try:
-            with self.places.taken(0.0 if self.exchange.scheduler.is_slow else PLACE_SECONDS):
-                asked = self.reader.read(blocks, length)
-                catalogue = self.catalogue()
-                request = catalogue.by_resource(asked)
-                answered = self.exchange.answer(request)
-        except RequestFault as fault:
-            answered = PutOff(
-                gettext_lazy("Error in request message: %(why)s", why=fault.text), HOUR, end=End.UNREADABLE
-            )
-        except (Busy, NoPlace):
-            answered = PutOff(TOO_BUSY, self.exchange.retry_delay, end=End.TOO_BUSY)
-        for _ in blocks:
-            pass
+        blocks: Iterator[bytes] = iter(())
+        with ExitStack() as stack:
+            try:
+                if comes_slowly(stream := environ["wsgi.input"], length):
+                    checked = stack.enter_context(self.large.received(stream, length))
+                else:
+                    blocks = blocks_of(environ, length)
+                    checked = self.large.checked(blocks, length)
+                with self.places.taken(0.0 if self.exchange.scheduler.is_slow else PLACE_SECONDS):
+                    asked = self.reader.read(checked, length)
+                    catalogue = self.catalogue()
+                    request = catalogue.by_resource(asked)
+                    answered = self.exchange.answer(request)
+            except RequestFault as fault:
+                why = gettext_lazy("Error in request message: %(why)s", why=fault.text)
+                answered = PutOff(why, HOUR, end=End.UNREADABLE)
+            except Refused as fault:
+                answered = fault.put_off
+            except (Busy, NoPlace):
+                answered = PutOff(TOO_BUSY, self.exchange.retry_delay, end=End.TOO_BUSY)
+            for _ in blocks:
+                pass
         if isinstance(answered, PutOff):
             return self.writer.put_off(answered, language), answered.end
         reply = answered.reply

@@ -134,6 +134,35 @@ def test_a_number_that_is_given_again_and_a_changed_host_cpid(
         assert "can't tell which computer got u1_0" in value(reply, "message")
 
 
+def gives_number_again(bridge: Bridge, seqno: int) -> None:
+    """B is known to a new state file by the number that A had from the lost one, and has called before."""
+    bridge.call(request(hostid=B, cpid="b", seqno=3, listed=["u2_0"], seconds=0))
+    with bridge.file.transaction() as connection:
+        connection.execute("UPDATE host SET hostid = ?, client_seqno = ? WHERE host_cpid = 'b'", (A, seqno))
+
+
+def test_a_number_that_is_given_again_and_a_lower_count(
+    two: Bridge, twin: Twin, monkeypatch: pytest.MonkeyPatch
+) -> None:
+    """A looks like a copy of B. The bridge does not know A's host, and finds out that it has the result."""
+    loses_state(two, monkeypatch)
+    gives_number_again(two, seqno=9)
+    reply = two.call(request(hostid=A, cpid="a", seqno=7, reports=[("u1_0", "42")], seconds=0))
+    assert names(reply, "result_ack") == ["u1_0"] and recorded(twin, "u1_0") == "a"
+    assert value(reply, "hostid") not in (None, str(A), str(B))
+
+
+def test_a_number_that_is_given_again_a_lower_count_and_a_changed_host_cpid(
+    two: Bridge, twin: Twin, monkeypatch: pytest.MonkeyPatch
+) -> None:
+    """Nobody can say whose the result is, so it is not acknowledged."""
+    loses_state(two, monkeypatch)
+    gives_number_again(two, seqno=9)
+    reply = two.call(request(hostid=A, cpid="new", seqno=7, reports=[("u1_0", "42")], seconds=0))
+    assert names(reply, "result_ack") == [] and recorded(twin, "u1_0") is None
+    assert "can't tell which computer got u1_0" in value(reply, "message")
+
+
 def test_a_further_file_in_which_the_numbers_are_exchanged(two: Bridge, twin: Twin) -> None:
     twin.service = further_file(twin.service, 1)
     assert jobs(two.call(request(hostid=B, cpid="b", listed=["u2_0"]))) == ["f1u1_0"]

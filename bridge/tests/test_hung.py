@@ -89,8 +89,11 @@ def test_pages_and_files_are_answered_while_bsched_hangs(
 ) -> None:
     asked, threads = bridge.application.scheduler, bridge.application.settings.threads
     monkeypatch.setattr(asked, "answer_seconds", 600)
-    server = waitress.create_server(bridge.application, host="127.0.0.1", port=0, threads=threads)
-    threading.Thread(target=server.run, daemon=True).start()
+    server = waitress.create_server(
+        bridge.application, host="127.0.0.1", port=0, threads=threads, clear_untrusted_proxy_headers=True
+    )
+    serving = threading.Thread(target=server.run, daemon=True)
+    serving.start()
 
     def got(method: str, path: str, body: str | None = None) -> bytes:
         connection = http.client.HTTPConnection("127.0.0.1", server.effective_port, timeout=120)
@@ -112,7 +115,9 @@ def test_pages_and_files_are_answered_while_bsched_hangs(
         assert len(asked._began) == threads - 2  # these calls still wait
     for caller in callers:
         caller.join()
-    server.close()
+    server.trigger.pull_trigger(server.close)  # by its own thread, which still waits at its sockets
+    serving.join(60)
+    assert not serving.is_alive() and server.task_dispatcher.shutdown()
 
 
 def test_a_message_that_has_just_begun_is_not_slow(twin: Twin, monkeypatch: pytest.MonkeyPatch) -> None:

@@ -167,6 +167,9 @@ def test_uploads(file_bridge: Bridge, monkeypatch: pytest.MonkeyPatch) -> None:
     assert numbers["bridge_uploads_pending", ""] == 1
     assert numbers["bridge_uploads_used_bytes", ""] == len(DATA)
     assert numbers["bridge_uploads_limit_bytes", ""] == 1_000_000
+    assert numbers["bridge_uploads_largest_account_bytes", ""] == len(DATA)
+    assert numbers["bridge_uploads_account_limit_bytes", ""] == 100_000
+    assert numbers["bridge_digests_waiting", ""] == 0
     assert numbers["bridge_disk_bytes", "uploads"] > 0
 
 
@@ -302,14 +305,25 @@ def test_the_examples_name_numbers_that_exist(full_bridge: Bridge) -> None:
     }
     assert len(shown) > 10 and shown <= exported
     rules = named_in(EXAMPLES / "rules.yml")
-    assert len(rules) > 5 and rules <= exported
+    assert len(rules) > 12 and rules <= exported
     assert named_in(EXAMPLES / "rules_test.yml") <= exported
+
+
+def test_each_value_of_a_label_in_the_rules_exists(full_bridge: Bridge) -> None:
+    """A mistyped value would make an alert that never fires."""
+    found = numbers_of(full_bridge)
+    text = (EXAMPLES / "rules.yml").read_text()
+    used = re.findall(r'bsched_(\w+)\{(?:end|why|outcome)=~?"([^"]*)"\}', text)
+    assert len(used) > 4
+    for name, values in used:
+        assert {value for value in values.split("|") if (name, value) not in found} == set()
 
 
 def test_the_alerts() -> None:
     rules = (EXAMPLES / "rules.yml").read_text()
     alerts = re.findall("- alert: (.*)", rules)
-    assert alerts == ["BschedDown", "BschedDisk", "BschedNoCopy", "BschedErrorsRise"]
+    later = ["BschedCatalogue", "BschedReportsWait", "BschedUploadsFill", "BschedStuck"]
+    assert alerts == ["BschedDown", "BschedDisk", "BschedNoCopy", "BschedErrorsRise", *later]
     tests = (EXAMPLES / "rules_test.yml").read_text()
     for alert in alerts:  # each fires in a test, and does not fire in one
         shown = re.findall(rf"alertname: {alert}\n +exp_alerts: ?(.*)", tests)

@@ -5,6 +5,7 @@ from pathlib import Path
 import pytest
 
 from bsched_bridge.application import UPLOADS_WAITING
+from bsched_bridge.large_calls import MOST_AT_ONCE
 
 DEBIAN = Path(__file__).resolve().parents[2] / "debian"
 UNIT = DEBIAN / "bsched-tools@.bsched-bridge.service"
@@ -19,10 +20,10 @@ def test_a_worker_may_load_as_long_as_the_check() -> None:
     assert limits == [("600", ""), ("", "600")]
 
 
-def test_gunicorn_has_threads_for_uploads_that_wait() -> None:
-    """Without them, uploads that wait would keep pages waiting."""
+def test_gunicorn_has_threads_for_what_waits() -> None:
+    """Without them, uploads that wait and large calls that come would keep pages waiting."""
     (threads,) = re.findall(r"^ExecStart=.* --threads (\d+) .*$", UNIT.read_text(), re.MULTILINE)
-    assert int(threads) == 8 + UPLOADS_WAITING  # 8 is the default of `threads`
+    assert int(threads) == 8 + UPLOADS_WAITING + MOST_AT_ONCE  # 8 is the default of `threads`
 
 
 UNITS = sorted(path.name for path in DEBIAN.glob("*@*.service"))

@@ -15,10 +15,11 @@ from pathlib import Path
 
 import pytest
 from served import free_port
+from joining import wait_until
 from test_nginx import NGINX, URL, bridge_port, served, written
 from test_project import Machine
 
-PASSED, REFUSED, TOO_LARGE, NO_ANSWER = 200, 503, 413, 0
+PASSED, REFUSED, LENGTH_REQUIRED, TOO_LARGE, NO_ANSWER = 200, 503, 411, 413, 0
 MOST_OF_ADDRESS, MOST_OF_ACCOUNT, MOST_OF_SITE, MOST_OF_ALL, MOST_PLAIN = 8, 8, 16, 64, 4  # uploads
 LARGE, MOST_LARGE, LARGE_OF_ADDRESS, LARGE_OF_SITE = 100_000, 16, 2, 4  # calls
 BURST = 20
@@ -42,7 +43,7 @@ def test_each_refusal_is_left_out_of_the_logs(machine: Machine) -> None:
     """Messages that one address sends beyond its limits would fill the disk with lines (27 GB a day)."""
     text = (written(machine, "sums", URL) / "locations.conf").read_text()
     limited = [part for part in re.findall(r"^location .*?^}", text, re.M | re.S) if "limit_" in part]
-    assert len(limited) == 7
+    assert len(limited) == 9
     for location in limited:
         is_quiet = "access_log off;" in location and "error_log /dev/null crit;" in location
         for kind in ("limit_req", "limit_conn"):
@@ -56,7 +57,8 @@ def test_no_body_may_stay_away_for_long(machine: Machine) -> None:
     text = (written(machine, "sums", URL) / "locations.conf").read_text()
     passed = [part for part in re.findall(r"^location .*?^}", text, re.M | re.S) if "proxy_pass " in part]
     passed = [part for part in passed if "internal;" not in part and "return 404;" not in part]
-    assert len(passed) == 6 and all("client_body_timeout 10s;" in part for part in passed)
+    passed += [part for part in re.findall(r"^location .*?^}", text, re.M | re.S) if "large_call {" in part]
+    assert len(passed) == 8 and all("client_body_timeout 10s;" in part for part in passed)
 
 
 @pytest.mark.parametrize("url, is_strict", [(URL, True), ("https://sums.example:8443/", False)])
@@ -109,6 +111,7 @@ class Bridge(BaseHTTPRequestHandler):
 
     protocol_version = "HTTP/1.1"
     takes_plain_urls = True
+    posts: list[str] = []  # the lengths of the messages with bodies that began
 
     def do_GET(self) -> None:
         """Answers the question of nginx about a URL, and all else."""
@@ -122,6 +125,7 @@ class Bridge(BaseHTTPRequestHandler):
 
     def do_POST(self) -> None:
         """Reads the body of a message, and answers."""
+        Bridge.posts.append(self.headers["Content-Length"])
         length = int(self.headers["Content-Length"])
         assert len(self.rfile.read(length)) == length
         self._answer(200, "read")
@@ -231,16 +235,19 @@ def status_of(connection: http.client.HTTPSConnection, seconds: float) -> int:
         return NO_ANSWER
 
 
-@pytest.fixture(scope="module")
-def site(tmp_path_factory: pytest.TempPathFactory) -> Iterator[Site]:
-    """Runs nginx with the files of a project. A body may stay away for a minute: a busy machine is slow."""
+@contextmanager
+def running(tmp_path_factory: pytest.TempPathFactory, second: str) -> Iterator[Site]:
+    """Runs nginx with the files of a project. A body may stay away for a minute: a busy machine is slow. What
+    an address may ask in a second, it may ask in the time that is named.
+    """
     if NGINX is None:
         pytest.skip("nginx is not installed")
     machine = Machine(tmp_path_factory.mktemp("projects"))
     files = written(machine, "sums", URL)
     folder, port, tls_port = tmp_path_factory.mktemp("nginx"), free_port(), free_port()
-    with (files / "limits.conf").open("a") as limits:
-        limits.write("set_real_ip_from 127.0.0.1;\nreal_ip_header X-Address;\n")
+    limits = files / "limits.conf"
+    text = re.sub(r"(rate=\d+r)/s;", rf"\1/{second};", limits.read_text())
+    limits.write_text(f"{text}set_real_ip_from 127.0.0.1;\nreal_ip_header X-Address;\n")
     locations = files / "locations.conf"
     locations.write_text(
         locations.read_text().replace("client_body_timeout 10s;", "client_body_timeout 60s;")
@@ -249,6 +256,20 @@ def site(tmp_path_factory: pytest.TempPathFactory) -> Iterator[Site]:
     with bridge() as own:
         with served(folder, paths, {80: port, 443: tls_port, bridge_port(machine, "sums"): own}):
             yield Site(tls_port, folder)
+
+
+@pytest.fixture(scope="module")
+def site(tmp_path_factory: pytest.TempPathFactory) -> Iterator[Site]:
+    """A project at nginx."""
+    with running(tmp_path_factory, "s") as made:
+        yield made
+
+
+@pytest.fixture(scope="module")
+def strict_site(tmp_path_factory: pytest.TempPathFactory) -> Iterator[Site]:
+    """One at which also a slow machine asks too often."""
+    with running(tmp_path_factory, "m") as made:
+        yield made
 
 
 def addresses_of(network: ipaddress.IPv6Network, count: int) -> list[str]:
@@ -275,9 +296,9 @@ ASKING = {
 
 
 @pytest.mark.parametrize("who", ASKING)
-def test_whom_an_address_counts_as(site: Site, who: str) -> None:
+def test_whom_an_address_counts_as(strict_site: Site, who: str) -> None:
     addresses, is_one = ASKING[who]
-    statuses = site.asked(addresses)
+    statuses = strict_site.asked(addresses)
     if is_one:
         assert statuses[REFUSED] > 0 and statuses[PASSED] > BURST
     else:
@@ -456,40 +477,49 @@ CALLING = {
 
 @pytest.mark.parametrize("who", CALLING)
 def test_nobody_fills_the_disk_with_calls(site: Site, who: str) -> None:
-    """Only large calls are on the disk, and small ones of others are answered meanwhile."""
+    """No call is on the disk of nginx, and small ones of others are answered meanwhile."""
     messages, places = CALLING[who]
     with begun(site, messages, len(messages) - places) as statuses:
         assert statuses == {NO_ANSWER: places, REFUSED: len(messages) - places}
-        assert len(site.bodies()) <= (places if messages[0].length >= LARGE else 0)
+        assert site.bodies() == []
         calls = [site.answered(call_of(f"203.0.113.{100 + one}", 50_000)) for one in range(10)]
         assert calls == [(PASSED, "read")] * 10
     assert in_the_end(site, messages[0]) == PASSED
 
 
-def test_a_call_that_does_not_say_its_length_counts_as_a_large_one(site: Site) -> None:
-    """Its body has no bound before it ends."""
-    with begun_in_chunks(site, "192.0.2.92", 4) as statuses:
-        assert statuses == {NO_ANSWER: LARGE_OF_ADDRESS, REFUSED: 4 - LARGE_OF_ADDRESS}
+@pytest.mark.parametrize("path", ["cgi", "status", "create_account.php", "download/sum_1", "picture/a-b.png"])
+def test_a_body_says_its_length(site: Site, path: str) -> None:
+    """nginx would write a body in chunks to the disk."""
+    connection = site.connection()
+    connection.putrequest("POST", f"/project/{path}", skip_host=True)
+    for name, value in (("Host", "sums.example"), ("X-Address", "192.0.2.92")):
+        connection.putheader(name, value)
+    connection.putheader("Transfer-Encoding", "chunked")
+    connection.endheaders(b"1\r\nh\r\n" * 20_000)
+    assert connection.getresponse().status == LENGTH_REQUIRED
+    assert site.bodies() == []
+    connection.close()
 
 
-@contextmanager
-def begun_in_chunks(site: Site, address: str, count: int) -> Iterator[Counter[int]]:
-    """Begins calls in chunks, and yields how many have which status."""
-    connections, statuses = [], Counter[int]()
-    try:
-        for _ in range(count):
-            connection = site.connection()
-            connection.putrequest("POST", "/project/cgi", skip_host=True)
-            for name, value in (("Host", "sums.example"), ("X-Address", address)):
-                connection.putheader(name, value)
-            connection.putheader("Transfer-Encoding", "chunked")
-            connection.endheaders(b"5\r\nhello\r\n")
-            connections.append(connection)
-            statuses[status_of(connection, 3)] += 1
-        yield statuses
-    finally:
-        for connection in connections:
-            connection.close()
+def test_a_call_without_a_length(site: Site) -> None:
+    connection = site.connection()
+    connection.putrequest("POST", "/project/cgi", skip_host=True)
+    connection.putheader("Host", "sums.example")
+    connection.endheaders()
+    assert connection.getresponse().status == LENGTH_REQUIRED
+    connection.close()
+
+
+def test_a_length_with_zeros_is_no_large_one(site: Site) -> None:
+    """The bridge has the whole body of a small call before it reads it."""
+    fields = {"Content-Length": "00000000123"}
+    assert site.answered(Sent("192.0.2.95", "/project/cgi", 123, fields)) == (PASSED, "read")
+    Bridge.posts.clear()
+    small = site.begun(Sent("192.0.2.95", "/project/cgi", 123, fields), bytes(120))
+    large = site.begun(Sent("192.0.2.95", "/project/cgi", LARGE), bytes(120))
+    wait_until(lambda: Bridge.posts == [str(LARGE)])
+    for connection in (small, large):
+        connection.close()
 
 
 @pytest.mark.parametrize("path", ["status", "account", "create_account.php", "download/sum_1"])
@@ -500,7 +530,8 @@ def test_only_calls_have_large_bodies(site: Site, path: str) -> None:
     assert site.bodies() == []
 
 
-def test_refused_messages_leave_nothing_in_the_logs(site: Site) -> None:
+def test_refused_messages_leave_nothing_in_the_logs(strict_site: Site) -> None:
+    site = strict_site
     before = {path: path.stat().st_size for path in (site.folder / "log").iterdir() if path.is_file()}
     statuses = site.asked(["192.0.2.94"] * 300)
     assert statuses[REFUSED] > 200
