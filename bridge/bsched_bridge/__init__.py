@@ -76,6 +76,7 @@ tool_files       what the tools and systemd leave for the bridge to read
 overview         all that is known at one moment
 metrics          the same for Prometheus
 board            the same as a page, with forms
+operator_state   what `bsched-tools health` asks for (operator_key: who gets it)
 
 Requests and accounts keep their rows in the state_file, in SQLite. downloads sends files. The other modules
 are settings, host_rules (settings that are read again), limits, operator_files (TOML with the lines of its

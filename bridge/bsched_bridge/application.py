@@ -35,6 +35,8 @@ from .limits import Places
 from .measurements import Measurements
 from .members import Members
 from .metrics import Metrics
+from .operator_key import OperatorKey
+from .operator_state import OperatorState
 from .overview import Overviews
 from .pages import Pages
 from .passwords import Passwords
@@ -213,10 +215,13 @@ class Application:
         )
         routes = [Route("operator/metrics", self._for_operator(Metrics(overviews).answer))]
         if key is not None:
+            operator = OperatorKey(key)
             board = Board(
-                settings, key, self.templates, overviews, self.directory, self.statements, self.rules
+                settings, operator, self.templates, overviews, self.directory, self.statements, self.rules
             )
             routes.append(Route("operator/board", self._for_operator(board.answer), FORMS))
+            state = OperatorState(overviews, operator)
+            routes.append(Route("operator/state", self._for_operator(state.answer)))
         return routes
 
     def _for_operator(self, handler: Handler) -> Handler:

@@ -11,6 +11,8 @@ from pathlib import Path
 from urllib.parse import urlsplit
 
 from .amounts import count_text
+from .answers import SECONDS, answer_of, reason_of
+from .bridge_state import catalogue
 from .comparing import compared
 from .computers import bad_computers
 from .computers import named as named_computers
@@ -22,7 +24,6 @@ from .projects import Project, UnitSettings
 from .stuck import named, stuck_in
 from .tables import copies_in, moment_of, opened
 
-SECONDS = 20.0  # for an answer
 NO_HOST = 2**31 - 1  # no computer has this number: there are at most 100,000
 DAY, HOUR = 86_400, 3_600
 CERTIFICATE_DAYS = 14, 3  # fewer days are a warning, and critical
@@ -35,28 +36,6 @@ COPIES_LATE = 8  # times the hours of the settings: an older copy is critical
 
 
 Check = Callable[[Project, UnitSettings], Iterator[Finding]]
-
-
-def answer_of(url: str, fields: dict[str, str] | None = None) -> tuple[int, bytes]:
-    """Returns the status and the body of the answer to a GET."""
-    parts = urlsplit(url)
-    kind = http.client.HTTPSConnection if parts.scheme == "https" else http.client.HTTPConnection
-    connection = kind(parts.hostname or "", parts.port, timeout=SECONDS)
-    try:
-        connection.request("GET", parts.path or "/", headers=fields or {})
-        response = connection.getresponse()
-        return response.status, response.read(1_000_000)
-    finally:
-        connection.close()
-
-
-def reason_of(error: Exception) -> str:
-    """Returns why a connection failed."""
-    if isinstance(error, ssl.SSLCertVerificationError):
-        return f"its certificate is not valid: {error.verify_message}"
-    if isinstance(error, OSError) and error.strerror:
-        return error.strerror
-    return str(error) or type(error).__name__
 
 
 def scheduler(project: Project, _settings: UnitSettings) -> Iterator[Finding]:
@@ -244,7 +223,18 @@ def level_of(value: float, warning: float, critical: float) -> Level:
     return Level.CRITICAL if value >= critical else Level.WARNING if value >= warning else Level.GOOD
 
 
-CHECKS: tuple[Check, ...] = (scheduler, bridge, certificate, tick, copy, limits, work, spoiled, disk)
+CHECKS: tuple[Check, ...] = (
+    scheduler,
+    bridge,
+    certificate,
+    catalogue,
+    tick,
+    copy,
+    limits,
+    work,
+    spoiled,
+    disk,
+)
 
 
 def findings_of(project: Project, settings: UnitSettings) -> list[Finding]:
