@@ -24,7 +24,7 @@ from .current_catalogue import CatalogueFaults, CatalogueReader
 from .digest_queue import DigestQueue
 from .directory import Directory
 from .downloads import Downloads
-from .exchange import Exchange, Resending
+from .exchange import Exchange, PutOff, Resending
 from .handed_out import HandedOut
 from .host_rules import HostRuleReader
 from .host_search import HostSearch
@@ -59,6 +59,7 @@ from .upload_tokens import UploadTokens
 from .uploads import CHECK_PATH as UPLOAD_CHECK_PATH
 from .uploads import PATH as UPLOAD_PATH
 from .uploads import Uploads
+from .vain_calls import VainCalls
 from .volunteer_pages import VolunteerPages
 
 KEPT_THREADS = 2  # for pages and files, which need nothing of bsched
@@ -130,13 +131,15 @@ class Application:
         self.writer = ReplyWriter(
             current(), settings.name, settings.url, tokens, has_accounts=self.accounts is not None
         )
+        self.vain = VainCalls(lambda: self.rules().vain_seconds, settings.retry_delay)
         self.requests = SchedulerMessages(
             self.exchange,
             current,
             self.writer,
             recent,
             self.places,
-            LargeCalls(settings.state.parent, self.exchange.refusal_of),
+            LargeCalls(settings.state.parent, self._refusal_of),
+            self.vain,
             measured.calls,
         )
         self.statements = Statements(hosts, self.members, scheduler, key, settings.counts, archives, recent)
@@ -148,6 +151,10 @@ class Application:
         )
         routes = [*self._routes(), *self._account_routes(), *self._operator_routes()]
         self.routes = Routes(settings.path, routes)
+
+    def _refusal_of(self, authenticator: str) -> PutOff | None:
+        """Returns what a client reads whose call is refused before it is read, or None."""
+        return self.vain.refusal_of(authenticator) or self.exchange.refusal_of(authenticator)
 
     @property
     def catalogue(self) -> Catalogue:

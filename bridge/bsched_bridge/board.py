@@ -43,6 +43,7 @@ WHAT_ENDS_MEAN = {
     End.TOO_MANY_HOSTS: "the account has as many computers as it may have",
     End.HOSTS_FULL: "the project has as many computers as it may have",
     End.UNKNOWN_RESULTS: "no known computer has the reported results",
+    End.TOO_OFTEN: "the account called in vain too often",
     End.COUNT_ENDED: "the computer has used its last number",
     End.BAD_MEMBER: "the scheduler can't read what the computer says of itself",
     End.BAD_JSON: "the scheduler can't read the call",

@@ -18,6 +18,7 @@ from pathlib import Path
 
 from .digest_programs import BadFiles, CannotRun, DigestFault, DigestProgram, compared_files, digest_of
 from .handed_out import HandedJob, HandedOut, Outcome
+from .limits import UsedSeconds
 from .measurements import WhyPutOff
 from .output_files import MOST_OUTPUT
 from .upload_store import UploadStore
@@ -30,7 +31,6 @@ FAILURE_PAUSES = (600.0, 3600.0)
 MOST_FAILED = 10_000  # results whose failures are counted
 REST_SECONDS = 60.0  # in which no program is tried if none can run here
 MINUTE, MINUTES = 60, 60  # seconds of a minute; minutes for which the seconds of programs are counted
-MOST_ACCOUNTS = 10_000  # whose seconds are counted
 BAD_FILES_STATUS = 1  # the exit status of a result whose files a digest program refuses
 
 log = logging.getLogger(__name__)
@@ -69,30 +69,6 @@ class Failures:
     text: str  # of the last one
 
 
-class UsedSeconds:
-    """How many seconds the programs of each account took in the last hour, by minutes."""
-
-    def __init__(self, clock: Callable[[], float]) -> None:
-        self._clock = clock
-        self._accounts: OrderedDict[str, deque[tuple[int, float]]] = OrderedDict()
-
-    def add(self, account: str, seconds: float) -> None:
-        """Adds seconds that a program took."""
-        minute = int(self._clock() // MINUTE)
-        minutes = self._accounts.setdefault(account, deque(maxlen=MINUTES + 1))
-        self._accounts.move_to_end(account)
-        if minutes and minutes[-1][0] == minute:
-            seconds += minutes.pop()[1]
-        minutes.append((minute, seconds))
-        if len(self._accounts) > MOST_ACCOUNTS:
-            self._accounts.popitem(last=False)
-
-    def of(self, account: str) -> float:
-        """Returns the seconds of an account."""
-        first = int(self._clock() // MINUTE) - MINUTES
-        return sum(seconds for minute, seconds in self._accounts.get(account, ()) if minute > first)
-
-
 def mark_of(program: DigestProgram) -> Mark:
     """Returns the mark of a program."""
     try:
@@ -114,7 +90,7 @@ class DigestQueue:
     ) -> None:
         self.store, self.jobs, self.most_seconds, self._clock = store, jobs, most_seconds, clock
         self._lock = threading.Lock()
-        self._used = UsedSeconds(clock)
+        self._used = UsedSeconds(clock, MINUTE, MINUTES)
         self._waiting: OrderedDict[str, deque[Task]] = OrderedDict()  # by accounts, whose turn is next first
         self._running: Counter[str] = Counter()  # programs of each account
         self._asked: set[str] = set()  # results that wait or whose program runs
