@@ -294,6 +294,18 @@ def served(path: str) -> Application:
     """Returns the application of a settings file, for a WSGI server that takes the name of a function to
     call.
     """
+    log_own_lines()
     application = new_application(Path(path))
     application.templates.compile()
     return application
+
+
+def log_own_lines() -> None:
+    """Has the bridge's lines logged that are no faults, too: what the operator edited, and that it counts. A
+    server that sets up no log for them, such as gunicorn, would leave these out.
+    """
+    package = logging.getLogger(__package__)
+    if not package.handlers:
+        package.addHandler(logging.StreamHandler())
+    package.setLevel(logging.INFO)
+    package.propagate = False

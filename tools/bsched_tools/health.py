@@ -32,6 +32,7 @@ USED_SHARE = 0.9, 1.0  # of a limit: more is a warning, and critical
 STAMPS = Path("/var/lib/systemd/timers")
 TICK_MINUTES = 12, 30  # since the last tick: more is a warning, and critical; one is sent each five minutes
 MOST_SPOILED = 5  # files that are named
+COPY_SECONDS = 2 * HOUR  # since the timer of copies was enabled or elapsed last; it elapses each hour
 COPIES_LATE = 8  # times the hours of the settings: an older copy is critical
 
 
@@ -149,11 +150,24 @@ def newest_copy(project: Project, settings: UnitSettings) -> Path | None:
     return next(iter(copies_of(project, settings)), None)
 
 
+def is_copying(unit: str) -> bool:
+    """Returns whether the timer of copies waits. If systemd does not answer, a file of systemd says when the
+    timer was enabled or elapsed last.
+    """
+    state = shown_by_systemd(f"{unit}.timer", "ActiveState")
+    if state is not None:
+        return state == "active"
+    try:
+        return time.time() - (STAMPS / f"stamp-{unit}.timer").stat().st_mtime < COPY_SECONDS
+    except OSError:
+        return False
+
+
 def copy(project: Project, settings: UnitSettings) -> Iterator[Finding]:
     """Looks at the age of the newest copy."""
     unit = f"bsched-copy@{project.name}"
     advice = f"`systemctl enable --now {unit}.timer`"
-    if shown_by_systemd(f"{unit}.timer", "ActiveState") == "active":
+    if is_copying(unit):
         advice = f"`systemctl start {unit}` makes one now"
     newest = newest_copy(project, settings)
     if newest is None:

@@ -14,11 +14,10 @@ from .copies import work_folder
 from .copying import copy_tables
 from .faults import Fault
 from .jobs import moment_text
-from .projects import Project
+from .projects import NO_MEMBER, Project
 from .tables import Tables, copies_in, found_copy, moment_of, opened
 
 ASK_SECONDS = 15.0
-NO_MEMBER = "only root and members of the group bsched may use this project"
 
 
 @dataclass(frozen=True, slots=True)

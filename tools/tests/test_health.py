@@ -281,3 +281,18 @@ def test_the_advice_fits_what_is_active(
     for copy in (made.folder / "copies").iterdir():
         copy.unlink()
     assert found(made)["copy"].text == f"there is none in {made.folder / 'copies'}: {advice}"
+
+
+@pytest.mark.parametrize("hours, command", [(1, "start bsched-copy@sums`"), (3, "enable --now bsched-copy@")])
+def test_the_advice_if_systemd_does_not_answer(
+    made: MadeProject, tmp_path: Path, monkeypatch: pytest.MonkeyPatch, hours: int, command: str
+) -> None:
+    """The timer of copies elapses each hour, so a file that is older is that of a timer that was stopped."""
+    monkeypatch.setattr(health, "shown_by_systemd", lambda _unit, _key: None)
+    monkeypatch.setattr(health, "STAMPS", tmp_path)
+    stamp = tmp_path / "stamp-bsched-copy@sums.timer"
+    stamp.touch()
+    os.utime(stamp, (time.time() - 3600 * hours,) * 2)
+    for copy in (made.folder / "copies").iterdir():
+        copy.unlink()
+    assert f"`systemctl {command}" in found(made)["copy"].text
