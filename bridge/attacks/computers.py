@@ -10,22 +10,24 @@ from messages import jobs, names, request, value
 from trial.programs import TrialFault
 
 from .attack import through
-from .members import HOSTS_ADDRESS, attach
+from .members import ATTEMPTS, HOSTS_ADDRESS, attach
 from .sending import asked
 from .target import ATTACKER, Target, address_of
 
-COMPUTERS = 60
+# fewer than the searches of an account in a minute, by which the bridge finds whose a result is
+COMPUTERS = 28
+TOO_OFTEN = b"ask too often"  # the calls of the account in vain took too long
 REPORTED = "5"  # the state of a result, in a statement, that was reported
 ANSWER = "42"
 
 
-def call(target: Target, number: int, body: str) -> bytes:
-    """Sends a call from the address of a computer of the attacker, again while the bridge is busy."""
-    for _ in range(60):
+def call(target: Target, number: int, body: str, ends: bytes = b"<user_name>") -> bytes:
+    """Sends a call from the address of a computer of the attacker, again while the bridge is busy, or until a
+    reply has some text.
+    """
+    for _ in range(ATTEMPTS):
         status, reply = asked(target, address_of(HOSTS_ADDRESS + number), "POST", "/cgi", body)
-        if status == 200 and b"<user_name>" in reply:
-            return reply
-        if b"no known host" in reply or b"can't tell" in reply:
+        if status == 200 and (b"<user_name>" in reply or ends in reply):
             return reply
         threading.Event().wait(0.5)
     raise TrialFault(f"a call is not answered: {reply!r}")
@@ -52,8 +54,8 @@ def check_recorded(target: Target, acknowledged: Iterable[str]) -> None:
 
 
 def lose_state_after_burst(target: Target, ending: threading.Event) -> str:
-    """Sixty computers attach within a moment and get a job each. The state file is lost, other computers
-    attach, and each of the sixty reports with the number that it had.
+    """Twenty-eight computers attach within a moment and get a job each. The state file is lost, other
+    computers attach, and each of the former ones reports with the number that it had.
     """
     target.give("plain", [f"burst{number}" for number in range(COMPUTERS)])
 

@@ -16,7 +16,7 @@ from trial.programs import PACKAGES, TrialFault
 from uploading import file_info, report, upload
 
 from .attack import through
-from .computers import call
+from .computers import TOO_OFTEN, call
 from .members import attach
 from .sending import asked
 from .strangers import account_path
@@ -52,6 +52,20 @@ def send_upload(target: Target, result: str, data: bytes, most: int, number: int
     raise TrialFault(f"an upload is refused: {status} {answer!r}")
 
 
+def run_tools(target: Target, *words: str) -> None:
+    """Runs a command of the tools, which must succeed."""
+    done = subprocess.run(
+        [sys.executable, "-m", "bsched_tools", *words],
+        cwd=target.folder,
+        env={**os.environ, "PYTHONPATH": PACKAGES, "PYTHONDONTWRITEBYTECODE": "1"},
+        capture_output=True,
+        text=True,
+        timeout=120,
+    )
+    if done.returncode:
+        raise TrialFault(f"{words[0]} ends with {done.returncode}: {done.stdout}{done.stderr}")
+
+
 def name_files_in_outputs(target: Target, ending: threading.Event) -> str:
     """Writes lines into its standard error that name files in the folder of uploads, for an application
     without output files.
@@ -70,18 +84,10 @@ def name_files_in_outputs(target: Target, ending: threading.Event) -> str:
     acknowledged = names(call(target, 1, body), "result_ack")
     through(acknowledged != forged or not forged, f"the report is not taken: {acknowledged}, {forged}")
     folder = target.folder / "outputs"
-    folder.mkdir()
-    words = ["results", "--tables", "project.db", "--uploads", "uploads", "--files", str(folder)]
-    done = subprocess.run(
-        [sys.executable, "-m", "bsched_tools", *words],
-        cwd=target.folder,
-        env={**os.environ, "PYTHONPATH": PACKAGES, "PYTHONDONTWRITEBYTECODE": "1"},
-        capture_output=True,
-        text=True,
-        timeout=120,
-    )
-    if done.returncode:
-        raise TrialFault(f"results ends with {done.returncode}: {done.stdout}{done.stderr}")
+    for new in (folder, target.folder / "copies"):
+        new.mkdir()
+    run_tools(target, "copy", "--tables", "project.db", "--to", "copies")
+    run_tools(target, "results", "--tables", "copies", "--uploads", "uploads", "--files", "outputs")
     made = sorted(path.name for path in folder.rglob("*") if path.is_file())
     bad = [name for name in made if name not in ("out", "results.csv")]
     through(bad, f"an output made the files {bad}")
@@ -123,7 +129,7 @@ def occupy_digests(target: Target, ending: threading.Event) -> str:
             info = file_info(f"{name}_0", files[name]).replace("<max_nbytes>20000", "<max_nbytes>1000")
             body = body.replace("</stderr_out></result>", f"</stderr_out>{info}</result >", 1)
         body = body.replace("</result >", "</result>")
-        acknowledged.extend(names(call(target, number, body), "result_ack"))
+        acknowledged.extend(names(call(target, number, body, TOO_OFTEN), "result_ack"))
 
     for (number, hostid), results in held.items():
         report_all(number, hostid, results)

@@ -1,5 +1,6 @@
 """What an account does that means harm, or that somebody else uses."""
 import threading
+import time
 from collections import Counter
 from concurrent.futures import ThreadPoolExecutor
 
@@ -12,16 +13,18 @@ from .sending import asked, drip_uploads, over_and_over
 from .target import ATTACKER, MOST_ACCOUNT_BYTES, Target, address_of
 
 HOSTS_ADDRESS = 900  # the first of the addresses from which the attacker's computers attach
+ATTEMPTS = 60  # of a call that must be answered, while the bridge is busy
 
 
 def attach(target: Target, cpid: str, number: int = 0, key: str = ATTACKER, seconds: int = 0) -> int:
     """Has a computer of an account attach. Returns its number."""
     body = request(key=key, cpid=cpid, seconds=seconds)
-    _, reply = asked(target, address_of(HOSTS_ADDRESS + number), "POST", "/cgi", body)
-    hostid = value(reply, "hostid")
-    if hostid is None:
-        raise TrialFault(f"a computer gets no number: {reply!r}")
-    return int(hostid)
+    for _ in range(ATTEMPTS):
+        _, reply = asked(target, address_of(HOSTS_ADDRESS + number), "POST", "/cgi", body)
+        if (hostid := value(reply, "hostid")) is not None:
+            return int(hostid)
+        time.sleep(0.5)
+    raise TrialFault(f"a computer gets no number: {reply!r}")
 
 
 def send_file(target: Target, address: str, name: str, nbytes: int, path: str | None = None) -> str:

@@ -175,8 +175,8 @@ def refuse_early(target: Target, ending: threading.Event) -> str:
 
     def act(case: tuple[int, str, bytes]) -> str:
         place, path, body = case
-        head = f"POST {path} HTTP/1.1\r\nhost: localhost\r\ncontent-length: {len(body)}\r\n\r\n".encode()
-        return status_of(exchanged(target, address_of(place), head + body, 60))
+        head = f"POST {path} HTTP/1.1\r\nhost: a\r\nconnection: close\r\ncontent-length: {len(body)}\r\n\r\n"
+        return status_of(exchanged(target, address_of(place), head.encode() + body, 60))
 
     with ThreadPoolExecutor(8) as pool:
         found.update(pool.map(act, cases))

@@ -19,9 +19,12 @@ def wait_for_end(target: Target, ending: threading.Event) -> str:
 OF_ACCOUNT = Most(processor_seconds=10.0)
 # large calls of accounts, next to the state file
 LARGE_CALLS = Most(processor_seconds=10.0, disk_bytes=33 * MB)
-UPLOADS = Most(processor_seconds=None, disk_bytes=MOST_ACCOUNT_BYTES + MB)
-# what nginx has of eight uploads on its disk, besides
-UPLOADS_AT_ONCE = Most(processor_seconds=None, disk_bytes=MOST_ACCOUNT_BYTES + 8 * 20 * MB + MB)
+# with what nginx and the bridge have of four bodies of 1 MB that are coming
+UPLOADS = Most(processor_seconds=None, disk_bytes=MOST_ACCOUNT_BYTES + 9 * MB)
+# what nginx has of eight uploads on its disk
+BODIES = 8 * 20 * MB
+UPLOADS_AT_ONCE = Most(processor_seconds=None, disk_bytes=MOST_ACCOUNT_BYTES + BODIES + MB)
+REFUSED_AT_ONCE = Most(processor_seconds=None, disk_bytes=BODIES + MB)
 NOT_COUNTED = Most(processor_seconds=None)
 # a network of 48 bits has 80 passwords checked in a minute
 PASSWORDS = Most(processor_seconds=None)
@@ -141,7 +144,7 @@ ATTACKS = (
         Who.MEMBER,
         "sends 24 files of 1 and 19 MB that are refused; clients must read so",
         strangers.refuse_early,
-        NOT_COUNTED,
+        REFUSED_AT_ONCE,
         is_short=True,
     ),
     Attack(
@@ -176,7 +179,7 @@ ATTACKS = (
     Attack(
         "lost-state-after-burst",
         Who.MEMBER,
-        "attaches 60 computers within a moment, the state file is lost, and they report by their numbers",
+        "attaches 28 computers within a moment, the state file is lost, and they report by their numbers",
         computers.lose_state_after_burst,
         NOT_COUNTED,
         is_short=True,
