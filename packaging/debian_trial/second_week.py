@@ -81,8 +81,7 @@ class SecondWeek:
         self.check_bad_input()
         self.check_computers()
         self.check_spoiled_output()
-        for name in CLIENTS:
-            self.machine.run(f"cd {WORK}/{name} && boinccmd --host 127.0.0.1:{CLIENTS[name]} --quit || true")
+        self.stop_clients()
 
     # ---- The project
 
@@ -130,8 +129,22 @@ class SecondWeek:
         self.machine.run(f"mkdir {folder}")
         self.write(f"{folder}/global_prefs_override.xml", PREFERENCES)
         options = f"{OPTIONS} {CLIENTS[name]} --attach_project {URL} {name.lower()}-second-week"
+        self.run_client(name, options)
+
+    def resume_client(self, name: str) -> None:
+        """Starts a client again that was stopped."""
+        self.run_client(name, f"{OPTIONS} {CLIENTS[name]}")
+
+    def run_client(self, name: str, options: str) -> None:
+        """Runs a client in its folder. What it logs is added to its log."""
+        folder = f"{WORK}/{name}"
         begun = f"(cd {folder} && exec setsid boinc --dir {folder} {options})"
-        self.machine.run(f"{begun} > {folder}.log 2>&1 < /dev/null & sleep 1")
+        self.machine.run(f"{begun} >> {folder}.log 2>&1 < /dev/null & sleep 1")
+
+    def stop_clients(self) -> None:
+        """Stops all clients."""
+        for name in CLIENTS:
+            self.machine.run(f"cd {WORK}/{name} && boinccmd --host 127.0.0.1:{CLIENTS[name]} --quit || true")
 
     def replace_program(self, name: str, text: str) -> None:
         """Writes another program in the place of the one that a client downloaded, with as many bytes."""

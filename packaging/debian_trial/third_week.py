@@ -3,10 +3,9 @@ import shlex
 from collections.abc import Callable
 
 from .debian import Done, Machine, TrialFault
+from .second_week import FOLDER, PORT, PROJECT, WORK, SecondWeek
 from .units import wait_until
 
-PROJECT, PORT = "solved", 9300  # that of the second week
-FOLDER = f"/var/lib/bsched/{PROJECT}"
 BRIDGE, SCHEDULER = f"bsched-bridge@{PROJECT}", f"bsched@{PROJECT}"
 HEALTH, COPY = f"bsched-health@{PROJECT}", f"bsched-copy@{PROJECT}"
 CATALOGUE, UNITS_FILE = f"{FOLDER}/bridge/catalogue.toml", f"{FOLDER}/units.toml"
@@ -19,14 +18,14 @@ FAULTY = "#!/bin/sh\nexit 7\n"
 NO_NAMESPACES = "[Service]\nRestrictNamespaces=yes\n"
 MAILER = f"#!/bin/sh\ncat >> {FOLDER}/units/mailed\n"
 HANGING = "#!/bin/sh\nexec sleep 600\n"
-SENDMAIL = "/usr/sbin/sendmail"
+SENDMAIL, BWRAP = "/usr/sbin/sendmail", "/usr/bin/bwrap"
 
 
 class ThirdWeek:
     """What the operator does, and what must be seen of it."""
 
-    def __init__(self, machine: Machine, seen: Callable[[str], None]) -> None:
-        self.machine, self.seen = machine, seen
+    def __init__(self, machine: Machine, seen: Callable[[str], None], second: SecondWeek) -> None:
+        self.machine, self.seen, self.second = machine, seen, second
 
     def run(self) -> None:
         """Does all steps."""
@@ -160,6 +159,7 @@ class ThirdWeek:
         self.edited_program()
         self.started_with_fault()
         self.without_namespaces()
+        self.reports()
 
     def add_application(self) -> None:
         """Adds an application with a digest program, which the bridge takes without a restart."""
@@ -215,6 +215,37 @@ class ThirdWeek:
         self.wait_for_catalogue("good      catalogue|its last edit counts", WARNING)
         self.seen(f"third week: {line}")
         self.seen("third week: without the drop-in all is good again")
+
+    def reports(self) -> None:
+        """Without bubblewrap reports wait, and health says why. With it they are compared by what the digest
+        program prints.
+        """
+        self.write(f"{WORK}/letters", "b\na\n")
+        submit = (
+            f"bsched-tools submit --project {PROJECT} --app lines --batch sorted --hours 0.003 --quorum 2"
+        )
+        self.machine.run(f"mv {BWRAP} {BWRAP}.aside && cd {WORK} && {submit} letters", 120)
+        clients = ("Ann", "Bob")
+        for name in clients:
+            self.second.resume_client(name)
+        wanted = "warning   reports|put off|digest programs need Debian's bubblewrap: install it"
+        self.second.wait_until("reports are put off", lambda: self.is_in_health(wanted), *clients)
+        line = self.wants_health(WARNING, wanted)
+        self.machine.run(f"mv {BWRAP}.aside {BWRAP}")
+        self.second.wait_for("sorted", "done     1 of 1")
+        self.second.stop_clients()
+        self.machine.run(f"bsched-tools copy --project {PROJECT}", 120)
+        job = self.machine.run(f"bsched-tools job --project {PROJECT} sorted_letters")
+        if job.count(": valid") != 2:
+            raise TrialFault(f"third week: the results with a digest are {job!r}")
+        self.seen(f"third week: {line}")
+        self.seen("third week: with bubblewrap both reports are compared by what the digest program prints")
+
+    def is_in_health(self, text: str) -> bool:
+        """Returns whether a line of health has these words."""
+        return any(
+            all(word in line for word in text.split("|")) for line in self.health().stdout.splitlines()
+        )
 
     def wait_for_catalogue(self, line: str, status: int) -> str:
         """Waits until health has a line with these words, as the check of a program takes a moment."""
