@@ -258,8 +258,16 @@ def findings_of(project: Project, settings: UnitSettings) -> list[Finding]:
         try:
             found += check(project, settings)
         except (Fault, OSError) as fault:
-            found.append(Finding(check.__name__, Level.UNKNOWN, str(fault)))
+            found.append(Finding(check.__name__, Level.UNKNOWN, text_of(fault)))
     return found
+
+
+def text_of(fault: Exception) -> str:
+    """Returns why a check failed, in words for an operator."""
+    if not isinstance(fault, OSError) or fault.filename is None:
+        return str(fault)
+    advice = ": ask as root" if isinstance(fault, PermissionError) else ""
+    return f"{fault.filename}: {fault.strerror}{advice}"
 
 
 # ---- For the bridge

@@ -204,6 +204,20 @@ def test_a_disk_that_is_nearly_full(made: MadeProject, monkeypatch: pytest.Monke
     assert finding.level is Level.CRITICAL and "2.0 GB of 100.0 GB" in finding.text
 
 
+def test_a_user_who_may_not_see_the_copies(made: MadeProject, monkeypatch: pytest.MonkeyPatch) -> None:
+    """Members of the group get what they may see, and for the rest a line that says who may."""
+
+    def refused(*_args: object) -> None:
+        raise PermissionError(13, "Permission denied", "/var/backups/bsched/sums")
+
+    monkeypatch.setattr(health, "copies_in", refused)
+    findings = found(made)
+    for check in ("copy", "limits", "work"):
+        assert findings[check].level is Level.UNKNOWN
+        assert findings[check].text == "/var/backups/bsched/sums: Permission denied: ask as root"
+    assert findings["scheduler"].level is Level.GOOD
+
+
 def test_the_command(made: MadeProject) -> None:
     made.end()
     status, output, fault = made.tools("health")
