@@ -2,11 +2,11 @@
 import argparse
 import logging
 import sys
-from importlib import metadata
 from pathlib import Path
-from typing import NoReturn
 
 import waitress
+
+from bsched_files.command_line import CommandLine, version
 
 from . import client_requests, sweep_command, uploads_command
 from .application import UPLOADS_WAITING, new_application
@@ -21,17 +21,8 @@ from .state_file import StateFault
 from .upload_store import check_uploads
 from .uploads import most_body
 
-FAULT, BAD_COMMAND_LINE = 1, 64
+FAULT = 1
 MOST_CONNECTIONS = 1000
-
-
-class CommandLine(argparse.ArgumentParser):
-    """A parser that ends with the status of bsched for a bad command line."""
-
-    def error(self, message: str) -> NoReturn:
-        """Prints what is wrong, and ends the program."""
-        self.print_usage(sys.stderr)
-        self.exit(BAD_COMMAND_LINE, f"bsched-bridge: {message}\n")
 
 
 def command_parser() -> argparse.ArgumentParser:
@@ -62,12 +53,6 @@ def command_parser() -> argparse.ArgumentParser:
     add_orders(orders)
     uploads_command.add_uploads(orders)
     return parser
-
-
-def version() -> str:
-    """Returns the version: of the package, or of the clone in which this file is."""
-    file = Path(__file__).resolve().parent.parent.parent / "VERSION"
-    return file.read_text().strip() if file.exists() else metadata.version("bsched-tools")
 
 
 def check_scheduler(path: Path, settings: Settings) -> None:

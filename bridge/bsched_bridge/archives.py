@@ -43,7 +43,7 @@ def read_archives(paths: Sequence[Path]) -> Archives:
     if not paths:
         return archives
     try:
-        from bsched_tools.faults import Fault
+        from bsched_files.faults import Fault
         from bsched_tools.tables import all_opened
     except ModuleNotFoundError:
         what = "archives need the package bsched_tools: add the folder tools to PYTHONPATH"

@@ -13,13 +13,14 @@ from pathlib import Path
 
 from cryptography.hazmat.primitives.asymmetric import rsa
 
+from bsched_files.texts import NO_XML
+
 from .client_requests import ClientRequest
 from .code_signing import KeyFault, file_md5, is_signature, read_public_key
 from .digest_programs import DigestProgram
 from .operator_files import Entry, Marks, OperatorFile
 from .output_files import UPLOAD_NAME, OutputFile, read_output_files
 from .plan_classes import PlanClass, by_resource, read_plan_class, split
-from .words import NO_XML
 
 FILE_NAME = re.compile(r"[A-Za-z0-9_][A-Za-z0-9_.+-]{0,127}")
 # a placeholder for the workunit's name, in what an application says for all its workunits

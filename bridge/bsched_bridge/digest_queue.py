@@ -16,12 +16,12 @@ from collections.abc import Callable
 from dataclasses import dataclass
 from pathlib import Path
 
+from bsched_files.texts import MOST_OUTPUT, cut_to_bytes
+
 from .digest_programs import BadFiles, CannotRun, DigestFault, DigestProgram, compared_files, digest_of
 from .handed_out import HandedJob, HandedOut, Outcome
 from .measurements import WhyPutOff
-from .output_files import MOST_OUTPUT
 from .upload_store import UploadStore
-from .words import cut_to_bytes
 
 MOST_AT_ONCE = 2  # programs
 MOST_WAITING, MOST_OF_ACCOUNT = 10_000, 200  # results that wait for their program

@@ -15,6 +15,8 @@ from collections import OrderedDict
 from collections.abc import Callable, Iterable
 from dataclasses import dataclass, replace
 
+from bsched_files.moments import DAY, HOUR
+
 from .archives import Archives
 from .barring import Barred, Barring
 from .call_numbers import (
@@ -40,7 +42,6 @@ from .settings import HostRules
 from .words import shown_key
 
 COUNT_ATTEMPTS = 3  # calls of one request, if bsched's count is ahead or it has lost the account
-HOUR, DAY = 3600, 86400
 MOST_CPIDS = 20_000  # host_cpids that hosts may have besides their own, of which the bridge knows
 END_SECONDS = 60.0  # for the message that is being sent at the end
 

@@ -8,7 +8,7 @@ from bisect import bisect_right
 from pathlib import Path
 from typing import Any, NoReturn, cast
 
-from .words import is_word
+from bsched_files.texts import is_word
 
 LEAST_LIKENESS = 0.75  # of two names, if one may be meant as the other
 MOST_TEXT = 65_536  # characters of a file whose text is shown on a page

@@ -3,7 +3,6 @@
 Root can use them, too, and then works with the rights of the user who has the file's folder.
 """
 import argparse
-import csv
 import fnmatch
 import json
 import os
@@ -12,12 +11,15 @@ import shutil
 import sys
 import tempfile
 import time
-from collections.abc import Callable, Iterable, Iterator
+from collections.abc import Callable, Iterator
 from contextlib import contextmanager, suppress
 from dataclasses import dataclass
 from datetime import datetime, timezone
 from pathlib import Path
 from typing import BinaryIO, TypeVar
+
+from bsched_files.moments import moment_text
+from bsched_files.texts import credits_text, csv_text, shown
 
 from .barring import Barred, Barring
 from .hosts import HeardHost, Hosts
@@ -26,7 +28,6 @@ from .rights import own_rights, rights_of_owner
 from .settings import PROJECTS, Settings, read_settings
 from .state_file import StateFile, make_private
 from .teams import MOST_TEAMS, Team, Teams
-from .texts import credits_text, moment_text
 from .words import shown_key
 
 COPY_ENDING = ".state"
@@ -170,7 +171,7 @@ def consented(state: State, args: argparse.Namespace) -> Iterator[str]:
             row = {"authenticator": member.authenticator, "name": member.shown_name}
             yield json.dumps({**row, "is_deleted": is_deleted, "is_agreed": is_agreed})
         elif is_agreed and not args.json:
-            yield from as_csv([(member.authenticator, member.shown_name)])
+            yield csv_text([(member.authenticator, member.shown_name)]).removesuffix("\n")
 
 
 def teams(state: State, args: argparse.Namespace) -> Iterator[str]:
@@ -194,21 +195,6 @@ def team_fields(team: Team) -> list[str]:
     """Returns a team as a row of the list. The founder is a user's number."""
     counted = [str(team.founder), str(team.members), credits_text(team.credit)]
     return [str(team.number), team.name, *counted, moment_text(team.created_at)]
-
-
-def as_csv(rows: Iterable[tuple[str, str]]) -> Iterator[str]:
-    """Yields rows as lines of comma-separated values."""
-    lines: list[str] = []
-
-    class Lines:
-        """Keeps what is written."""
-
-        def write(self, line: str) -> None:
-            """Keeps a line."""
-            lines.append(line)
-
-    csv.writer(Lines(), lineterminator="").writerows(rows)
-    yield from lines
 
 
 # ---- What the operator changes
@@ -387,6 +373,6 @@ def run_order(args: argparse.Namespace) -> None:
         state = open_state(settings)
         try:
             for line in order(state, args):
-                print("".join(one if one.isprintable() or one == "\t" else "\ufffd" for one in line))
+                print(shown(line))
         finally:
             state.file.close()

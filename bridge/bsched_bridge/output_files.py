@@ -9,10 +9,11 @@ import re
 from dataclasses import asdict, dataclass
 from functools import lru_cache
 
+from bsched_files.texts import MOST_OUTPUT
+
 from .operator_files import Entry
 
 MOST_FILES = 20  # of one result
-MOST_OUTPUT = 1024  # bytes of the output of a result
 MOST_LISTS = 100  # of output files whose text is kept
 OPEN_NAME = re.compile(r"[A-Za-z0-9_][A-Za-z0-9_.+-]{0,127}")
 # no input file or program may have a name of this form: the client has one file for each name

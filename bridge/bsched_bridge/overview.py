@@ -5,10 +5,12 @@ from dataclasses import dataclass
 from pathlib import Path
 from typing import cast
 
+from bsched_files.moments import DAY
+
 from .current_catalogue import CatalogueFaults
 from .digest_queue import DigestQueue
 from .measurements import Measurements
-from .members import DAY, MADE_BETWEEN
+from .members import MADE_BETWEEN
 from .scheduler_probe import Probe, SchedulerProbe
 from .settings import Settings
 from .state_file import StateFile

@@ -13,8 +13,10 @@ from collections.abc import Iterable
 from dataclasses import dataclass, field
 from pathlib import Path
 
+from bsched_files.moments import DAY
+
 FORMAT = 1
-HALF_LIFE_SECONDS = 7 * 86400.0
+HALF_LIFE_SECONDS = 7.0 * DAY
 MOST_BYTES = 64 * 1024 * 1024  # 100,000 hosts take 25 MB
 DIGITS = 32
 

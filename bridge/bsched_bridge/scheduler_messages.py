@@ -6,10 +6,12 @@ from contextlib import ExitStack
 from werkzeug.exceptions import HTTPException
 from wsgiref.types import WSGIEnvironment
 
+from bsched_files.moments import HOUR
+
 from .catalogue import Catalogue
 from .client_replies import ReplyWriter
 from .client_requests import MOST_BYTES, ClientRequest, read_request
-from .exchange import HOUR, TOO_BUSY, Exchange, PutOff
+from .exchange import TOO_BUSY, Exchange, PutOff
 from .http_messages import XmlAnswer, blocks_of, length_of
 from .key_locks import Busy, KeyLocks
 from .languages import asked_language, gettext_lazy

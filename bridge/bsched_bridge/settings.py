@@ -5,6 +5,8 @@ from dataclasses import dataclass
 from pathlib import Path
 from urllib.parse import urlsplit
 
+from bsched_files.moments import DAY
+
 from .operator_files import Entry, OperatorFile
 
 PROJECTS = Path("/var/lib/bsched")
@@ -264,7 +266,7 @@ def read_settings(path: Path) -> Settings:
         operator_key=key,
         threads=file.whole("threads", 1, 64, 8),
         answer_seconds=file.whole("answer_seconds", 1, 120, 15),
-        retry_delay=file.whole("retry_delay", 1, 86400, 60),
+        retry_delay=file.whole("retry_delay", 1, DAY, 60),
         welcome=file.short_text("welcome"),
         contact=read_contact(file),
         counts=path.parent / file.text("counts") if "counts" in file.members else None,

@@ -11,6 +11,8 @@ from dataclasses import dataclass, replace
 from decimal import Decimal, InvalidOperation
 from pathlib import Path
 
+from bsched_files.moments import DAY, MOST_MOMENT, moment_text
+
 from .archives import Archives
 from .directory import Computer
 from .hosts import HeardHost
@@ -32,9 +34,7 @@ MOST_RESULTS, MOST_KEPT_RESULTS = 500, 50  # results of a host on its page, and 
 # hangs, other pages still find a thread.
 MOST_READ, MOST_READING = 120, 2
 MOST_COUNTS = 1_048_576  # bytes of a file of counts
-MOST_MOMENT = 250_000_000_000  # seconds; years have four digits
 NO_REPLY, SUCCESS, INVALID = "4", "1", "2"
-DAY = 86_400
 
 
 @dataclass(frozen=True, slots=True)
@@ -160,7 +160,7 @@ def read_results(text: str) -> list[Result]:
 def read_statement(host: HeardHost, text: str) -> HostStatus:
     """Reads the status of a host from its statement. The last line is the credit, not a result."""
     rows = list(csv.DictReader(io.StringIO(text)))
-    yesterday = time.strftime("%Y-%m-%d %H:%M:%S", time.gmtime(time.time() - DAY))
+    yesterday = moment_text(time.time() - DAY)
     try:
         counted = Counter(map(standing, rows[:-1]))
         counted["invalid"] = sum(

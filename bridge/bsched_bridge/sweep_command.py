@@ -15,7 +15,7 @@ from .upload_sweep import Decisions, sweep
 def decisions_in(paths: Iterable[Path]) -> Decisions:
     """Returns the decisions in copies of the tables. Raises OperatorFault if one can't be read."""
     try:
-        from bsched_tools.faults import Fault
+        from bsched_files.faults import Fault
         from bsched_tools.tables import opened
         from bsched_tools.workunits import decided
     except ModuleNotFoundError:

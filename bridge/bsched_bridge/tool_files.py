@@ -8,13 +8,13 @@ from dataclasses import dataclass
 from pathlib import Path
 from typing import Any
 
+from bsched_files.moments import HOUR, MINUTE, MOST_MOMENT
+
 MOST_BYTES = 1_048_576  # of a file
 MOST_FINDINGS, MOST_TEXT = 50, 1000  # of a file of findings; characters of a text
 LEVELS = ("good", "warning", "critical", "unknown")  # in the order of their numbers
 NOUNS = ("accounts", "apps", "versions", "workunits", "hosts")  # that have a limit in the tables
-MOST_MOMENT = 250_000_000_000  # seconds; years have four digits
 STAMPS = Path("/var/lib/systemd/timers")  # systemd sets the time of a file there when a timer elapses
-MINUTE, HOUR = 60, 3600
 # the timers that have such a file, with the seconds after which it is too old
 TIMERS = {
     "tick": 12 * MINUTE,

@@ -9,10 +9,12 @@ from dataclasses import dataclass
 from pathlib import Path
 from typing import cast
 
+from bsched_files.moments import moment_text
+from bsched_files.texts import shown
+
 from .operator_orders import AnyParser, OrderFault, State, as_table, config_of, open_state
 from .rights import rights_of_owner
 from .settings import read_settings
-from .texts import moment_text
 from .upload_store import UploadStore
 from .words import shown_key
 
@@ -128,6 +130,6 @@ def run(args: argparse.Namespace) -> None:
                     else deleted(state, store, args.delete)
                 )
                 for line in lines:
-                    print("".join(one if one.isprintable() else "\ufffd" for one in line))
+                    print(shown(line, kept=""))
         finally:
             state.file.close()

@@ -16,6 +16,8 @@ from bsched_bridge.state_file import StateFile
 from bsched_bridge.upload_store import open_store
 
 BRIDGE = Path(__file__).resolve().parent.parent
+# of a process that runs the bridge of this clone
+ENVIRONMENT = {"PYTHONPATH": f"{BRIDGE}:{BRIDGE.parent / 'files'}", "PYTHONDONTWRITEBYTECODE": "1"}
 MEMORY = "/dev/shm"
 CATALOGUE = """\
 code_sign_key = "key"

@@ -2,7 +2,7 @@
 
 usage: killed_bridge.py SETTINGS SOCKET N before|after
 SOCKET is the descriptor of a socket that listens.
-PYTHONPATH must have the folders bridge and bench.
+PYTHONPATH must have the folders bridge, bench and files.
 """
 import os
 import signal

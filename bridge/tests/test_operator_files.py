@@ -6,7 +6,7 @@ from pathlib import Path
 from typing import Any
 
 import pytest
-from bridges import BRIDGE
+from bridges import ENVIRONMENT
 from served import free_port
 from twin import Twin
 
@@ -236,7 +236,7 @@ def ordered(folder: Path, *words: str) -> Any:
     return subprocess.run(
         [sys.executable, "-m", "bsched_bridge", *words],
         cwd=folder,
-        env={"PYTHONPATH": str(BRIDGE), "PYTHONDONTWRITEBYTECODE": "1"},
+        env=ENVIRONMENT,
         capture_output=True,
         text=True,
         timeout=600,

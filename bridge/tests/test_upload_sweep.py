@@ -12,7 +12,8 @@ from bsched_bridge.hosts import Key
 from bsched_bridge.operator_files import OperatorFault
 from bsched_bridge.output_files import OutputFile
 from bsched_bridge.state_file import StateFault
-from bsched_bridge.upload_sweep import DAY, Decisions, Swept, sweep
+from bsched_bridge.upload_sweep import Decisions, Swept, sweep
+from bsched_files.moments import DAY
 
 RIGHT, WRONG = b"right\n", b"wrong\n"
 

@@ -321,7 +321,7 @@ def test_the_example_asks_nothing(machine: Machine) -> None:
 def test_the_fault_in_a_file_of_settings_is_named(machine: Machine) -> None:
     stubs = (
         "bsched() { echo 'bsched: settings' >&2; return 1; }\n"
-        f'bsched-tools() {{ PYTHONPATH={TOP}/tools /usr/bin/python3 -m bsched_tools "$@"; }}\n'
+        f'bsched-tools() {{ PYTHONPATH={TOP}/tools:{TOP}/files /usr/bin/python3 -m bsched_tools "$@"; }}\n'
     )
     path = machine.settings("max_host = 7\noperator_key = 'my-own.key_1'")
     completed = machine.make("--settings", path, "sums", stubs=stubs)

@@ -10,6 +10,9 @@ from pathlib import Path
 from types import FrameType
 from typing import NoReturn
 
+from bsched_files.faults import Fault
+from bsched_files.texts import shown
+
 from .amounts import count_text
 from .catalogue_file import output_names_of
 from .command_line import NAME, new_parser
@@ -17,7 +20,7 @@ from .copying import copy_tables
 from .counts import as_json, as_lines, as_metrics, counted
 from .doctor import examined
 from .exports import export
-from .faults import Ended, Fault
+from .faults import Ended
 from .files import replace_file
 from .handing import hand_on
 from .health import findings_of, write_findings
@@ -33,7 +36,6 @@ from .results import write_results
 from .starts import rows_in, start_text
 from .stuck import named
 from .tables import copies_in, opened
-from .texts import shown
 from .volunteers import Volunteers, ask_bridge, volunteers_of
 from .work_commands import WORK_COMMANDS, say_spoiled
 

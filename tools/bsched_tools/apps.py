@@ -8,22 +8,23 @@ import argparse
 import csv
 import io
 import re
-import subprocess
 from collections.abc import Iterator
 from dataclasses import dataclass, field
 from pathlib import Path
 from typing import Any
 
+from bsched_files.faults import Fault
+from bsched_files.programs import run
+from bsched_files.texts import WORD
+
 from .amounts import nbytes
 from .catalogue_file import FILE_NAME, UPLOAD_NAME, WORKUNIT, CatalogueFile, made_for_group, write_file
 from .counts import MOST
-from .faults import Fault
 from .import_files import AGREEMENT, MOST_DISTANCE, read_import
 from .imports import import_file
 from .inputs import digest_of
 from .looks import check_importing, tables_of
 from .projects import Project
-from .settings_file import WORD
 from .tables import Tables
 from .volunteers import command_of_bridge
 
@@ -260,12 +261,7 @@ class Addition:
         """Signs the files with a private key."""
         for name in self.version.names:
             command = [*command_of_bridge(), "sign", str(self.catalogue.files / name), "--key", str(key)]
-            try:
-                done = subprocess.run(
-                    command, capture_output=True, text=True, timeout=SIGN_SECONDS, stdin=subprocess.DEVNULL
-                )
-            except (OSError, subprocess.TimeoutExpired) as error:
-                raise Fault(f"{command[0]}: {getattr(error, 'strerror', None) or error}") from None
+            done = run(command, SIGN_SECONDS)
             if done.returncode:
                 raise Fault(done.stderr.strip().removeprefix("bsched-bridge: "))
             self.write(self.signature_path(name), done.stdout.encode())

@@ -6,12 +6,14 @@ import secrets
 from dataclasses import asdict, dataclass
 from pathlib import Path
 
-from .faults import Fault
+from bsched_files.faults import Fault
+from bsched_files.moments import DAY
+
 from .files import replace_file
 from .members import Host, User
 
 FORMAT = 1
-DAY, HALF_LIFE_DAYS = 86400, 7
+HALF_LIFE_DAYS = 7
 
 
 def average_after(average: float | None, days: float, credit: float) -> float:

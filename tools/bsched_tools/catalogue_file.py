@@ -4,7 +4,6 @@ A new entry is written at the end of the file, so the operator's own lines and c
 """
 import os
 import re
-import subprocess
 import tomllib
 from collections.abc import Iterable
 from dataclasses import dataclass
@@ -13,7 +12,9 @@ from typing import Any
 
 import tomlkit
 
-from .faults import Fault
+from bsched_files.faults import Fault
+from bsched_files.programs import run
+
 from .files import new_file, sync
 from .projects import Project, toml_of
 from .volunteers import command_of_bridge
@@ -212,17 +213,7 @@ def check_by_bridge(project: Project, catalogue: Path, former: Path) -> None:
         "--catalogue",
         str(catalogue),
     ]
-    try:
-        done = subprocess.run(
-            words,
-            capture_output=True,
-            text=True,
-            timeout=CHECK_SECONDS,
-            stdin=subprocess.DEVNULL,
-            **project.as_owner(),
-        )
-    except (OSError, subprocess.TimeoutExpired) as error:
-        raise Fault(f"{words[0]}: {getattr(error, 'strerror', None) or error}") from None
+    done = run(words, CHECK_SECONDS, rights=project.as_owner())
     if done.returncode:
         last = (done.stderr.strip().splitlines() or ["it gives no reason"])[-1]
         says = last.removeprefix("bsched-bridge: ").replace(str(catalogue), f"{former} with the new entries")

@@ -8,8 +8,10 @@ from dataclasses import dataclass
 from itertools import groupby
 from typing import Any, NamedTuple
 
+from bsched_files.texts import WORD
+
 from .counts import MOST
-from .settings_file import KEYS, WORD, shown, value_fault
+from .settings_file import KEYS, shown, value_fault
 from .tables import Tables
 from .workunits import DONE, OPEN, SUCCESS, Instance, agree, canonical_of
 

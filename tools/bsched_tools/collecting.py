@@ -16,9 +16,10 @@ from contextlib import ExitStack
 from dataclasses import dataclass, field
 from pathlib import Path
 
+from bsched_files.faults import Fault
+
 from .catalogue_file import output_names_of
 from .cursors import Cursor, cursor_at
-from .faults import Fault
 from .looks import Look
 from .progress import names_in_batch
 from .projects import Project

@@ -15,9 +15,10 @@ from dataclasses import asdict, dataclass, field
 from pathlib import Path
 from typing import Any
 
+from bsched_files.faults import Fault
+from bsched_files.moments import DAY
+
 from .catalogue_file import WORKUNIT, App, CatalogueFile
-from .counts import DAY
-from .faults import Fault
 from .files import keep_file
 from .projects import Project
 from .submitting import read_record

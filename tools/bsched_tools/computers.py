@@ -3,7 +3,8 @@ from collections import Counter
 from collections.abc import Iterable
 from dataclasses import dataclass
 
-from .counts import DAY
+from bsched_files.moments import DAY
+
 from .tables import Tables
 from .workunits import decided
 

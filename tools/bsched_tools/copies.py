@@ -9,8 +9,9 @@ from contextlib import contextmanager, suppress
 from datetime import datetime, timezone
 from pathlib import Path
 
+from bsched_files.faults import Fault
+
 from . import tables
-from .faults import Fault
 from .files import sync
 from .taking import Source, Taken
 

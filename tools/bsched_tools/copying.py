@@ -8,14 +8,15 @@ next to a newer file.
 """
 import json
 import sqlite3
-import subprocess
 from contextlib import ExitStack, closing, suppress
 from dataclasses import dataclass
 from pathlib import Path
 
+from bsched_files.faults import Fault
+from bsched_files.programs import run
+
 from . import tables
 from .copies import copy_name, place, remove_older, turn, work_folder
-from .faults import Fault
 from .taking import Taken, Work, source_of, take
 
 TURN_SECONDS = 60.0  # how long to wait for another copy of the same tables
@@ -44,12 +45,7 @@ def check_whole(path: Path) -> None:
 def check_by_program(program: Path, path: Path) -> None:
     """Has the program open the copy. It must say what host 1 was given, or that there is no such host."""
     args = [str(program), "statement", "--tables", str(path), "--host", "1"]
-    try:
-        completed = subprocess.run(
-            args, capture_output=True, text=True, timeout=CHECK_SECONDS, stdin=subprocess.DEVNULL
-        )
-    except (OSError, subprocess.TimeoutExpired) as error:
-        raise Fault(f"{program}: {getattr(error, 'strerror', None) or error}") from None
+    completed = run(args, CHECK_SECONDS)
     if completed.returncode == 0 and completed.stdout.startswith("result,"):
         return
     with suppress(ValueError):

@@ -6,13 +6,15 @@ from contextlib import ExitStack
 from dataclasses import dataclass, field
 from pathlib import Path
 
-from .faults import Fault
+from bsched_files.faults import Fault
+from bsched_files.moments import DAY
+from bsched_files.texts import credit_number
+
 from .schemas import SCHEMA_NUMBER
 from .stuck import stuck_in
 from .tables import COPY_NAME, Tables, all_opened, copies_in, moment_of, opened
 from .workunits import IS_HELD
 
-DAY = 86400
 STATUSES = {0: "open", 1: "done", 2: "failed by errors", 3: "failed by successes", 4: "failed by the total"}
 # how many rows there may be (docs/PROFILE.md, "What it knows"); for hosts a setting says it
 MOST = {"account": 10_000, "app": 100, "version": 1_000, "unit": 200_000}
@@ -178,7 +180,7 @@ def as_lines(counts: Counts) -> Iterator[str]:
     rows += [(what, str(number)) for what, number in counts.people.items()]
     if counts.calls_unknown:
         rows.append(("hosts that called in the last day", f"unknown: {counts.calls_unknown}"))
-    rows += [("credit", f"{counts.millicredits / 1000:.3f}")]
+    rows += [("credit", credit_number(counts.millicredits))]
     for name, limit in counts.limits.items():
         share = 100 * limit.used // limit.most
         rows.append((f"{name} used", f"{limit.used} of {limit.most} ({share} %)"))
@@ -205,7 +207,7 @@ def as_metrics(counts: Counts) -> Iterator[str]:
     yield from metric("copy_timestamp_seconds", "When the copy was taken.", {"": counts.moment})
     yield from metric("schema", "The schema of the tables.", {"": SCHEMA_NUMBER})
     yield from metric("tables_bytes", "The size of the copies.", {"": counts.bytes})
-    yield from metric("credits", "All credit.", {"": f"{counts.millicredits / 1000:.3f}"})
+    yield from metric("credits", "All credit.", {"": credit_number(counts.millicredits)})
     yield from metric("workunits", "Workunits by their status.", labelled("status", counts.workunits))
     yield from metric(
         "stuck_workunits", "Open workunits that no user with a host can take.", {"": counts.stuck}

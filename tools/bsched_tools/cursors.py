@@ -13,7 +13,8 @@ from dataclasses import dataclass, field
 from pathlib import Path
 from typing import Any
 
-from .faults import Fault
+from bsched_files.faults import Fault
+
 from .files import replace_file
 from .tables import Tables, project_mark
 

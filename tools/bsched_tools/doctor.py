@@ -8,9 +8,10 @@ from contextlib import closing
 from itertools import islice
 from pathlib import Path
 
+from bsched_files.faults import Fault
+
 from . import holders, starts
 from .checks import wrong_rows
-from .faults import Fault
 from .settings_file import settings_faults
 from .tables import (
     EMPTY,

@@ -9,7 +9,7 @@ from dataclasses import dataclass
 from pathlib import Path
 from typing import BinaryIO
 
-from .faults import Fault
+from bsched_files.faults import Fault
 
 FICLONE = 0x40049409  # ioctl: the blocks of one file become those of another, too
 PART = 1 << 20  # bytes that are copied at once

@@ -4,18 +4,20 @@ import json
 import shutil
 import socket
 import ssl
-import subprocess
 import time
 from collections.abc import Callable, Iterable, Iterator
 from pathlib import Path
 from urllib.parse import urlsplit
+
+from bsched_files.faults import Fault
+from bsched_files.moments import DAY, HOUR
+from bsched_files.programs import run
 
 from .amounts import count_text
 from .comparing import compared
 from .computers import bad_computers
 from .computers import named as named_computers
 from .counts import counted
-from .faults import Fault
 from .files import keep_file
 from .levels import Finding, Level
 from .projects import Project, UnitSettings
@@ -24,7 +26,6 @@ from .tables import copies_in, moment_of, opened
 
 SECONDS = 20.0  # for an answer
 NO_HOST = 2**31 - 1  # no computer has this number: there are at most 100,000
-DAY, HOUR = 86_400, 3_600
 CERTIFICATE_DAYS = 14, 3  # fewer days are a warning, and critical
 FREE_SHARE = 0.1, 0.03  # of a disk: less is a warning, and critical
 USED_SHARE = 0.9, 1.0  # of a limit: more is a warning, and critical
@@ -154,8 +155,8 @@ def shown_by_systemd(unit: str, key: str) -> str | None:
     """Returns what systemd says about a unit; None if it can't be asked."""
     command = ["systemctl", "show", "--value", f"--property={key}", unit]
     try:
-        completed = subprocess.run(command, capture_output=True, text=True, timeout=SECONDS)
-    except (OSError, subprocess.TimeoutExpired):
+        completed = run(command, SECONDS)
+    except Fault:
         return None
     return completed.stdout.strip() if completed.returncode == 0 else None
 

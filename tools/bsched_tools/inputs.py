@@ -10,8 +10,8 @@ from collections.abc import Callable, Iterable
 from dataclasses import dataclass
 from pathlib import Path
 
-from .faults import Fault
-from .settings_file import WORD
+from bsched_files.faults import Fault
+from bsched_files.texts import WORD
 
 MOST_LINE = 4096  # bytes of a command line
 MOST_WORKUNITS = 200_000

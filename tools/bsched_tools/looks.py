@@ -9,11 +9,12 @@ from contextlib import ExitStack, contextmanager
 from dataclasses import dataclass
 from pathlib import Path
 
+from bsched_files.faults import Fault
+from bsched_files.moments import moment_text
+
 from . import projects
 from .copies import work_folder
 from .copying import copy_tables
-from .faults import Fault
-from .jobs import moment_text
 from .projects import Project
 from .tables import Tables, copies_in, found_copy, moment_of, opened
 

@@ -3,7 +3,8 @@ from collections.abc import Iterable
 from dataclasses import dataclass, field
 from pathlib import Path
 
-from .faults import Fault
+from bsched_files.faults import Fault
+
 from .tables import Tables
 
 HOSTS = """

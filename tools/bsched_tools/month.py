@@ -6,11 +6,11 @@ written last, so a bridge that reads it finds the files.
 import json
 from collections.abc import Iterator, Mapping, Sequence
 from dataclasses import dataclass
-from datetime import datetime, timezone
 from pathlib import Path
 
+from bsched_files.moments import DAY, date_text
+
 from . import plots
-from .counts import DAY
 from .files import replace_file
 from .history import Entry
 from .page import clean
@@ -54,11 +54,6 @@ def results_a_day(days: Sequence[Entry]) -> list[float]:
 def computers(entry: Entry) -> int:
     """Returns how many hosts called within a day, or, if that is unknown, got a job."""
     return entry.people.get(CALLED, entry.people.get(WORKED, 0))
-
-
-def date_text(moment: int) -> str:
-    """Returns a day as text."""
-    return datetime.fromtimestamp(moment, timezone.utc).strftime("%Y-%m-%d")
 
 
 def standing_alone(svg: str) -> str:

@@ -11,7 +11,8 @@ from collections.abc import Iterator
 from contextlib import contextmanager, suppress
 from pathlib import Path
 
-from .faults import Fault
+from bsched_files.faults import Fault
+
 from .files import Copied, copy_bytes
 from .uploaded import UploadedFile
 

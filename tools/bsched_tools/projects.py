@@ -8,9 +8,10 @@ from dataclasses import dataclass
 from pathlib import Path
 from typing import Any
 
-from .faults import Fault
+from bsched_files.faults import Fault
+from bsched_files.texts import WORD
+
 from .root_folders import make_below
-from .settings_file import WORD
 
 PROJECTS = Path("/var/lib/bsched")
 BACKUPS = Path("/var/backups/bsched")

@@ -9,8 +9,9 @@ from dataclasses import dataclass, field, replace
 from pathlib import Path
 from typing import TextIO
 
+from bsched_files.faults import Fault
+
 from .cursors import Cursor, Given, cursor_at
-from .faults import Fault
 from .files import replace_file, sync
 from .placing import OutputFolder, Spoiled, check_stored
 from .stuck import Stuck, stuck_in

@@ -8,7 +8,8 @@ import time
 from contextlib import closing
 from pathlib import Path
 
-from .faults import Fault
+from bsched_files.faults import Fault
+
 from .holders import PROC, descriptors_of
 from .tables import check_file, connected, faults_of, schema_fault
 

@@ -13,6 +13,10 @@ from dataclasses import dataclass
 from pathlib import Path
 from typing import Any
 
+from bsched_files.faults import Fault
+from bsched_files.moments import DAY, HOUR
+from bsched_files.texts import MILLICREDITS
+
 from .amounts import bytes_text, count_text
 from .bars import Bar
 from .catalogue_file import (
@@ -26,7 +30,6 @@ from .catalogue_file import (
     write_file,
 )
 from .counts import MOST
-from .faults import Fault
 from .files import copy_bytes, new_file
 from .import_files import KINDS, ImportFile, Row
 from .imports import Batch, Sender, batches_of, refusal_text
@@ -64,8 +67,13 @@ class Amounts:
         """The columns of an import after the name and the application."""
         quorum, successes = self.quorum, 2 * self.quorum + 2
         total = min(MOST_INSTANCES, max(3 * quorum + 4, self.errors + successes))
-        numbers = [quorum, quorum, self.errors, total, successes, round(self.days * 86400)]
-        numbers += [round(self.hours * 3600 * SPEED), self.memory, self.disk, round(self.credit * 1000)]
+        numbers = [quorum, quorum, self.errors, total, successes, round(self.days * DAY)]
+        numbers += [
+            round(self.hours * HOUR * SPEED),
+            self.memory,
+            self.disk,
+            round(self.credit * MILLICREDITS),
+        ]
         return [str(number) for number in numbers]
 
 

@@ -14,7 +14,8 @@ from pathlib import Path
 from typing import Any
 from urllib.parse import quote
 
-from .faults import Fault
+from bsched_files.faults import Fault
+
 from .schemas import FIRST_SCHEMA, SCHEMA, SECOND_SCHEMA, SCHEMA_NUMBER, Shape, shape_of, shape_of_text
 
 HEAD = b"SQLite format 3\0"

@@ -8,8 +8,10 @@ from contextlib import ExitStack, suppress
 from dataclasses import dataclass
 from pathlib import Path
 
+from bsched_files.faults import Fault
+
 from . import holders
-from .faults import Fault, Retry
+from .faults import Retry
 from .holders import Identity, OpenFile, identity_of
 from .stopping import process_of, stopped
 

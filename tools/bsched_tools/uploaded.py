@@ -11,7 +11,8 @@ from dataclasses import dataclass
 from pathlib import Path
 from urllib.parse import quote
 
-from .faults import Fault
+from bsched_files.faults import Fault
+
 from .workunits import Workunit
 
 OutputNames = Mapping[str, Set[str]]  # for each application the names of output files in the catalogue

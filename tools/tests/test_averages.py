@@ -4,8 +4,9 @@ from pathlib import Path
 
 import pytest
 
-from bsched_tools.averages import DAY, Averages
-from bsched_tools.faults import Fault
+from bsched_files.faults import Fault
+from bsched_files.moments import DAY
+from bsched_tools.averages import Averages
 from bsched_tools.members import Host, User
 
 

@@ -14,11 +14,12 @@ from typing import Any
 
 import plain_tables
 import pytest
-from small_project import END, SETTINGS, TOOLS, Twin, make_tables, rows_of, tools
+from small_project import END, PACKAGES, SETTINGS, Twin, make_tables, rows_of, tools
 
+from bsched_files.faults import Fault
 from bsched_tools import copies as copies_module
 from bsched_tools import copying, holders, stopping, tables, taking
-from bsched_tools.faults import Fault, Retry
+from bsched_tools.faults import Retry
 
 
 def identity_of(path: Path) -> holders.Identity:
@@ -180,7 +181,7 @@ def test_times_of_whole_seconds_are_not_trusted_soon(project: Path) -> None:
 def killed_after(seconds: float, project: Path, copies: Path) -> None:
     """Begins a copy, and kills it after this many seconds."""
     command = [sys.executable, "-m", "bsched_tools", "copy", "--tables", str(project), "--to", str(copies)]
-    path = {"PYTHONPATH": str(TOOLS)}
+    path = {"PYTHONPATH": PACKAGES}
     with subprocess.Popen(command, env=path, stdout=subprocess.DEVNULL) as copier:
         time.sleep(seconds)
         copier.kill()
@@ -203,7 +204,7 @@ def test_serving_goes_on_where_the_tool_is_killed_while_it_stands_still(project:
     )
     for end in (signal.SIGKILL, signal.SIGTERM, signal.SIGINT):
         command = [sys.executable, "-c", script]
-        path = {"PYTHONPATH": str(TOOLS)}
+        path = {"PYTHONPATH": PACKAGES}
         with subprocess.Popen(
             command, env=path, stdout=subprocess.PIPE, stderr=subprocess.DEVNULL
         ) as stopper:
@@ -263,7 +264,7 @@ def test_locks_of_open_files(project: Path, copies: Path) -> None:
     log = project.with_name("project.db-wal")
     log.write_bytes(b"")
     command = [sys.executable, "-c", LIKE_THE_PROGRAM, str(project), str(log)]
-    with subprocess.Popen(command, env={"PYTHONPATH": str(TOOLS)}, stdout=subprocess.PIPE) as holder:
+    with subprocess.Popen(command, env={"PYTHONPATH": PACKAGES}, stdout=subprocess.PIPE) as holder:
         try:
             assert holder.stdout is not None and holder.stdout.readline() == b"locked\n"
             found = holders.holder_among(holders.all_open_files(identity_of(project)))

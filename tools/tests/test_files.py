@@ -5,7 +5,7 @@ from pathlib import Path
 
 import pytest
 
-from bsched_tools.faults import Fault
+from bsched_files.faults import Fault
 from bsched_tools.files import replace_file
 
 

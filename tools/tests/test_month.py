@@ -4,7 +4,7 @@ import re
 import xml.etree.ElementTree as ElementTree
 from pathlib import Path
 
-from bsched_tools.counts import DAY
+from bsched_files.moments import DAY
 from bsched_tools.history import Entry
 from bsched_tools.month import last_of_days, results_a_day, write_plots
 

@@ -14,9 +14,9 @@ from bsched_bridge.barring import Barring
 from bsched_bridge.members import Members, first_heard
 from bsched_bridge.state_file import StateFile
 from bsched_bridge.teams import Teams
+from bsched_files.faults import Fault
 from bsched_tools import imports, projects
 from bsched_tools.copies import turn
-from bsched_tools.faults import Fault
 from bsched_tools.import_files import read_import
 
 

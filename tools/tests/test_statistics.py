@@ -12,8 +12,8 @@ import pytest
 from lives import Stored, life_of, stored_life
 from small_project import SETTINGS, made_anew, make_tables, tools
 
+from bsched_files.faults import Fault
 from bsched_tools import averages, exports, files
-from bsched_tools.faults import Fault
 from bsched_tools.members import agreed_in
 from bsched_tools.volunteers import Team
 

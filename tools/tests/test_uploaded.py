@@ -15,8 +15,8 @@ from small_project import tools
 from test_results import lines_of, rows_of
 
 from bsched_bridge.upload_tables import UploadTables
+from bsched_files.faults import Fault
 from bsched_tools import files, uploaded
-from bsched_tools.faults import Fault
 from bsched_tools.placing import OutputFolder, folder_name
 from bsched_tools.projects import Project
 from bsched_tools.results import write_results

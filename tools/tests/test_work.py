@@ -21,10 +21,10 @@ from small_project import TOOLS, rows_of, tools
 from work_project import CATALOGUE, PLATFORM, WorkProject
 
 from bsched_bridge.code_signing import file_md5, read_private_key, signature_text, write_new_keys
+from bsched_files.faults import Fault
 from bsched_tools import __main__, apps, catalogue_file, counts, looks, projects, submitting
 from bsched_tools.bars import Bar
 from bsched_tools.catalogue_file import CatalogueFile
-from bsched_tools.faults import Fault
 from bsched_tools.import_files import KINDS, ImportFile, Row
 from bsched_tools.imports import Sender, import_file
 
@@ -746,7 +746,7 @@ def test_a_stop_of_app_at_each_step(
 
         return stepped
 
-    monkeypatch.setenv("PYTHONPATH", str(TOOLS.parent / "bridge"))
+    monkeypatch.setenv("PYTHONPATH", f"{TOOLS.parent / 'bridge'}:{TOOLS.parent / 'files'}")
     checked = catalogue_file.check_by_bridge
     monkeypatch.setattr(catalogue_file, "check_by_bridge", lambda *_: None)
     monkeypatch.setattr(apps.Addition, "undo", lambda _addition: None)  # a kill undoes nothing
