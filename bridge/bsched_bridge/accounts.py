@@ -15,6 +15,7 @@ from dataclasses import dataclass
 from enum import Enum
 
 from bsched_files.moments import DAY, HOUR
+from bsched_files.project_settings import AccountSettings
 from bsched_files.texts import WORD
 
 from .barring import Barred, Barring
@@ -25,7 +26,6 @@ from .members import DayIsFull, EmailTaken, Member, Members
 from .names import clean_name
 from .passwords import Passwords, TooBusy, is_client_hash
 from .scheduler import NoAnswer, Refusal, Scheduler
-from .settings import AccountSettings
 from .words import shown_key
 
 MOST_WRONG_PASSWORDS = 10  # in an hour, for each client address and for each e-mail address

@@ -12,7 +12,9 @@ from dataclasses import dataclass, replace
 from werkzeug.exceptions import BadRequest, ServiceUnavailable
 from werkzeug.wrappers import Request, Response
 
+from bsched_files.counts import Limit
 from bsched_files.moments import DAY, HOUR, MINUTE, moment_text
+from bsched_files.project_settings import HostRules, Settings
 
 from .directory import Computer, Directory
 from .http_messages import form_of, refuse_other_sites
@@ -20,11 +22,10 @@ from .limits import NoPlace, Places, RecentCounts
 from .measurements import BOUNDS, End, Tally
 from .operator_orders import OrderFault, bar_account, state_of, unbar_account
 from .overview import Overview, Overviews
-from .settings import HostRules, Settings
 from .statements import Result, Statements
 from .templates import Templates
 from .texts import bytes_text
-from .tool_files import Limit, Timer
+from .tool_files import Timer
 from .words import shown_key
 
 MOST_WRONG_KEYS, WRONG_SECONDS = 10, 60.0

@@ -339,9 +339,9 @@ class ReplyWriter:
             xml.add("name", job.wu_name)
             xml.add("app_name", job.app_name)
             xml.add("rsc_fpops_est", operations)
-            xml.add("rsc_fpops_bound", operations * app.fpops_bound_factor)
-            xml.add("rsc_memory_bound", app.rsc_memory_bound)
-            xml.add("rsc_disk_bound", app.rsc_disk_bound)
+            xml.add("rsc_fpops_bound", operations * app.bounds.factor)
+            xml.add("rsc_memory_bound", app.bounds.memory)
+            xml.add("rsc_disk_bound", app.bounds.disk)
             if work.command_line:
                 xml.add("command_line", work.command_line)
             for file in work.input_files:

@@ -16,6 +16,7 @@ from collections.abc import Callable, Iterable
 from dataclasses import dataclass, replace
 
 from bsched_files.moments import DAY, HOUR
+from bsched_files.project_settings import HostRules
 
 from .archives import Archives
 from .barring import Barred, Barring
@@ -38,7 +39,6 @@ from .languages import Text, gettext_noop, ngettext_lazy
 from .measurements import End, Reports
 from .report_checks import ReportChecks
 from .scheduler import Job, NoAnswer, Refusal, Reply, Scheduler
-from .settings import HostRules
 from .words import shown_key
 
 COUNT_ATTEMPTS = 3  # calls of one request, if bsched's count is ahead or it has lost the account

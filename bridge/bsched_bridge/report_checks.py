@@ -13,6 +13,7 @@ from collections.abc import Callable
 from dataclasses import dataclass, field, replace
 from functools import cached_property
 
+from bsched_files.catalogue import OutputFile
 from bsched_files.texts import MOST_OUTPUT, cut_to_bytes
 
 from .calls import MOST_REPORTS
@@ -22,7 +23,7 @@ from .digest_queue import DigestQueue, DigestWaits
 from .handed_out import HandedJob, HandedOut, Outcome
 from .hosts import Hosts, Key
 from .measurements import PutOffs, WhyPutOff
-from .output_files import OutputFile, compared_text, upload_name
+from .output_files import compared_text, upload_name
 from .scheduler import Job, NoAnswer, Scheduler
 from .upload_store import Upload, UploadStore
 

@@ -9,8 +9,9 @@ from dataclasses import dataclass, field, fields
 from operator import itemgetter
 from typing import Any, NoReturn
 
+from bsched_files.project_settings import Address
+
 from .scheduler_connection import FaultyAnswer, exchanged, message_of
-from .settings import Address
 
 ATTEMPTS = 3
 PAUSE_SECONDS = 0.5  # between attempts

@@ -3,10 +3,14 @@ import time
 from collections.abc import Iterable, Set
 from pathlib import Path
 
+from bsched_files.faults import Fault
+from bsched_files.project_settings import Settings, read_settings
+from bsched_files.tables import opened
+from bsched_files.toml_entries import OperatorFault
+from bsched_files.workunits import decided
+
 from .barring import Barring
-from .operator_files import OperatorFault
 from .rights import rights_of_owner
-from .settings import Settings, read_settings
 from .state_file import StateFile
 from .upload_store import UploadStore
 from .upload_sweep import Decisions, sweep
@@ -14,13 +18,6 @@ from .upload_sweep import Decisions, sweep
 
 def decisions_in(paths: Iterable[Path]) -> Decisions:
     """Returns the decisions in copies of the tables. Raises OperatorFault if one can't be read."""
-    try:
-        from bsched_files.faults import Fault
-        from bsched_tools.tables import opened
-        from bsched_tools.workunits import decided
-    except ModuleNotFoundError:
-        what = "--tables needs the package bsched_tools: add the folder tools to PYTHONPATH"
-        raise OperatorFault(Path("sweep"), None, what) from None
     decisions = Decisions()
     try:
         for path in paths:

@@ -26,10 +26,12 @@ from pathlib import Path
 from typing import cast
 from uuid import uuid4
 
+from bsched_files.catalogue import OutputFile
+from bsched_files.project_settings import Settings, UploadSettings
+from bsched_files.toml_entries import OperatorFault
+
 from .catalogue import Catalogue
-from .operator_files import OperatorFault
-from .output_files import OutputFile, StoredOutput
-from .settings import Settings, UploadSettings
+from .output_files import StoredOutput
 from .upload_owners import Owner
 from .upload_room import Coming, NotNow, UploadRoom
 from .upload_tables import UploadTables

@@ -10,11 +10,11 @@ from pathlib import Path
 from typing import cast
 
 from bsched_files.moments import moment_text
+from bsched_files.project_settings import read_settings
 from bsched_files.texts import shown
 
 from .operator_orders import AnyParser, OrderFault, State, as_table, config_of, open_state
 from .rights import rights_of_owner
-from .settings import read_settings
 from .upload_store import UploadStore
 from .words import shown_key
 

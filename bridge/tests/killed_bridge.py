@@ -17,8 +17,8 @@ import waitress
 from bsched_bridge.application import Application
 from bsched_bridge.catalogue import read_catalogue
 from bsched_bridge.scheduler import Scheduler
-from bsched_bridge.settings import read_settings
 from bsched_bridge.state_file import StateFile
+from bsched_files.project_settings import read_settings
 
 
 class Killed(joining.Stopped):

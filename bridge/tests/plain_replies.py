@@ -241,9 +241,9 @@ class PlainReplies:
         add(element, "name", job.wu_name)
         add(element, "app_name", job.app_name)
         add(element, "rsc_fpops_est", operations)
-        add(element, "rsc_fpops_bound", operations * app.fpops_bound_factor)
-        add(element, "rsc_memory_bound", app.rsc_memory_bound)
-        add(element, "rsc_disk_bound", app.rsc_disk_bound)
+        add(element, "rsc_fpops_bound", operations * app.bounds.factor)
+        add(element, "rsc_memory_bound", app.bounds.memory)
+        add(element, "rsc_disk_bound", app.bounds.disk)
         if work.command_line:
             add(element, "command_line", work.command_line)
         for file in work.input_files:

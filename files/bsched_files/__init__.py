@@ -6,4 +6,17 @@ texts, moments        texts of strangers, credit, and moments, as people and oth
 faults                what ends a command
 programs              how another program is run
 command_line          what all command lines have in common
+atomic                files that are written whole or not at all
+toml_entries          TOML that an operator writes, with the lines of its faults
+project_settings      bridge.toml: the settings of a bridge, with their defaults
+catalogue             catalogue.toml: applications, versions and their files, with their defaults
+ports                 the ports of a project, in its file environment and in bridge.toml
+schemas, tables       the tables of bsched in a copy, opened for reading
+workunits             what became of a workunit, by the rules of docs/PROFILE.md
+copies                copies of SQLite files, and folders of them
+json_files            JSON files with the number of their format, and files that are read again
+counts                counts.json: how many there are of each thing, and how many there may be
+findings              findings.json: what the checks of a project's health found, and how bad it is
+averages              averages.json: recent average credit, with its decay and its keyed digest
+plots                 plots.json, and the plots of the last month
 """

@@ -18,12 +18,15 @@ PACKAGING = Path(__file__).resolve().parent.parent
 TOP = PACKAGING.parent
 SERVICE, EXAMPLE, TEMPLATE = PACKAGING / "service", TOP / "bridge" / "example", PACKAGING / "project"
 # in place of the programs that need root or an installed package
-STUBS = """
-chown() { :; }
-chgrp() { :; }
-id() { echo 0; }
-runuser() { shift 3; "$@"; }
-bsched() { echo tables > project.db; }
+STUBS = f"""
+chown() {{ :; }}
+chgrp() {{ :; }}
+id() {{ echo 0; }}
+runuser() {{ shift 3; "$@"; }}
+bsched() {{ echo tables > project.db; }}
+bsched-bridge() {{
+  PYTHONPATH={TOP}/bridge:{TOP}/files PYTHONDONTWRITEBYTECODE=1 /usr/bin/python3 -m bsched_bridge "$@"
+}}
 """
 MADE_KEY = re.compile("[0-9a-f]{32}")
 

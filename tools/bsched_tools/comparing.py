@@ -15,14 +15,15 @@ from dataclasses import asdict, dataclass, field
 from pathlib import Path
 from typing import Any
 
+from bsched_files.atomic import keep_file
+from bsched_files.catalogue import WORKUNIT, App
 from bsched_files.faults import Fault
 from bsched_files.moments import DAY
+from bsched_files.tables import opened
 
-from .catalogue_file import WORKUNIT, App, CatalogueFile
-from .files import keep_file
+from .catalogue_file import ProjectCatalogue
 from .projects import Project
 from .submitting import read_record
-from .tables import opened
 from .uploaded import uploads_in
 
 FORMAT = 1
@@ -155,7 +156,7 @@ class Inputs(Kind):
 
     def __init__(self, project: Project, open_units: frozenset[str] | None) -> None:
         self.project, self.open_units = project, open_units
-        self.catalogue = CatalogueFile(project)
+        self.catalogue = ProjectCatalogue(project)
 
     def after(self, key: str) -> Iterator[Stored]:
         batch = key.partition("/")[0]
@@ -182,7 +183,7 @@ class Inputs(Kind):
             place = self.catalogue.files / app.inputs[0].replace(WORKUNIT, workunit)
             return Stored(key, place, nbytes, sha256, what)
         line = f"{shown}\n".encode(errors="surrogatepass")
-        folder = self.catalogue.line_folder(app) or self.catalogue.files
+        folder = app.line_folder or self.catalogue.files
         return Stored(key, folder / workunit, len(line), hashlib.sha256(line).hexdigest(), what)
 
 

@@ -12,11 +12,12 @@ from contextlib import ExitStack, closing, suppress
 from dataclasses import dataclass
 from pathlib import Path
 
+from bsched_files import tables
+from bsched_files.copies import copy_name, log_of
 from bsched_files.faults import Fault
 from bsched_files.programs import run
 
-from . import tables
-from .copies import copy_name, place, remove_older, turn, work_folder
+from .copies import place, remove_older, turn, work_folder
 from .taking import Taken, Work, source_of, take
 
 TURN_SECONDS = 60.0  # how long to wait for another copy of the same tables
@@ -29,7 +30,7 @@ def merge(path: Path) -> None:
         busy, *_ = connection.execute("PRAGMA wal_checkpoint(TRUNCATE)").fetchone()
     if busy or tables.log_size(path):
         raise Fault("its log could not be moved into the file: another program has it")
-    tables.log_of(path).unlink(missing_ok=True)
+    log_of(path).unlink(missing_ok=True)
 
 
 def check_whole(path: Path) -> None:
@@ -99,7 +100,7 @@ def copy_tables(path: Path, target: Path, keep: int | None = None, program: Path
                 message = str(fault).removeprefix(f"{taken.path}: ").removesuffix(tables.TAKE_ANOTHER)
                 raise Fault(f"{path}: the copy was not good, and is not kept: {message}") from None
             with turn(folder, TURN_SECONDS):
-                name = target if folder != target else folder / copy_name(source, taken.moment)
+                name = target if folder != target else folder / copy_name(source.path.stem, taken.moment)
                 place(taken, source, name)
                 removed = remove_older(name, source.path.stem, keep) if keep is not None else []
     except OSError as error:

@@ -10,14 +10,15 @@ from dataclasses import dataclass
 from pathlib import Path
 from xml.sax.saxutils import escape
 
+from bsched_files.atomic import replace_file
+from bsched_files.averages import Kept
 from bsched_files.faults import Fault
+from bsched_files.tables import all_opened
 from bsched_files.texts import credit_number, xml_text
 
-from .averages import Averages, Kept
+from .averages import Averages
 from .copies import turn
-from .files import replace_file
 from .members import Host, User, users_of
-from .tables import all_opened
 from .volunteers import Team
 
 TURN_SECONDS = 60.0

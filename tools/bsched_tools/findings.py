@@ -4,9 +4,9 @@ from collections import Counter
 from dataclasses import dataclass
 
 from bsched_files.moments import HOUR
+from bsched_files.tables import Tables
+from bsched_files.workunits import IS_HELD, decided
 
-from .tables import Tables
-from .workunits import IS_HELD, decided
 
 DAY_HOURS = 24
 MOST_LISTED = 20

@@ -6,12 +6,12 @@ with a later run.
 """
 from dataclasses import dataclass, field
 
+from bsched_files.atomic import sync
 from bsched_files.faults import Fault
 from bsched_files.programs import run
 
 from .catalogue_file import output_names_of
 from .copies import turn
-from .files import sync
 from .projects import Project, UnitSettings
 from .results import write_results
 

@@ -1,6 +1,5 @@
 """Whether a project is well: what answers, how old the newest copy is, and what is nearly full."""
 import http.client
-import json
 import shutil
 import socket
 import ssl
@@ -9,20 +8,21 @@ from collections.abc import Callable, Iterable, Iterator
 from pathlib import Path
 from urllib.parse import urlsplit
 
+from bsched_files.atomic import keep_file
+from bsched_files.copies import copies_in, moment_of
 from bsched_files.faults import Fault
+from bsched_files.findings import NAME as FINDINGS, Finding, Findings, Level
 from bsched_files.moments import DAY, HOUR
 from bsched_files.programs import run
+from bsched_files.tables import opened
 
 from .amounts import count_text
 from .comparing import compared
 from .computers import bad_computers
 from .computers import named as named_computers
 from .counts import counted
-from .files import keep_file
-from .levels import Finding, Level
 from .projects import Project, UnitSettings
 from .stuck import named, stuck_in
-from .tables import copies_in, moment_of, opened
 
 SECONDS = 20.0  # for an answer
 NO_HOST = 2**31 - 1  # no computer has this number: there are at most 100,000
@@ -266,16 +266,7 @@ def write_findings(project: Project, settings: UnitSettings, found: Iterable[Fin
     """Writes what was found, and how old the copies are, for the operator's board: the bridge may not look at
     them itself."""
     copies = copies_of(project, settings)
-    fields = {
-        "moment": int(time.time()),
-        "findings": [
-            {"check": one.check, "level": one.level.name.lower(), "text": one.text} for one in found
-        ],
-        "copies": {
-            "count": len(copies),
-            "oldest": moment_of(copies[-1]) if copies else None,
-            "newest": moment_of(copies[0]) if copies else None,
-        },
-    }
-    path = project.made(project.work, 0o700) / "findings.json"
-    keep_file(path, json.dumps(fields).encode(), 0o600)
+    oldest, newest = (moment_of(copies[at]) if copies else None for at in (-1, 0))
+    findings = Findings(int(time.time()), list(found), len(copies), oldest, newest)
+    path = project.made(project.work, 0o700) / FINDINGS
+    keep_file(path, findings.text().encode(), 0o600)

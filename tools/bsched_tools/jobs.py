@@ -9,10 +9,10 @@ from typing import Any
 
 from bsched_files.faults import Fault
 from bsched_files.moments import moment_text
+from bsched_files.tables import Tables
 from bsched_files.texts import credit_number
+from bsched_files.workunits import DONE, OPEN, REASONS, SUCCESS, Instance, agree, canonical_of
 
-from .tables import Tables
-from .workunits import DONE, OPEN, REASONS, SUCCESS, Instance, agree, canonical_of
 
 LATE, DROPPED = 1, 2  # lapses
 MOST_LISTED = 50

@@ -9,14 +9,15 @@ from contextlib import ExitStack, contextmanager
 from dataclasses import dataclass
 from pathlib import Path
 
+from bsched_files.copies import copies_in, found_copy, moment_of
 from bsched_files.faults import Fault
 from bsched_files.moments import moment_text
+from bsched_files.tables import Tables, opened
 
 from . import projects
 from .copies import work_folder
 from .copying import copy_tables
 from .projects import Project
-from .tables import Tables, copies_in, found_copy, moment_of, opened
 
 ASK_SECONDS = 15.0
 NO_MEMBER = "only root and members of the group bsched may use this project"

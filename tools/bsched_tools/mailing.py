@@ -12,11 +12,11 @@ from dataclasses import asdict, dataclass, field
 from pathlib import Path
 from typing import Any
 
+from bsched_files.atomic import keep_file
 from bsched_files.faults import Fault
+from bsched_files.findings import Finding, Level, levels_of, worst_of
 from bsched_files.moments import HOUR, moment_text
 
-from .files import keep_file
-from .levels import Finding, Level, levels_of, worst_of
 from .projects import Project
 
 SENDMAIL = Path("/usr/sbin/sendmail")

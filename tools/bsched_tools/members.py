@@ -4,8 +4,8 @@ from dataclasses import dataclass, field
 from pathlib import Path
 
 from bsched_files.faults import Fault
+from bsched_files.tables import Tables
 
-from .tables import Tables
 
 HOSTS = """
 SELECT auth, cpid, fpops, memory, disk, host.credit, min(sent), max(sent),

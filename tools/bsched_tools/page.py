@@ -4,14 +4,17 @@ from collections.abc import Iterable, Mapping, Sequence
 from html import escape
 from pathlib import Path
 
+from bsched_files.atomic import replace_file
+from bsched_files.copies import COPY_NAME
+from bsched_files.counts import Counts
 from bsched_files.faults import Fault
 from bsched_files.moments import DAY, HOUR, minute_text, time_text
+from bsched_files.tables import Tables, opened
 from bsched_files.texts import credit_number
 
 from . import plots
 from .copies import turn
-from .counts import Counts, counted
-from .files import replace_file
+from .counts import counted
 from .findings import (
     credit_by_user,
     deadlines_by_hour,
@@ -20,7 +23,6 @@ from .findings import (
     stuck_workunits,
 )
 from .history import TURNAROUND_HOURS, Entry, History
-from .tables import COPY_NAME, Tables, opened
 
 TURN_SECONDS = 60.0
 MOST_POINTS = 500

@@ -4,17 +4,18 @@ from collections.abc import Iterator
 from dataclasses import dataclass, field
 from pathlib import Path
 
+from bsched_files.copies import copies_in, moment_of
 from bsched_files.faults import Fault
 from bsched_files.moments import DAY, HOUR, moment_text
+from bsched_files.tables import Tables, opened
+from bsched_files.workunits import IS_HELD, OPEN, REASONS
 
 from .amounts import count_text
 from .computers import BadComputer, bad_computers
 from .computers import named as named_computers
 from .looks import Look
 from .stuck import Stuck, named, stuck_in
-from .tables import Tables, copies_in, moment_of, opened
 from .texts import main_line
-from .workunits import IS_HELD, OPEN, REASONS
 
 LEAST_SECONDS = 60  # between two copies from which a rate follows
 MOST_SHOWN = 3

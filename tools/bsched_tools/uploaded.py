@@ -12,8 +12,8 @@ from pathlib import Path
 from urllib.parse import quote
 
 from bsched_files.faults import Fault
+from bsched_files.workunits import Workunit
 
-from .workunits import Workunit
 
 OutputNames = Mapping[str, Set[str]]  # for each application the names of output files in the catalogue
 

@@ -11,7 +11,7 @@ from bsched_files.texts import shown
 from .amounts import MOST_CREDIT, count_text
 from .apps import LINE_FOLDER, NewApp, add_app, input_member, output_member, read_files
 from .bars import Bar
-from .catalogue_file import CatalogueFile
+from .catalogue_file import ProjectCatalogue
 from .collecting import collect_files, collected_lines
 from .inputs import Input, check_batch, combinations, lines_in, of_files, of_texts
 from .looks import NO_MEMBER, check_member, looked_at, tables_of, turn_of
@@ -93,14 +93,14 @@ def credit_of(args: Arguments) -> float:
 
 def plan_of(args: Arguments, project: Project) -> Plan:
     """Returns the batch of work that the command line asks for."""
-    catalogue = CatalogueFile(project)
+    catalogue = ProjectCatalogue(project)
     application = app_of(catalogue, args.app)
     inputs = inputs_asked(args)
     amounts = Amounts(
         args.hours,
         args.days,
-        application.memory if args.memory is None else args.memory,
-        application.disk if args.disk is None else args.disk,
+        application.bounds.memory if args.memory is None else args.memory,
+        application.bounds.disk if args.disk is None else args.disk,
         args.quorum,
         errors_of(project, args.batch, args.quorum) if args.errors is None else args.errors,
         credit_of(args),

@@ -42,7 +42,7 @@ def test_a_file_of_another_format(tmp_path: Path) -> None:
     Averages(path).write()
     fields = json.loads(path.read_text())
     path.write_text(json.dumps({**fields, "format": fields["format"] + 1}))
-    with pytest.raises(Fault, match="it has no averages"):
+    with pytest.raises(Fault, match="it has format 2, and this program knows 1"):
         Averages(path)
 
 

@@ -16,9 +16,9 @@ import plain_tables
 import pytest
 from small_project import END, PACKAGES, SETTINGS, Twin, make_tables, rows_of, tools
 
+from bsched_files.copies import copy_name, found_copy, give_to
 from bsched_files.faults import Fault
-from bsched_tools import copies as copies_module
-from bsched_tools import copying, holders, stopping, tables, taking
+from bsched_tools import copying, holders, stopping, taking
 from bsched_tools.faults import Retry
 
 
@@ -447,10 +447,10 @@ def test_a_link_in_the_place_of_a_copy_is_not_followed(tmp_path: Path) -> None:
     target.write_text("x")
     link.symlink_to(target)
     with pytest.raises(OSError):
-        copies_module.give_to(link, target.stat())
+        give_to(link, target.stat())
     os.link(target, tmp_path / "hard")
     with pytest.raises(Fault, match="somebody else put this file there"):
-        copies_module.give_to(tmp_path / "hard", target.stat())
+        give_to(tmp_path / "hard", target.stat())
 
 
 def test_a_copy_whose_name_lies_in_the_future_is_named(
@@ -459,10 +459,10 @@ def test_a_copy_whose_name_lies_in_the_future_is_named(
     capsys: pytest.CaptureFixture[str],
 ) -> None:
     first = copying.copy_tables(project, copies).path
-    assert tables.found_copy(copies) == first and capsys.readouterr().err == ""
+    assert found_copy(copies) == first and capsys.readouterr().err == ""
     later = copies / "project-29990101T000000.000Z.db"
     os.rename(first, later)
-    assert tables.found_copy(copies) == later
+    assert found_copy(copies) == later
     assert "its name lies in the future" in capsys.readouterr().err
 
 
@@ -607,6 +607,6 @@ def test_the_command_line(project: Path, copies: Path) -> None:
 
 
 def test_names_of_copies_are_in_the_order_of_time(project: Path) -> None:
-    source = taking.source_of(project)
-    names = [copies_module.copy_name(source, moment) for moment in (0.0, 1.0011, 86400.5, 1.8e9)]
+    stem = taking.source_of(project).path.stem
+    names = [copy_name(stem, moment) for moment in (0.0, 1.0011, 86400.5, 1.8e9)]
     assert names == sorted(names) and names[1] == "project-19700101T000001.001Z.db"

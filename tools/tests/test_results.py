@@ -12,11 +12,12 @@ from lives import Stored, decided_by, life_of, stored_life
 from small_project import TOOLS, WORKUNITS, made_anew, tools
 from small_project import rows_of as stored_rows
 
+from bsched_files import tables, workunits
 from bsched_files.faults import Fault
+from bsched_files.tables import opened
 from bsched_files.texts import csv_text
-from bsched_tools import results, tables, workunits
+from bsched_tools import results
 from bsched_tools.cursors import Cursor, cursor_at, former_mark
-from bsched_tools.tables import opened
 
 NOW, NEXT = "1970-01-01T00:16:40Z", "\n"
 REASONS = {"errors": "errors", "success": "successes", "total": "total"}

@@ -5,7 +5,7 @@ from dataclasses import dataclass
 from itertools import groupby
 from typing import Any
 
-from bsched_files.faults import Fault
+from .faults import Fault
 
 from .tables import Tables
 
