@@ -72,7 +72,6 @@ What the operator sees goes through these:
 
 measurements     how calls, reports and uploads end, and how long answers take, in memory
 scheduler_probe  whether bsched answers
-tool_files       what the tools and systemd leave for the bridge to read
 overview         all that is known at one moment
 metrics          the same for Prometheus
 board            the same as a page, with forms

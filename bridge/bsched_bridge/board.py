@@ -15,6 +15,7 @@ from werkzeug.wrappers import Request, Response
 from bsched_files.counts import Limit
 from bsched_files.moments import DAY, HOUR, MINUTE, moment_text
 from bsched_files.project_settings import HostRules, Settings
+from bsched_files.timers import Timer
 
 from .directory import Computer, Directory
 from .http_messages import form_of, refuse_other_sites
@@ -25,7 +26,6 @@ from .overview import Overview, Overviews
 from .statements import Result, Statements
 from .templates import Templates
 from .texts import bytes_text
-from .tool_files import Timer
 from .words import shown_key
 
 MOST_WRONG_KEYS, WRONG_SECONDS = 10, 60.0

@@ -10,6 +10,7 @@ from bsched_files.findings import Findings, read_findings
 from bsched_files.json_files import WatchedFile
 from bsched_files.moments import DAY
 from bsched_files.project_settings import Settings
+from bsched_files.timers import Timer, timers_of
 
 from .current_catalogue import CatalogueFaults
 from .digest_queue import DigestQueue
@@ -17,7 +18,6 @@ from .measurements import Measurements
 from .members import MADE_BETWEEN
 from .scheduler_probe import Probe, SchedulerProbe
 from .state_file import StateFile
-from .tool_files import Timer, timers_of
 from .upload_store import UploadStore
 
 OPEN_CALLS = "SELECT count(*) FROM host WHERE open_call IS NOT NULL"

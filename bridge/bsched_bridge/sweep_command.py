@@ -7,6 +7,7 @@ from bsched_files.faults import Fault
 from bsched_files.project_settings import Settings, read_settings
 from bsched_files.tables import opened
 from bsched_files.toml_entries import OperatorFault
+from bsched_files.uploads import DATABASE
 from bsched_files.workunits import decided
 
 from .barring import Barring
@@ -48,7 +49,7 @@ def run(config: Path, tables: list[Path]) -> str:
     settings = read_settings(config)
     if settings.uploads is None:
         raise OperatorFault(config, None, "has no [uploads], so there is nothing to sweep")
-    if not (settings.uploads.folder / "uploads.db").exists():
+    if not (settings.uploads.folder / DATABASE).exists():
         raise OperatorFault(settings.uploads.folder, None, "has no uploads.db, which the bridge makes")
     decisions, barred = decisions_in(tables) if tables else None, barred_in(settings)
     with rights_of_owner(settings.uploads.folder):

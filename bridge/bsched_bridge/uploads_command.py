@@ -12,6 +12,7 @@ from typing import cast
 from bsched_files.moments import moment_text
 from bsched_files.project_settings import read_settings
 from bsched_files.texts import shown
+from bsched_files.uploads import DATABASE
 
 from .operator_orders import AnyParser, OrderFault, State, as_table, config_of, open_state
 from .rights import rights_of_owner
@@ -49,7 +50,7 @@ def add_uploads(orders: "argparse._SubParsersAction[AnyParser]") -> None:
 def opened_store(state: State) -> Iterator[UploadStore]:
     """Opens the folder of uploads of a project for the block, with the rights of its owner."""
     settings = state.settings.uploads
-    if settings is None or not (settings.folder / "uploads.db").exists():
+    if settings is None or not (settings.folder / DATABASE).exists():
         raise OrderFault("the project has no folder of uploads")
     with rights_of_owner(settings.folder), closing(UploadStore(settings)) as store:
         yield store

@@ -9,8 +9,12 @@ command_line          what all command lines have in common
 atomic                files that are written whole or not at all
 toml_entries          TOML that an operator writes, with the lines of its faults
 project_settings      bridge.toml: the settings of a bridge, with their defaults
+sqlite_formats        SQLite files whose format is checked by whoever opens them
+bridge_state          bridge.db: the tables of the bridge's state file
+uploads               uploads.db and its folder, and outputs that name files
 catalogue             catalogue.toml: applications, versions and their files, with their defaults
 ports                 the ports of a project, in its file environment and in bridge.toml
+timers                when the timers of a project's units elapsed last
 schemas, tables       the tables of bsched in a copy, opened for reading
 workunits             what became of a workunit, by the rules of docs/PROFILE.md
 copies                copies of SQLite files, and folders of them

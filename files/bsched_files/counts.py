@@ -14,6 +14,7 @@ FORMAT = 1
 STATUSES = {0: "open", 1: "done", 2: "failed by errors", 3: "failed by successes", 4: "failed by the total"}
 # how many rows there may be (docs/PROFILE.md, "What it knows"); for hosts a setting says it
 MOST = {"account": 10_000, "app": 100, "version": 1_000, "unit": 200_000}
+NO_HOST = 2**31 - 1  # no host has this number: there are at most 100,000
 # how the rows of each table are called
 NOUNS = {"account": "accounts", "app": "apps", "version": "versions", "unit": "workunits", "host": "hosts"}
 

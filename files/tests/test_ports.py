@@ -12,7 +12,7 @@ from bsched_files.project_settings import file_of
 SETTINGS = """\
 # the bridge
 name = "Sums"  # 8080
-listen    = '127.0.0.1:8081'   # where it listens
+  listen  = '127.0.0.1:8081'   # where it listens, and not at 127.0.0.1:8090
 scheduler = "{host}:8080"     # where `bsched serve` listens
 
 [accounts]  # listen = "127.0.0.1:1"

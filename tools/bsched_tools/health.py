@@ -10,11 +10,13 @@ from urllib.parse import urlsplit
 
 from bsched_files.atomic import keep_file
 from bsched_files.copies import copies_in, moment_of
+from bsched_files.counts import NO_HOST
 from bsched_files.faults import Fault
 from bsched_files.findings import NAME as FINDINGS, Finding, Findings, Level
-from bsched_files.moments import DAY, HOUR
+from bsched_files.moments import DAY, HOUR, MINUTE
 from bsched_files.programs import run
 from bsched_files.tables import opened
+from bsched_files.timers import elapsed_at
 
 from .amounts import count_text
 from .comparing import compared
@@ -25,11 +27,9 @@ from .projects import Project, UnitSettings
 from .stuck import named, stuck_in
 
 SECONDS = 20.0  # for an answer
-NO_HOST = 2**31 - 1  # no computer has this number: there are at most 100,000
 CERTIFICATE_DAYS = 14, 3  # fewer days are a warning, and critical
 FREE_SHARE = 0.1, 0.03  # of a disk: less is a warning, and critical
 USED_SHARE = 0.9, 1.0  # of a limit: more is a warning, and critical
-STAMPS = Path("/var/lib/systemd/timers")
 TICK_MINUTES = 12, 30  # since the last tick: more is a warning, and critical; one is sent each five minutes
 MOST_SPOILED = 5  # files that are named
 COPIES_LATE = 8  # times the hours of the settings: an older copy is critical
@@ -142,10 +142,10 @@ def tick(project: Project, _settings: UnitSettings) -> Iterator[Finding]:
 
 def last_tick(name: str) -> Finding:
     """Looks when the timer of the tick last sent one, by the file that systemd keeps of the timer."""
-    try:
-        minutes = (time.time() - (STAMPS / f"stamp-{name}.timer").stat().st_mtime) / 60
-    except OSError:
+    last = elapsed_at(name)
+    if last is None:
         return Finding("tick", Level.UNKNOWN, f"systemd does not say whether {name}.timer runs: ask as root")
+    minutes = (time.time() - last) / MINUTE
     level = level_of(minutes, *TICK_MINUTES)
     ends = "" if level is Level.GOOD else f": `systemctl enable --now {name}.timer`"
     return Finding("tick", level, f"the last one was sent {minutes:.0f} minutes ago{ends}")

@@ -11,10 +11,11 @@ from dataclasses import dataclass
 from pathlib import Path
 
 from bsched_files.catalogue import MOST_LINE
+from bsched_files.counts import MOST
 from bsched_files.faults import Fault
 from bsched_files.texts import WORD
 
-MOST_WORKUNITS = 200_000
+MOST_WORKUNITS = MOST["unit"]
 BATCH = re.compile(r"[A-Za-z0-9_][A-Za-z0-9_.-]{0,39}")
 SWEEP = re.compile(r"([A-Za-z][A-Za-z0-9_-]*)=(.+)")
 RANGE = re.compile(r"(-?[0-9]{1,15})\.\.(-?[0-9]{1,15})")

@@ -11,6 +11,7 @@ from bsched_files.ports import SCHEDULER, read_port
 from bsched_files.project_settings import PROJECTS, BridgeFile, file_of
 from bsched_files.texts import WORD
 from bsched_files.toml_entries import OperatorFile
+from bsched_files.uploads import DATABASE
 
 from .root_folders import make_below
 
@@ -106,7 +107,7 @@ class Project:
         """The bridge's folder of uploads, or None if there is none."""
         bridge = self.bridge
         path = None if bridge is None else bridge.uploads
-        return path if path is not None and (path / "uploads.db").exists() else None
+        return path if path is not None and (path / DATABASE).exists() else None
 
     @property
     def completing(self) -> str:

@@ -169,7 +169,7 @@ def test_ticks_if_systemd_does_not_answer(
     made: MadeProject, tmp_path: Path, monkeypatch: pytest.MonkeyPatch, minutes: int, level: Level
 ) -> None:
     monkeypatch.setattr(health, "shown_by_systemd", lambda _unit, _key: None)
-    monkeypatch.setattr(health, "STAMPS", tmp_path)
+    monkeypatch.setattr("bsched_files.timers.STAMPS", tmp_path)
     stamp = tmp_path / "stamp-bsched-tick@sums.timer"
     stamp.touch()
     os.utime(stamp, (time.time() - 60 * minutes,) * 2)
