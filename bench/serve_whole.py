@@ -263,7 +263,7 @@ class Whole(Life):
             os.remove(path)
         check = ["--check", self.both.program] if is_checked else []
         command = [PYTHON, "-m", "bsched_tools", "copy", "--tables", self.both.ours, "--to", path, *check]
-        environment = {**os.environ, "PYTHONPATH": str(TOP / "tools")}
+        environment = {**os.environ, "PYTHONPATH": f"{TOP}/tools:{TOP}/files"}
         done = subprocess.run(command, env=environment, capture_output=True, text=True)
         wants(done.returncode, 0, f"the status of a copy, which printed {done.stdout}{done.stderr}")
         still = re.search(r"still for (\d+) milliseconds", done.stdout)
@@ -406,7 +406,9 @@ def begin_next(program: str, folder: str, project: str) -> None:
     commands = os.path.join(folder, "commands")
     os.mkdir(commands)
     put_script(commands, "bsched", f'exec "{program}" "$@"')
-    put_script(commands, "bsched-tools", f'PYTHONPATH="{TOP}/tools" exec {PYTHON} -m bsched_tools "$@"')
+    put_script(
+        commands, "bsched-tools", f'PYTHONPATH="{TOP}/tools:{TOP}/files" exec {PYTHON} -m bsched_tools "$@"'
+    )
     for name in ("systemctl", "chown"):
         put_script(commands, name, "exit 0")
     stop, carry, *_ = commands_of("NEXT_FILE.md", "More than 200,000 workunits")
@@ -422,7 +424,7 @@ def begin_next(program: str, folder: str, project: str) -> None:
 def counts(*copies: str) -> dict[str, int]:
     """Returns how many workunits of each status the tool counts in copies."""
     command = [PYTHON, "-m", "bsched_tools", "counts", "--json", "--tables", *copies]
-    environment = {**os.environ, "PYTHONPATH": str(TOP / "tools")}
+    environment = {**os.environ, "PYTHONPATH": f"{TOP}/tools:{TOP}/files"}
     output = subprocess.run(command, env=environment, capture_output=True, text=True, check=True).stdout
     found: dict[str, int] = json.loads(output)["workunits"]
     return found

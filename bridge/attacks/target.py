@@ -15,7 +15,7 @@ from pathlib import Path
 
 from bsched_bridge.handed_out import HandedJob, HandedOut
 from bsched_bridge.hosts import Key
-from bsched_bridge.output_files import OutputFile
+from bsched_files.catalogue import OutputFile
 from bsched_bridge.upload_tables import UploadTables
 from trial import project
 from trial.behind_nginx import Project

@@ -66,14 +66,13 @@ badges           badges of users, by credit and by years
 statements       the status of hosts and users, by bsched's statements
 templates        Jinja2's templates, in the folder templates/, with one style sheet
 pictures         the project's picture, and plots of the last month
-texts            numbers and moments as people read them
+texts            numbers as people read them
 languages        the language of a reader, and the translations in the folder locale/
 
 What the operator sees goes through these:
 
 measurements     how calls, reports and uploads end, and how long answers take, in memory
 scheduler_probe  whether bsched answers
-tool_files       what the tools and systemd leave for the bridge to read
 overview         all that is known at one moment
 metrics          the same for Prometheus
 board            the same as a page, with forms
@@ -83,5 +82,6 @@ Requests and accounts keep their rows in the state_file, in SQLite. downloads se
 are settings, host_rules (settings that are read again), limits, operator_files (TOML with the lines of its
 faults), http_messages (by Werkzeug), code_signing, recent_credit, preferences (of users, for their clients),
 operator_orders (the operator's commands on accounts), rights (with which root does them), key_locks and
-words. gunicorn runs the application by gunicorn_worker, and logs by gunicorn_log.
+words. gunicorn runs the application by gunicorn_worker, and logs by gunicorn_log. The package `bsched_files`
+has the formats that the tools read or write, too.
 """

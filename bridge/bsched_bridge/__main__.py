@@ -2,36 +2,29 @@
 import argparse
 import logging
 import sys
-from importlib import metadata
 from pathlib import Path
-from typing import NoReturn
 
 import waitress
+
+from bsched_files.command_line import CommandLine, version
+from bsched_files.faults import Fault
+from bsched_files.ports import MOST_PORT, Ports, is_port, set_ports
+from bsched_files.project_settings import PRINTED, Settings, most_upload, printed, read_settings
+from bsched_files.toml_entries import OperatorFault, OperatorFile
 
 from . import client_requests, sweep_command, uploads_command
 from .application import UPLOADS_WAITING, new_application
 from .catalogue import App, read_catalogue
 from .code_signing import KeyFault, file_md5, read_private_key, signature_text, write_new_keys
 from .digest_programs import DigestFault, DigestProgram, check_digest, tried_on_odd_files
-from .operator_files import OperatorFault, OperatorFile
 from .operator_orders import ORDERS, OrderFault, add_orders, run_order
 from .scheduler import WRONG_KEY, NoAnswer, Scheduler
-from .settings import Settings, read_settings
 from .state_file import StateFault
 from .upload_store import check_uploads
-from .uploads import most_body
 
-FAULT, BAD_COMMAND_LINE = 1, 64
+FAULT = 1
+SET_PORTS = "gives the project of the settings another port of the scheduler, and another one of the bridge"
 MOST_CONNECTIONS = 1000
-
-
-class CommandLine(argparse.ArgumentParser):
-    """A parser that ends with the status of bsched for a bad command line."""
-
-    def error(self, message: str) -> NoReturn:
-        """Prints what is wrong, and ends the program."""
-        self.print_usage(sys.stderr)
-        self.exit(BAD_COMMAND_LINE, f"bsched-bridge: {message}\n")
 
 
 def command_parser() -> argparse.ArgumentParser:
@@ -42,6 +35,8 @@ def command_parser() -> argparse.ArgumentParser:
     parser.add_argument("--check", action="store_true", help="only checks the settings and the catalogue")
     parser.add_argument("--without-digests", action="store_true", help="--check runs no digest program")
     parser.add_argument("--catalogue", type=Path, metavar="FILE", help="--check takes it for the catalogue")
+    parser.add_argument("--print", nargs="+", choices=PRINTED, dest="printed", help="prints some settings")
+    parser.add_argument("--set-ports", nargs=2, type=port, metavar="PORT", help=SET_PORTS)
     orders = parser.add_subparsers(dest="order", metavar="ORDER")
     keygen = orders.add_parser("keygen", help="makes a pair of keys for code signing")
     keygen.add_argument("--private", type=Path, default=Path("code_sign_private"), metavar="FILE")
@@ -64,10 +59,11 @@ def command_parser() -> argparse.ArgumentParser:
     return parser
 
 
-def version() -> str:
-    """Returns the version: of the package, or of the clone in which this file is."""
-    file = Path(__file__).resolve().parent.parent.parent / "VERSION"
-    return file.read_text().strip() if file.exists() else metadata.version("bsched-tools")
+def port(text: str) -> int:
+    """Reads the number of a port."""
+    if not is_port(text):
+        raise argparse.ArgumentTypeError(f"{text!r} is no port: write a number from 1 to {MOST_PORT}")
+    return int(text)
 
 
 def check_scheduler(path: Path, settings: Settings) -> None:
@@ -117,6 +113,12 @@ def check(path: Path, other_catalogue: Path | None, has_digests: bool) -> None:
     check_scheduler(path, settings)
 
 
+def largest_body(settings: Settings) -> int:
+    """Returns how many bytes a message may have."""
+    uploads = settings.uploads
+    return max(client_requests.MOST_BYTES, 0 if uploads is None else most_upload(uploads.most_result_bytes))
+
+
 def serve(path: Path) -> None:
     """Serves the settings of a file with waitress until it is stopped."""
     settings = read_settings(path)
@@ -128,7 +130,7 @@ def serve(path: Path) -> None:
         port=settings.listen.port,
         threads=settings.threads + UPLOADS_WAITING,
         connection_limit=MOST_CONNECTIONS,
-        max_request_body_size=max(client_requests.MOST_BYTES, most_body(settings.uploads)),
+        max_request_body_size=largest_body(settings),
         ident="bsched_bridge",
         clear_untrusted_proxy_headers=False,  # by them it sees what a proxy passes on
     )
@@ -152,11 +154,15 @@ def main() -> int:
             run_order(args)
         elif args.config is None:
             parser.error("--config FILE or a command is needed: see --help")
+        elif args.printed is not None:
+            print("\n".join(printed(args.config, args.printed)))
+        elif args.set_ports is not None:
+            set_ports(args.config.absolute().parent.parent, Ports(*args.set_ports))
         elif args.check:
             check(args.config, args.catalogue, not args.without_digests)
         else:
             serve(args.config)
-    except (OperatorFault, StateFault, OrderFault) as fault:
+    except (Fault, StateFault, OrderFault) as fault:
         print(f"bsched-bridge: {fault}", file=sys.stderr)
         return FAULT
     except KeyFault as fault:

@@ -11,6 +11,9 @@ from xml.etree.ElementTree import Element, SubElement
 from werkzeug.exceptions import HTTPException
 from werkzeug.wrappers import Request, Response
 
+from bsched_files.project_settings import Settings
+from bsched_files.texts import is_word
+
 from .accounts import AccountFault, AccountPlaces, Accounts, Fault
 from .catalogue import Catalogue
 from .client_replies import add, written
@@ -19,8 +22,7 @@ from .languages import ENGLISH, Language, language_of
 from .limits import is_loopback, network_of
 from .plan_classes import split
 from .scheduler import NoAnswer, Scheduler
-from .settings import Settings
-from .words import in_small_letters, is_word
+from .words import in_small_letters
 
 # characters; the server gets only a hash, so only the Manager and the password page check this
 LEAST_PASSWORD = 6

@@ -11,6 +11,8 @@ from typing import Any
 from werkzeug.exceptions import BadRequest
 from werkzeug.wrappers import Request, Response
 
+from bsched_files.project_settings import Settings
+
 from .account_messages import LEAST_PASSWORD, client_of
 from .accounts import AccountFault, AccountPlaces, Accounts, Fault, is_email
 from .directory import Directory
@@ -20,7 +22,6 @@ from .members import Member
 from .names import clean_name
 from .passwords import client_hash
 from .preferences import PreferenceFault, read_preferences, typed
-from .settings import Settings
 from .statements import MOST_HOSTS, Statements
 from .teams import TeamFault, Teams
 from .templates import Templates

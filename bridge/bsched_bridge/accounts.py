@@ -14,6 +14,10 @@ from contextlib import ExitStack, contextmanager
 from dataclasses import dataclass
 from enum import Enum
 
+from bsched_files.moments import DAY, HOUR
+from bsched_files.project_settings import AccountSettings
+from bsched_files.texts import WORD
+
 from .barring import Barred, Barring
 from .key_locks import Busy, KeyLocks
 from .languages import gettext_noop
@@ -22,10 +26,8 @@ from .members import DayIsFull, EmailTaken, Member, Members
 from .names import clean_name
 from .passwords import Passwords, TooBusy, is_client_hash
 from .scheduler import NoAnswer, Refusal, Scheduler
-from .settings import AccountSettings
-from .words import WORD, shown_key
+from .words import shown_key
 
-HOUR, DAY = 3600, 86400
 MOST_WRONG_PASSWORDS = 10  # in an hour, for each client address and for each e-mail address
 NETWORK_SHARE = 10  # no wide network makes more than this part of a day's accounts
 MOST_EMAIL = 254  # characters

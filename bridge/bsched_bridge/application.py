@@ -10,6 +10,9 @@ from wsgiref.types import StartResponse, WSGIApplication, WSGIEnvironment
 from werkzeug.exceptions import HTTPException
 from werkzeug.wrappers import Request, Response
 
+from bsched_files.counts import counts_in
+from bsched_files.project_settings import HostRules, Settings, read_settings
+
 from .account_messages import AccountMessages, project_config
 from .account_pages import AccountPages
 from .accounts import AccountPlaces, Accounts
@@ -47,7 +50,6 @@ from .routes import FORMS, Handler, Route, Routes
 from .scheduler import Scheduler
 from .scheduler_messages import SchedulerMessages
 from .scheduler_probe import SchedulerProbe
-from .settings import HostRules, Settings, read_settings
 from .state_file import StateFile, WaitingWrites
 from .statements import Statements
 from .team_pages import TeamPages
@@ -142,7 +144,9 @@ class Application:
             self.vain,
             measured.calls,
         )
-        self.statements = Statements(hosts, self.members, scheduler, key, settings.counts, archives, recent)
+        self.statements = Statements(
+            hosts, self.members, scheduler, key, counts_in(settings.counts), archives, recent
+        )
         self.templates = Templates(settings)
         self.pictures = Pictures(settings)
         self.pages = Pages(settings, self.templates, self.statements, self.pictures, self.directory)

@@ -1,16 +1,19 @@
 """Credit from earlier files of a project, which is added to the credit in replies.
 
 If the file of a project is full, the project starts another one with the same accounts (docs/NEXT_FILE.md,
-"More than 200,000 workunits"). The earlier files are archives. Nobody writes them any more. The operator's
-tools open them, as they open every copy, and test their schemas.
+"More than 200,000 workunits"). The earlier files are archives. Nobody writes them any more. They are opened
+as every copy of tables is, and their schemas are tested.
 """
 from collections import Counter
 from collections.abc import Sequence
 from dataclasses import dataclass, field, replace
 from pathlib import Path
 
+from bsched_files.faults import Fault
+from bsched_files.tables import all_opened
+from bsched_files.toml_entries import OperatorFault
+
 from .hosts import Key
-from .operator_files import OperatorFault
 from .scheduler import Reply
 
 CREDIT = "SELECT auth, cpid, credit FROM host JOIN account ON account.id = account_id"
@@ -42,12 +45,6 @@ def read_archives(paths: Sequence[Path]) -> Archives:
     archives = Archives()
     if not paths:
         return archives
-    try:
-        from bsched_tools.faults import Fault
-        from bsched_tools.tables import all_opened
-    except ModuleNotFoundError:
-        what = "archives need the package bsched_tools: add the folder tools to PYTHONPATH"
-        raise OperatorFault(paths[0], None, what) from None
     try:
         with all_opened(paths, takes_older=True) as all_tables:
             for tables in all_tables:

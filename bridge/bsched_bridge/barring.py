@@ -10,8 +10,9 @@ from collections.abc import Callable
 from enum import Enum
 from typing import cast
 
+from bsched_files.project_settings import HostRules
+
 from .credit_days import forget_days
-from .settings import HostRules
 from .state_file import StateFile
 from .team_rows import leave_by_key
 

@@ -11,6 +11,11 @@ from dataclasses import dataclass, replace
 from werkzeug.exceptions import BadRequest, ServiceUnavailable
 from werkzeug.wrappers import Request, Response
 
+from bsched_files.counts import Limit
+from bsched_files.moments import DAY, HOUR, MINUTE, moment_text
+from bsched_files.project_settings import HostRules, Settings
+from bsched_files.timers import Timer
+
 from .directory import Computer, Directory
 from .http_messages import form_of, refuse_other_sites
 from .limits import NoPlace, Places
@@ -18,16 +23,14 @@ from .measurements import BOUNDS, End, Tally
 from .operator_key import OperatorKey
 from .operator_orders import OrderFault, bar_account, state_of, unbar_account
 from .overview import Overview, Overviews
-from .settings import HostRules, Settings
 from .statements import Result, Statements
 from .templates import Templates
-from .texts import bytes_text, moment_text
-from .tool_files import Limit, Timer
+from .texts import bytes_text
 from .words import shown_key
 
 MOST_HOSTS = 20  # with the most errors
-MINUTES, HOUR = 5, 60  # the minutes of the two spans for which calls are shown
-PUT_OFF_SECONDS = 3600  # within which a report that was put off is worth a warning
+MINUTES, HOUR_MINUTES = 5, 60  # the minutes of the two spans for which calls are shown
+PUT_OFF_SECONDS = HOUR  # within which a report that was put off is worth a warning
 HEALTH_SECONDS = 30 * 60  # after which the findings of bsched-tools health are too old
 NUMBER = re.compile("[1-9][0-9]{0,9}")  # a hostid
 ACTIONS = {"bar": bar_account, "unbar": unbar_account}
@@ -107,7 +110,7 @@ class Done:
 
 def age_text(seconds: float) -> str:
     """Returns how long ago something was."""
-    for unit, name in ((86400, "days"), (3600, "hours"), (60, "minutes")):
+    for unit, name in ((DAY, "days"), (HOUR, "hours"), (MINUTE, "minutes")):
         if seconds >= 2 * unit:
             return f"{seconds // unit:.0f} {name} ago"
     return f"{max(0.0, seconds):.0f} seconds ago"
@@ -203,7 +206,7 @@ class Board:
         """Returns the board."""
         overview, measurements = self.overviews.read(), self.overviews.measurements
         calls = measurements.calls
-        lately, _ = calls.latest(HOUR)
+        lately, _ = calls.latest(HOUR_MINUTES)
         uploads, nbytes = measurements.uploads.totals()
         return self.templates.page(
             "board.html",
@@ -277,7 +280,7 @@ class Board:
     def _ends(self) -> Iterator[Ended]:
         """Yields how many calls ended in each way."""
         calls = self.overviews.measurements.calls
-        spans: list[tuple[Tally, float]] = [calls.latest(MINUTES), calls.latest(HOUR)]
+        spans: list[tuple[Tally, float]] = [calls.latest(MINUTES), calls.latest(HOUR_MINUTES)]
         all_ends = calls.all().ends
         for end, text in WHAT_ENDS_MEAN.items():
             if all_ends[end] or end is End.ANSWERED:

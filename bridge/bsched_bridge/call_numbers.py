@@ -12,8 +12,10 @@ from dataclasses import dataclass, fields
 from operator import attrgetter
 from typing import cast
 
+from bsched_files.moments import DAY
+
 from .barring import Barred
-from .credit_days import DAY, HOST_TABLE, MEMBER_TABLE, StoredDay
+from .credit_days import HOST_TABLE, MEMBER_TABLE, StoredDay
 from .hosts import COUNTED, MOST_NUMBER, Key, new_hostid
 from .members import first_heard, store_credit
 from .scheduler import Job, Reply, members_of_job

@@ -5,7 +5,6 @@ files. The operator writes it in TOML. The bridge checks it when it starts, and 
 (`current_catalogue`).
 """
 import os
-import re
 import threading
 from collections import OrderedDict
 from dataclasses import dataclass, field
@@ -13,20 +12,31 @@ from pathlib import Path
 
 from cryptography.hazmat.primitives.asymmetric import rsa
 
+from bsched_files.catalogue import (
+    FAULTY_LINE,
+    FILE_NAME,
+    MOST_LINE,
+    UPLOAD_NAME,
+    WORKUNIT,
+    Bounds,
+    InputFile,
+    OutputFile,
+    is_faulty_line,
+    line_folder,
+    read_bounds,
+    read_input_file,
+    read_listed_file,
+    read_output_files,
+    version_number,
+)
+from bsched_files.toml_entries import Entry, Marks, OperatorFile
+
 from .client_requests import ClientRequest
 from .code_signing import KeyFault, file_md5, is_signature, read_public_key
 from .digest_programs import DigestProgram
-from .operator_files import Entry, Marks, OperatorFile
-from .output_files import UPLOAD_NAME, OutputFile, read_output_files
 from .plan_classes import PlanClass, by_resource, read_plan_class, split
-from .words import NO_XML
 
-FILE_NAME = re.compile(r"[A-Za-z0-9_][A-Za-z0-9_.+-]{0,127}")
-# a placeholder for the workunit's name, in what an application says for all its workunits
-WORKUNIT = "{workunit}"
-MOST_LINE = 4096  # bytes of a command line
 MOST_KNOWN = 10_000  # files whose MD5 is kept
-FAULTY_LINE = "has more than one line, more than 4096 bytes, or a control character"
 
 
 @dataclass(frozen=True, slots=True)
@@ -60,14 +70,6 @@ class Version:
 
 
 @dataclass(frozen=True, slots=True)
-class InputFile:
-    """The name of an input file, and the name under which the program opens it."""
-
-    name: str
-    open_name: str
-
-
-@dataclass(frozen=True, slots=True)
 class Work:
     """The command line and the input files of a workunit."""
 
@@ -92,9 +94,7 @@ class App:
 
     name: str
     title: str
-    rsc_memory_bound: int  # bytes
-    rsc_disk_bound: int  # bytes; the client ends a job that uses more
-    fpops_bound_factor: int  # the client ends a job that takes this many times its estimate
+    bounds: Bounds
     is_reported_at_once: bool  # else the client waits for its next request, an hour at most
     work: Work
     output_files: tuple[OutputFile, ...] = ()  # without them its output is what it writes to standard error
@@ -103,11 +103,6 @@ class App:
 
 class MissingFile(Exception):
     """Raised if a file is missing or can't be read."""
-
-
-def is_faulty_line(text: str) -> bool:
-    """Returns whether a text can't be a command line."""
-    return bool(NO_XML.search(text) or "\n" in text or "\r" in text or len(text.encode()) > MOST_LINE)
 
 
 def own_line(path: Path) -> str:
@@ -187,25 +182,10 @@ class Catalogue:
 # ---- Reading
 
 
-def file_name(entry: Entry, member: str, with_workunit: bool = False) -> str:
-    """Returns a file name from a member. A file name has no slash, and does not begin with a dot."""
-    name = entry.text(member)
-    plain = name.replace(WORKUNIT, "w") if with_workunit else name
-    if not FILE_NAME.fullmatch(plain):
-        entry.fault(
-            f"{member} is not a file name: letters, digits, '_', '.', '+' and '-', at most 128", member
-        )
-    return name
-
-
-def download_name(entry: Entry, folder: FileFolder, with_workunit: bool = False) -> str:
-    """Returns the name of a file that clients download. Names of output files are no such names: the client
-    has one file for each name.
-    """
-    name = file_name(entry, "name", with_workunit)
+def check_download(entry: Entry, name: str, folder: FileFolder) -> None:
+    """Refuses a name of a file that clients download if it could be that of an output file."""
     if folder.has_uploads and UPLOAD_NAME.fullmatch(name):
         entry.fault("name ends like that of an output file, with _NUMBER_NUMBER: choose another one", "name")
-    return name
 
 
 def read_work(entry: Entry, folder: FileFolder, of_app: bool) -> Work:
@@ -215,23 +195,24 @@ def read_work(entry: Entry, folder: FileFolder, of_app: bool) -> Work:
     command_line = entry.text("command_line", "")
     if is_faulty_line(command_line):
         entry.fault(f"command_line {FAULTY_LINE}", "command_line")
-    line_folder = None
-    if of_app and "command_lines" in entry.members:
-        line_folder = entry.existing("command_lines")
-        if not line_folder.is_dir():
-            entry.fault(f"command_lines: {line_folder} is not a folder", "command_lines")
+    lines = line_folder(entry) if of_app else None
+    if lines is not None:
+        entry.existing("command_lines")
+        if not lines.is_dir():
+            entry.fault(f"command_lines: {lines} is not a folder", "command_lines")
     files = []
     for item in entry.entries("input_files", []):
-        name = download_name(item, folder, of_app)
-        files.append(InputFile(name, file_name(item, "open_name") if "open_name" in item.members else name))
+        file = read_input_file(item, of_app)
+        check_download(item, file.name, folder)
+        files.append(file)
         item.end()
-        if WORKUNIT not in name or not of_app:
+        if WORKUNIT not in file.name or not of_app:
             try:
-                folder.path_of(name)
+                folder.path_of(file.name)
             except MissingFile:
-                item.note(folder.path / name)
-                item.fault(f"the input file {folder.path / name} is not there")
-    return Work(command_line, tuple(files), line_folder)
+                item.note(folder.path / file.name)
+                item.fault(f"the input file {folder.path / file.name} is not there")
+    return Work(command_line, tuple(files), lines)
 
 
 def read_app(entry: Entry, folder: FileFolder) -> App:
@@ -244,9 +225,7 @@ def read_app(entry: Entry, folder: FileFolder) -> App:
     app = App(
         name=name,
         title=title,
-        rsc_memory_bound=entry.whole("rsc_memory_bound", 0, 10**18, 10**8),
-        rsc_disk_bound=entry.whole("rsc_disk_bound", 1, 10**18, 10**9),
-        fpops_bound_factor=entry.whole("fpops_bound_factor", 1, 10**6, 10),
+        bounds=read_bounds(entry),
         is_reported_at_once=entry.flag("report_immediately"),
         work=read_work(entry, folder, True),
         output_files=output_files,
@@ -274,7 +253,9 @@ def read_digest(entry: Entry, files: tuple[OutputFile, ...]) -> DigestProgram | 
 
 def read_version_file(entry: Entry, folder: FileFolder, key: rsa.RSAPublicKey) -> VersionFile:
     """Reads a file of a version. Its signature must be by this key."""
-    name = download_name(entry, folder)
+    listed = read_listed_file(entry)
+    name = listed.name
+    check_download(entry, name, folder)
     entry.note(folder.path / name)
     try:
         file = folder.stored(name)
@@ -287,11 +268,8 @@ def read_version_file(entry: Entry, folder: FileFolder, key: rsa.RSAPublicKey) -
         entry.fault(f"the signature {path} can't be read")
     if not is_signature(file.md5, signature, key):
         entry.fault(f"{path} is not the signature of {name} by the key of this catalogue")
-    is_main = entry.flag("main_program")
-    is_executable = entry.flag("executable") or is_main
-    open_name = file_name(entry, "open_name") if "open_name" in entry.members else None
     entry.end()
-    return VersionFile(file, signature, is_main, is_executable, open_name)
+    return VersionFile(file, signature, listed.is_main_program, listed.is_executable, listed.open_name)
 
 
 def read_version(entry: Entry, apps: dict[str, App], folder: FileFolder, key: rsa.RSAPublicKey) -> Version:
@@ -299,7 +277,7 @@ def read_version(entry: Entry, apps: dict[str, App], folder: FileFolder, key: rs
     app, platform = entry.word("app"), entry.word("platform")
     if app not in apps:
         entry.fault(f"there is no application {app}", "app")
-    number = entry.whole("version_num", 1, 10**6)
+    number = version_number(entry)
     files = tuple(read_version_file(item, folder, key) for item in entry.entries("files"))
     if sum(file.is_main_program for file in files) != 1:
         entry.fault("not exactly one of the files has main_program = true", "files")

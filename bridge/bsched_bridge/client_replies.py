@@ -10,6 +10,8 @@ from dataclasses import dataclass
 from functools import partial
 from xml.etree.ElementTree import Element, SubElement, indent, tostring
 
+from bsched_files.texts import credit_number, xml_text
+
 from .catalogue import App, Catalogue, MissingFile, StoredFile, Version, Work
 from .client_requests import ClientRequest
 from .exchange import PutOff
@@ -21,11 +23,9 @@ from .recent_credit import Recent
 from .scheduler import Job, Reply
 from .upload_tokens import UploadTokens
 from .uploads import PATH as UPLOAD_PATH
-from .words import xml_text
 from .xml_lines import XmlLines
 
 SCHEDULER_VERSION = 720  # the version of BOINC's scheduler that these replies imitate
-MILLICREDITS = 1000
 KEY_CHANGED = gettext_noop(
     "The project has changed its code signing key. To fix this, remove and add this project."
 )
@@ -177,8 +177,8 @@ class ReplyWriter:
         xml.add("user_name", reply.user_name)
         if reply.team_name is not None:
             xml.add("team_name", reply.team_name)
-        xml.add("user_total_credit", f"{reply.user_total_credit / MILLICREDITS:.3f}")
-        xml.add("host_total_credit", f"{reply.host_total_credit / MILLICREDITS:.3f}")
+        xml.add("user_total_credit", credit_number(reply.user_total_credit))
+        xml.add("host_total_credit", credit_number(reply.host_total_credit))
         if recent is not None:
             xml.add("user_expavg_credit", f"{recent.user:.6f}")
             xml.add("host_expavg_credit", f"{recent.host:.6f}")
@@ -339,9 +339,9 @@ class ReplyWriter:
             xml.add("name", job.wu_name)
             xml.add("app_name", job.app_name)
             xml.add("rsc_fpops_est", operations)
-            xml.add("rsc_fpops_bound", operations * app.fpops_bound_factor)
-            xml.add("rsc_memory_bound", app.rsc_memory_bound)
-            xml.add("rsc_disk_bound", app.rsc_disk_bound)
+            xml.add("rsc_fpops_bound", operations * app.bounds.factor)
+            xml.add("rsc_memory_bound", app.bounds.memory)
+            xml.add("rsc_disk_bound", app.bounds.disk)
             if work.command_line:
                 xml.add("command_line", work.command_line)
             for file in work.input_files:

@@ -17,10 +17,11 @@ from xml.etree.ElementTree import Element, ParseError, TreeBuilder, XMLParser
 from defusedxml import DefusedXmlException  # type: ignore[import]
 from defusedxml.ElementTree import DefusedXMLParser  # type: ignore[import]
 
+from bsched_files.texts import MOST_OUTPUT, cut_to_bytes, is_word
+
 from .descriptions import described
 from .languages import Text, gettext_lazy, gettext_noop
-from .request_parts import MOST_OUTPUT, Parts, RequestFault
-from .words import cut_to_bytes, is_word
+from .request_parts import Parts, RequestFault
 
 MOST_BYTES = 16 * 1024 * 1024  # of a request; a result has at most 64 KB of standard error
 # A client with 1,000 jobs of all its projects sends some 10,000 elements.

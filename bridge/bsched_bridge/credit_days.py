@@ -8,9 +8,9 @@ import sqlite3
 from dataclasses import dataclass
 from typing import cast
 
+
 from .state_file import StateFile
 
-DAY = 86400
 HOST_DAYS, MEMBER_DAYS = 60, 366
 
 

@@ -11,11 +11,12 @@ import time
 from dataclasses import dataclass, field
 from pathlib import Path
 
+from bsched_files.catalogue import OutputFile
+from bsched_files.project_settings import Settings
+from bsched_files.toml_entries import Marks, OperatorFault, mark_of
+
 from .catalogue import App, Catalogue, read_catalogue
 from .digest_programs import DigestFault, DigestProgram, check_digest
-from .operator_files import Marks, OperatorFault, mark_of
-from .output_files import OutputFile
-from .settings import Settings
 from .upload_store import check_uploads
 
 LOOK_SECONDS = 5.0  # between two looks at the files that the catalogue names

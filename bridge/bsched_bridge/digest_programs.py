@@ -18,8 +18,9 @@ from dataclasses import dataclass
 from pathlib import Path
 from typing import IO
 
-from .output_files import MOST_OUTPUT, OutputFile
-from .words import NO_XML
+from bsched_files.catalogue import OutputFile
+from bsched_files.texts import MOST_OUTPUT, NO_XML
+
 
 BWRAP, PRLIMIT, CHOOM = "/usr/bin/bwrap", "/usr/bin/prlimit", "/usr/bin/choom"
 MEMORY_BYTES = 512 * 1024**2  # of each process of a program

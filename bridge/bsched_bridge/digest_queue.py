@@ -16,13 +16,14 @@ from collections.abc import Callable
 from dataclasses import dataclass
 from pathlib import Path
 
+from bsched_files.moments import MINUTE
+from bsched_files.texts import MOST_OUTPUT, cut_to_bytes
+
 from .digest_programs import BadFiles, CannotRun, DigestFault, DigestProgram, compared_files, digest_of
 from .handed_out import HandedJob, HandedOut, Outcome
 from .limits import UsedSeconds
 from .measurements import WhyPutOff
-from .output_files import MOST_OUTPUT
 from .upload_store import UploadStore
-from .words import cut_to_bytes
 
 MOST_AT_ONCE = 2  # programs
 MOST_WAITING, MOST_OF_ACCOUNT = 10_000, 200  # results that wait for their program
@@ -30,7 +31,7 @@ MOST_WAITING, MOST_OF_ACCOUNT = 10_000, 200  # results that wait for their progr
 FAILURE_PAUSES = (600.0, 3600.0)
 MOST_FAILED = 10_000  # results whose failures are counted
 REST_SECONDS = 60.0  # in which no program is tried if none can run here
-MINUTE, MINUTES = 60, 60  # seconds of a minute; minutes for which the seconds of programs are counted
+MINUTES = 60  # for which the seconds of programs are counted
 BAD_FILES_STATUS = 1  # the exit status of a result whose files a digest program refuses
 
 log = logging.getLogger(__name__)

@@ -15,6 +15,9 @@ from collections import OrderedDict
 from collections.abc import Callable, Iterable
 from dataclasses import dataclass, replace
 
+from bsched_files.moments import DAY, HOUR
+from bsched_files.project_settings import HostRules
+
 from .archives import Archives
 from .barring import Barred, Barring
 from .call_numbers import (
@@ -37,11 +40,9 @@ from .limits import RecentCounts
 from .measurements import End, Reports
 from .report_checks import ReportChecks
 from .scheduler import Job, NoAnswer, Refusal, Reply, Scheduler
-from .settings import HostRules
 from .words import shown_key
 
 COUNT_ATTEMPTS = 3  # calls of one request, if bsched's count is ahead or it has lost the account
-HOUR, DAY = 3600, 86400
 MOST_CPIDS = 20_000  # host_cpids that hosts may have besides their own, of which the bridge knows
 LOG_SECONDS = 60.0  # between two lines of the log about refused hosts of one account
 END_SECONDS = 60.0  # for the message that is being sent at the end

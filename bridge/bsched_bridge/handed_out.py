@@ -4,8 +4,10 @@ from collections.abc import Iterable, Sequence
 from dataclasses import dataclass
 from typing import cast
 
+from bsched_files.catalogue import OutputFile
+
 from .hosts import Key
-from .output_files import OutputFile, as_text, of_text
+from .output_files import as_text, of_text
 from .upload_tables import UploadTables
 
 

@@ -11,6 +11,8 @@ from collections import OrderedDict
 from collections.abc import Callable, Iterable, Sequence
 from dataclasses import dataclass, replace
 
+from bsched_files.moments import DAY
+
 from .client_requests import ClientRequest, Report
 from .hosts import Key
 from .languages import Text, ngettext_lazy
@@ -20,7 +22,6 @@ from .languages import Text, ngettext_lazy
 MOST_HELD, LEAST_HELD = 64, 1
 MOST_HOSTS = 10_000  # that are held back; further ones take the places of those whose error is the oldest
 ONE_JOB = 1  # the seconds of work that are asked for: bsched gives one job for them
-DAY = 86_400
 # BOINC's statuses of jobs that were not begun in time, or that the project aborted (two forms of it)
 NO_ERRORS = frozenset({200, 202, -221})
 

@@ -3,8 +3,8 @@ import logging
 import threading
 from pathlib import Path
 
-from .operator_files import OperatorFault
-from .settings import HostRules, read_settings
+from bsched_files.project_settings import HostRules, read_settings
+from bsched_files.toml_entries import OperatorFault
 
 log = logging.getLogger(__name__)
 

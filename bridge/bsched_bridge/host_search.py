@@ -6,13 +6,15 @@ results.
 """
 from collections.abc import Iterable, Iterator
 
+from bsched_files.moments import MINUTE
+
 from .hosts import Hosts, Key
 from .limits import RecentCounts
 from .scheduler import NoAnswer, Scheduler
 
 # Each search costs bsched two messages for each host. These limits are for each account.
 MOST_SEARCHED = 50  # hosts in a search, those that called last
-MOST_SEARCHES, MINUTE = 30, 60.0
+MOST_SEARCHES = 30
 
 
 class TooManySearches(Exception):

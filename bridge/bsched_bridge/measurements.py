@@ -14,15 +14,17 @@ from collections.abc import Callable, Iterable, Sequence
 from dataclasses import dataclass, field
 from enum import StrEnum
 
+from bsched_files.moments import HOUR, MINUTE
+
 from .client_requests import Report
 from .held_back import HeldBack
 from .hosts import Key
 
 # the upper bounds of the bins of durations, in seconds; a last bin has what is longer
 BOUNDS = (0.001, 0.0025, 0.005, 0.01, 0.025, 0.05, 0.1, 0.25, 0.5, 1.0, 2.5, 5.0, 10.0, 30.0)
-MINUTE, MINUTES = 60, 60  # seconds of a minute; minutes that are kept one by one
+MINUTES = 60  # that are kept one by one
 MOST_HOSTS = 1000  # whose errors are counted
-HOUR, HOURS = 3600, 24  # seconds of an hour; hours for which the errors of hosts are counted
+HOURS = 24  # hours for which the errors of hosts are counted
 
 
 class End(StrEnum):

@@ -9,6 +9,8 @@ from collections.abc import Iterable, Iterator
 from dataclasses import dataclass, replace
 from typing import cast
 
+from bsched_files.moments import DAY
+
 from .passwords import Secret
 from .state_file import StateFile
 
@@ -23,7 +25,6 @@ INSERT = (
 # Rows of the operator's accounts have no batch. Accounts that a clock made which was ahead don't count later.
 MADE_BETWEEN = "SELECT count(*) FROM member WHERE batch IS NOT NULL AND created_at > ? AND created_at <= ?"
 ANONYMOUS = "anonymous"  # how pages and statistics call a user who chose so
-DAY = 86400
 ROWS_AT_ONCE = 1000
 
 

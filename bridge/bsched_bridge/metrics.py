@@ -16,7 +16,6 @@ from .http_messages import NO_STORE, answer
 from .limits import NoPlace, Places
 from .measurements import BOUNDS, End, Measurements
 from .overview import Overview, Overviews
-from .tool_files import LEVELS
 
 
 def gauge(name: str, text: str, value: float | None) -> Iterator[Metric]:
@@ -107,7 +106,7 @@ def of_tools(overview: Overview) -> Iterator[Metric]:
     if (found := overview.findings) is not None:
         levels: dict[str, float] = {}
         for finding in found.findings:  # a check may have several findings: the greatest number counts
-            levels[finding.check] = max(levels.get(finding.check, 0), LEVELS.index(finding.level))
+            levels[finding.check] = max(levels.get(finding.check, 0), int(finding.level))
         text = "0 good, 1 warning, 2 critical, 3 unknown."
         yield from labelled("health_level", text, "check", levels)
         yield from gauge("health_timestamp_seconds", "When health was looked at last.", found.moment)

@@ -6,7 +6,7 @@ and a name needs a letter or a digit.
 import re
 import unicodedata
 
-from .words import cut_to_bytes
+from bsched_files.texts import cut_to_bytes
 
 MOST_NAME = 64  # bytes of UTF-8, as bsched accepts them
 MOST_MARKS = 4  # combining marks on a character

@@ -3,33 +3,29 @@
 Root can use them, too, and then works with the rights of the user who has the file's folder.
 """
 import argparse
-import csv
-import fnmatch
 import json
 import os
-import secrets
-import shutil
 import sys
 import tempfile
 import time
-from collections.abc import Callable, Iterable, Iterator
-from contextlib import contextmanager, suppress
+from collections.abc import Callable, Iterator
 from dataclasses import dataclass
-from datetime import datetime, timezone
 from pathlib import Path
-from typing import BinaryIO, TypeVar
+from typing import TypeVar
+
+from bsched_files.copies import STATE, STATE_NAME, copy_name, keep_newest, write_copy
+from bsched_files.moments import moment_text
+from bsched_files.project_settings import PROJECTS, Settings, file_of, read_settings
+from bsched_files.texts import credits_text, csv_text, shown
 
 from .barring import Barred, Barring
 from .hosts import HeardHost, Hosts
 from .members import Member, Members
 from .rights import own_rights, rights_of_owner
-from .settings import PROJECTS, Settings, read_settings
 from .state_file import StateFile, make_private
 from .teams import MOST_TEAMS, Team, Teams
-from .texts import credits_text, moment_text
 from .words import shown_key
 
-COPY_ENDING = ".state"
 LEAST_KEY = 6  # characters of a key that name an account
 MOST_HOSTS = 1000
 
@@ -73,7 +69,7 @@ def config_of(args: argparse.Namespace) -> Path:
     if args.config is not None:
         return Path(args.config)
     name: str = args.project
-    return (Path(name) if "/" in name else PROJECTS / name) / "bridge" / "bridge.toml"
+    return file_of(Path(name) if "/" in name else PROJECTS / name)
 
 
 def open_state(settings: Settings) -> State:
@@ -170,7 +166,7 @@ def consented(state: State, args: argparse.Namespace) -> Iterator[str]:
             row = {"authenticator": member.authenticator, "name": member.shown_name}
             yield json.dumps({**row, "is_deleted": is_deleted, "is_agreed": is_agreed})
         elif is_agreed and not args.json:
-            yield from as_csv([(member.authenticator, member.shown_name)])
+            yield csv_text([(member.authenticator, member.shown_name)]).removesuffix("\n")
 
 
 def teams(state: State, args: argparse.Namespace) -> Iterator[str]:
@@ -194,21 +190,6 @@ def team_fields(team: Team) -> list[str]:
     """Returns a team as a row of the list. The founder is a user's number."""
     counted = [str(team.founder), str(team.members), credits_text(team.credit)]
     return [str(team.number), team.name, *counted, moment_text(team.created_at)]
-
-
-def as_csv(rows: Iterable[tuple[str, str]]) -> Iterator[str]:
-    """Yields rows as lines of comma-separated values."""
-    lines: list[str] = []
-
-    class Lines:
-        """Keeps what is written."""
-
-        def write(self, line: str) -> None:
-            """Keeps a line."""
-            lines.append(line)
-
-    csv.writer(Lines(), lineterminator="").writerows(rows)
-    yield from lines
 
 
 # ---- What the operator changes
@@ -267,7 +248,9 @@ def copy(state: State, args: argparse.Namespace) -> Iterator[str]:
     made, nbytes = copied(state, args.to)
     yield f"{made}: {nbytes} bytes"
     if args.keep is not None and made.parent == args.to:
-        yield from (f"removed {old}" for old in remove_older(args.to, args.keep))
+        with own_rights():
+            removed = keep_newest(args.to, STATE_NAME, args.keep)
+        yield from (f"removed {old}" for old in removed)
 
 
 def copied(state: State, target: Path) -> tuple[Path, int]:
@@ -278,7 +261,7 @@ def copied(state: State, target: Path) -> tuple[Path, int]:
     follows links. So it makes the copy elsewhere, and the bytes go from there into a new file.
     """
     with own_rights():
-        final = target / copy_name() if target.is_dir() else target
+        final = target / copy_name("bridge", time.time(), STATE) if target.is_dir() else target
         if os.path.lexists(final):
             raise OrderFault(f"{final}: it exists, and a copy is never written over another")
     owner = state.settings.state.stat()
@@ -288,57 +271,6 @@ def copied(state: State, target: Path) -> tuple[Path, int]:
         state.file.backup(whole)
         with whole.open("rb") as source, own_rights():
             return final, write_copy(source, final, owner)
-
-
-def copy_name() -> str:
-    """Returns the name of a copy in a folder of copies, with the moment in UTC."""
-    now = datetime.now(timezone.utc)
-    return f"bridge-{now:%Y%m%dT%H%M%S}.{now.microsecond // 1000:03}Z{COPY_ENDING}"
-
-
-def write_copy(source: BinaryIO, final: Path, owner: os.stat_result) -> int:
-    """Writes the bytes of a copy into a new file, and returns how many there are. No link in the file's
-    folder is followed.
-    """
-    work = f".{final.name}.{secrets.token_hex(8)}.new"
-    with opened_folder(final.parent) as folder:
-        descriptor = os.open(work, os.O_WRONLY | os.O_CREAT | os.O_EXCL | os.O_NOFOLLOW, 0o600, dir_fd=folder)
-        try:
-            with open(descriptor, "wb") as file:
-                shutil.copyfileobj(source, file)
-                with suppress(PermissionError):
-                    os.fchown(descriptor, owner.st_uid, owner.st_gid)
-                file.flush()
-                os.fsync(descriptor)
-                nbytes = file.tell()
-            os.rename(work, final.name, src_dir_fd=folder, dst_dir_fd=folder)
-        except BaseException:
-            with suppress(FileNotFoundError):
-                os.unlink(work, dir_fd=folder)
-            raise
-        os.fsync(folder)
-    return nbytes
-
-
-def remove_older(copies: Path, keep: int) -> list[Path]:
-    """Removes older copies from a folder, so that this many are left. Returns the removed ones."""
-    with own_rights(), opened_folder(copies) as folder:
-        names = sorted(fnmatch.filter(os.listdir(folder), f"bridge-*{COPY_ENDING}"), reverse=True)
-        for name in names[keep:]:
-            os.unlink(name, dir_fd=folder)
-    return [copies / name for name in names[keep:]]
-
-
-@contextmanager
-def opened_folder(path: Path) -> Iterator[int]:
-    """Opens a folder for the block. Its descriptor is that of one folder, even if the path leads elsewhere
-    later.
-    """
-    descriptor = os.open(path, os.O_RDONLY | os.O_DIRECTORY)
-    try:
-        yield descriptor
-    finally:
-        os.close(descriptor)
 
 
 AnyParser = TypeVar("AnyParser", bound=argparse.ArgumentParser)
@@ -387,6 +319,6 @@ def run_order(args: argparse.Namespace) -> None:
         state = open_state(settings)
         try:
             for line in order(state, args):
-                print("".join(one if one.isprintable() or one == "\t" else "\ufffd" for one in line))
+                print(shown(line))
         finally:
             state.file.close()

@@ -3,40 +3,17 @@
 The catalogue lists them. A file of a result has a name of its own in the project, such as `w1_0_2`: the name
 of the result, and the file's place in the list.
 """
-import hashlib
 import json
 import re
-from dataclasses import asdict, dataclass
+from dataclasses import asdict
 from functools import lru_cache
 
-from .operator_files import Entry
+from bsched_files.catalogue import OutputFile
 
-MOST_FILES = 20  # of one result
-MOST_OUTPUT = 1024  # bytes of the output of a result
+
 MOST_LISTS = 100  # of output files whose text is kept
-OPEN_NAME = re.compile(r"[A-Za-z0-9_][A-Za-z0-9_.+-]{0,127}")
-# no input file or program may have a name of this form: the client has one file for each name
-UPLOAD_NAME = re.compile(r".*_[0-9]+_[0-9]+")
 # the client takes no name with two dots in a row, which a workunit may have
 DOT_BEFORE_DOT = re.compile(r"\.(?=\.)")
-
-
-@dataclass(frozen=True, slots=True)
-class OutputFile:
-    """An output file of an application."""
-
-    open_name: str  # under which the program writes it, in its folder
-    max_nbytes: int  # a result with a larger file is an error
-    is_optional: bool  # the program may leave it out
-    is_compared: bool  # it is part of the output that bsched compares
-
-
-@dataclass(frozen=True, slots=True)
-class StoredOutput:
-    """A file of a reported result, whose content is stored."""
-
-    nbytes: int
-    sha256: str
 
 
 def upload_name(result: str, place: int) -> str:
@@ -49,45 +26,6 @@ def upload_name(result: str, place: int) -> str:
 def result_of(name: str) -> str:
     """Returns the result whose output file has a name."""
     return name.rpartition("_")[0].replace("+", "")
-
-
-def compared_text(files: tuple[OutputFile, ...], stored: dict[str, StoredOutput]) -> str:
-    """Returns the output that bsched compares: a line for each file, with its SHA-256 and its size. Equal
-    files give equal texts. If the text is longer than an output may be, its own SHA-256 takes its place.
-    """
-    lines = []
-    for file in files:
-        if file.is_compared:
-            one = stored.get(file.open_name)
-            lines.append(
-                f"{file.open_name} absent"
-                if one is None
-                else f"{file.open_name} sha256:{one.sha256} {one.nbytes}"
-            )
-    text = "\n".join(lines)
-    if len(text.encode()) <= MOST_OUTPUT:
-        return text
-    return f"{len(lines)} files sha256:{hashlib.sha256(text.encode()).hexdigest()}"
-
-
-def read_output_files(entry: Entry) -> tuple[OutputFile, ...]:
-    """Reads the output files of an application."""
-    files: list[OutputFile] = []
-    for item in entry.entries("output_files", []):
-        open_name = item.text("open_name")
-        if not OPEN_NAME.fullmatch(open_name):
-            item.fault("open_name is not a file name: letters, digits, '_', '.', '+' and '-', at most 128")
-        if open_name in (file.open_name for file in files):
-            item.fault(f"two output files have the open_name {open_name}")
-        max_nbytes = item.whole("max_nbytes", 1, 10**12)
-        is_compared = item.flag("compare", True)
-        files.append(OutputFile(open_name, max_nbytes, item.flag("optional"), is_compared))
-        item.end()
-    if len(files) > MOST_FILES:
-        entry.fault(f"output_files has more than {MOST_FILES} files", "output_files")
-    if files and not any(file.is_compared for file in files):
-        entry.fault("output_files: no file is compared, so all results would agree", "output_files")
-    return tuple(files)
 
 
 @lru_cache(MOST_LISTS)

@@ -5,14 +5,19 @@ from dataclasses import dataclass
 from pathlib import Path
 from typing import cast
 
+from bsched_files.counts import Limit, counts_in
+from bsched_files.findings import Findings, read_findings
+from bsched_files.json_files import WatchedFile
+from bsched_files.moments import DAY
+from bsched_files.project_settings import Settings
+from bsched_files.timers import Timer, timers_of
+
 from .current_catalogue import CatalogueFaults
 from .digest_queue import DigestQueue
 from .measurements import Measurements
-from .members import DAY, MADE_BETWEEN
+from .members import MADE_BETWEEN
 from .scheduler_probe import Probe, SchedulerProbe
-from .settings import Settings
 from .state_file import StateFile
-from .tool_files import Findings, Limit, Timer, read_findings, read_limits, timers_of
 from .upload_store import UploadStore
 
 OPEN_CALLS = "SELECT count(*) FROM host WHERE open_call IS NOT NULL"
@@ -83,6 +88,8 @@ class Overviews:
         self.faults, self.digests = faults or CatalogueFaults(), digests
         self.settings, self.file, self.store = settings, file, store
         self.measurements, self.probe = measurements, probe
+        self._counts = counts_in(settings.counts)
+        self._findings = WatchedFile(settings.health, read_findings, None, "the board shows no findings")
 
     def _count(self, query: str, *values: object) -> int:
         """Returns a number of rows."""
@@ -101,8 +108,8 @@ class Overviews:
             self._disks(),
             None if self.store is None else uploads_of(self.store),
             self._new_accounts(int(now)),
-            read_limits(settings.counts),
-            read_findings(settings.health),
+            self._counts.value().limits,
+            self._findings.value(),
             timers_of(settings.project, now),
             CatalogueFaults(self.faults.edit, dict(self.faults.digests)),
             self.measurements.held_back.count(),

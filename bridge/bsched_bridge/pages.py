@@ -3,11 +3,13 @@ from dataclasses import dataclass
 
 from werkzeug.wrappers import Request, Response
 
+from bsched_files.counts import UnitCounts
+from bsched_files.project_settings import Settings
+
 from .directory import Directory
 from .languages import gettext_noop, language_of
 from .pictures import Pictures
-from .settings import Settings
-from .statements import Statements, UnitCounts, read_unit_counts
+from .statements import Statements
 from .templates import Templates
 from .texts import RESULT_WORDS
 
@@ -113,7 +115,7 @@ class Pages:
             contact=self.settings.contact,
             picture=self.pictures.own,
             plots=self.pictures.plots(),
-            progress=progress_of(read_unit_counts(self.settings.counts)),
+            progress=progress_of(self.statements.counts.value().units),
             unit_words=UNIT_WORDS,
             silent_since=self.statements.scheduler.silent_since,
             leaders=self.directory.users(0, LEADERS),

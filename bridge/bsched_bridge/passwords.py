@@ -13,6 +13,8 @@ from collections.abc import Iterator
 from contextlib import contextmanager
 from dataclasses import dataclass
 
+from bsched_files.moments import MINUTE
+
 from .key_locks import Busy
 from .limits import ClientTurns, NetworkCounts
 
@@ -23,7 +25,7 @@ AT_ONCE, WAITING = 2, 2
 WAIT_SECONDS = 5.0
 # For one client address, right or wrong: 5 seconds of a processor in a minute. So the owner of an account
 # can't keep others from their log-ins.
-MOST_HASHES, MINUTE = 40, 60.0
+MOST_HASHES = 40
 MOST_OF_NETWORK = 80  # a tenth of what two at once take in a minute
 
 

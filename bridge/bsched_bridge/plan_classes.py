@@ -9,8 +9,9 @@ their resource.
 from collections.abc import Iterable
 from dataclasses import dataclass, replace
 
+from bsched_files.toml_entries import Entry
+
 from .client_requests import MOST_PLATFORMS, ClientRequest
-from .operator_files import Entry
 
 NCPUS = "{ncpus}"  # a placeholder in a command line
 MOST_NCPUS = 1024

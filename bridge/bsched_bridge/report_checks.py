@@ -13,6 +13,10 @@ from collections.abc import Callable
 from dataclasses import dataclass, field, replace
 from functools import cached_property
 
+from bsched_files.catalogue import OutputFile
+from bsched_files.texts import MOST_OUTPUT, cut_to_bytes
+from bsched_files.uploads import compared_text
+
 from .calls import MOST_REPORTS
 from .catalogue import Catalogue
 from .client_requests import UPLOAD_STATUS, ClientRequest, Report, ReportedFile
@@ -20,10 +24,9 @@ from .digest_queue import DigestQueue, DigestWaits
 from .handed_out import HandedJob, HandedOut, Outcome
 from .hosts import Hosts, Key
 from .measurements import PutOffs, WhyPutOff
-from .output_files import MOST_OUTPUT, OutputFile, compared_text, upload_name
+from .output_files import upload_name
 from .scheduler import Job, NoAnswer, Scheduler
 from .upload_store import Upload, UploadStore
-from .words import cut_to_bytes
 
 log = logging.getLogger(__name__)
 

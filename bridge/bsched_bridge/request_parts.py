@@ -13,14 +13,14 @@ import codecs
 import re
 from collections.abc import Iterable, Iterator
 
+from bsched_files.texts import MOST_OUTPUT, cut_to_bytes, xml_text
+
 from .languages import Text
-from .words import cut_to_bytes, xml_text
 
 MOST_XML = 4 * 1024 * 1024  # bytes of a request without its standard errors
 # A client sends 63 KB of a standard error, and each byte beyond ASCII as a reference of six bytes.
 MOST_ERROR = 512 * 1024
 MOST_ERRORS = 2000
-MOST_OUTPUT = 1024
 MOST_LOOKED_AT = 65_536  # bytes at the front of an answer: the output is the first 1,024 of them
 
 ERROR, MESSAGE = b"<stderr_out>", b"<msg_from_host>"

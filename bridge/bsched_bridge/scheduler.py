@@ -9,8 +9,10 @@ from dataclasses import dataclass, field, fields
 from operator import itemgetter
 from typing import Any, NoReturn
 
+from bsched_files.counts import NO_HOST
+from bsched_files.project_settings import Address
+
 from .scheduler_connection import FaultyAnswer, exchanged, message_of
-from .settings import Address
 
 ATTEMPTS = 3
 PAUSE_SECONDS = 0.5  # between attempts
@@ -19,7 +21,6 @@ STATEMENT_BEGINS = b"result,"
 WRONG_KEY = "refuses operator_key: it is that of another project, or the key is another one"
 HUNG_SECONDS = 5.0  # during which no message is sent, after one had no answer in time
 SLOW_SECONDS = 1.0  # after which a message has waited for long; an answer takes milliseconds
-NO_HOST = 2**31 - 1  # no host has this number: there are at most 100,000
 MOST_ANSWER = 16 * 1024 * 1024  # bytes
 
 _read = json.JSONDecoder().decode

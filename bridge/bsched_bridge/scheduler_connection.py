@@ -6,7 +6,7 @@ processor time.
 import re
 import socket
 
-from .settings import Address
+from bsched_files.project_settings import Address
 
 MOST_HEAD = 65_536  # bytes of an answer before its body
 BLOCK = 16_384

@@ -7,10 +7,12 @@ from itertools import chain
 from werkzeug.exceptions import HTTPException
 from wsgiref.types import WSGIEnvironment
 
+from bsched_files.moments import HOUR
+
 from .catalogue import Catalogue
 from .client_replies import ReplyWriter
 from .client_requests import MOST_BYTES, ClientRequest, read_request
-from .exchange import HOUR, TOO_BUSY, Answered, Exchange, PutOff
+from .exchange import TOO_BUSY, Answered, Exchange, PutOff
 from .http_messages import XmlAnswer, blocks_of, length_of
 from .key_locks import Busy, KeyLocks
 from .languages import asked_language, gettext_lazy

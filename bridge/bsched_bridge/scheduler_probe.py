@@ -4,7 +4,9 @@ import time
 from collections.abc import Callable
 from dataclasses import dataclass
 
-from .scheduler import NO_HOST, NoAnswer, Scheduler
+from bsched_files.counts import NO_HOST
+
+from .scheduler import NoAnswer, Scheduler
 
 KEPT_SECONDS = 5.0  # for which an answer counts, so that nobody can have bsched asked often
 

@@ -17,146 +17,15 @@ import threading
 from collections.abc import Callable, Hashable
 from pathlib import Path
 
-# the name of the format, in the file's header: "bscb"
-APPLICATION_ID, SCHEMA_VERSION = 0x62736362, 7
-HOSTS = """
-CREATE TABLE host (
-  -- the key; the host_cpid is the one with which the host was made
-  authenticator TEXT NOT NULL, host_cpid TEXT NOT NULL,
-  hostid INTEGER,             -- the bridge's number of the host, once a client was told it
-  -- the client's rpc_seqno in its last request with that number; NULL before the first one
-  client_seqno INTEGER,
-  copy_of INTEGER,            -- the hostid of the computer that the host is a copy of
-  has_former_number INTEGER NOT NULL DEFAULT 0,  -- 1: a former version told a number, which is not known
-  scheduler_hostid INTEGER,   -- bsched's number of the host in its tables, by the last reply
-  last_number INTEGER NOT NULL,  -- the rpc_seqno of the last call
-  open_call BLOB,             -- its bytes, where no answer came yet
-  jobs_in_hand TEXT NOT NULL DEFAULT '[]',  -- those that the client may lack, as JSON, as replies have them
-  -- as the last reply told them, and when
-  user_name TEXT, user_credit INTEGER, host_credit INTEGER, heard_at INTEGER,
-  PRIMARY KEY (authenticator, host_cpid)
-) STRICT;
-CREATE UNIQUE INDEX host_by_number ON host (hostid);
-CREATE UNIQUE INDEX host_by_scheduler_number ON host (authenticator, scheduler_hostid);
-CREATE INDEX host_of_copy ON host (authenticator, copy_of) WHERE copy_of IS NOT NULL;
-CREATE INDEX host_with_open_call ON host (authenticator, host_cpid) WHERE open_call IS NOT NULL;
-CREATE INDEX host_of_stranger ON host (authenticator)
-  WHERE open_call IS NOT NULL AND scheduler_hostid IS NULL AND hostid IS NULL;
-CREATE INDEX host_heard ON host (heard_at) WHERE scheduler_hostid IS NOT NULL;
-"""
-# Former bridges counted hostids here. They are random, and the row stays as it is.
-NUMBERS = """
-CREATE TABLE numbers (last_hostid INTEGER NOT NULL) STRICT;
-INSERT INTO numbers (last_hostid) VALUES (100000);
-"""
-MEMBERS = """
-CREATE TABLE member (
-  id INTEGER PRIMARY KEY AUTOINCREMENT,  -- the user's number for statistics sites
-  authenticator TEXT NOT NULL UNIQUE,
-  email TEXT UNIQUE, salt BLOB, secret BLOB, cost TEXT,  -- NULL for an operator's account without a password
-  name TEXT NOT NULL,
-  batch TEXT UNIQUE,          -- the name of the import that makes the account; NULL for an operator's account
-  is_imported INTEGER NOT NULL,  -- 0 until bsched answered that import
-  cpid TEXT NOT NULL,         -- a random text, by which statistics sites know a user of several projects
-  consent_at INTEGER,         -- when the user agreed to the terms
-  is_exported INTEGER NOT NULL DEFAULT 0,  -- whether the user agreed to be shown by statistics sites
-  created_at INTEGER NOT NULL
-) STRICT;
-CREATE INDEX member_open ON member (id) WHERE is_imported = 0;
-CREATE INDEX member_created ON member (created_at) WHERE batch IS NOT NULL;
-"""
-BARRED = """
-CREATE TABLE barred (            -- accounts whose computers are refused
-  authenticator TEXT PRIMARY KEY, barred_at INTEGER NOT NULL,
-  is_deleted INTEGER NOT NULL    -- 1 if the account was deleted, 0 if the operator barred it
-) STRICT, WITHOUT ROWID;
--- a message that was in work when its account was deleted writes nothing of what was forgotten
-CREATE TRIGGER host_of_deleted BEFORE INSERT ON host
-  WHEN EXISTS (SELECT 1 FROM barred WHERE authenticator = NEW.authenticator AND is_deleted = 1)
-  BEGIN SELECT RAISE(IGNORE); END;
-CREATE TRIGGER member_of_deleted BEFORE UPDATE ON member
-  WHEN EXISTS (SELECT 1 FROM barred WHERE authenticator = NEW.authenticator AND is_deleted = 1)
-  BEGIN SELECT RAISE(IGNORE); END;
-"""
-# what pages show of users and computers
-PEOPLE = """
--- what the computer said of itself in its last request, as JSON
-ALTER TABLE host ADD COLUMN about TEXT;
--- as the latest reply to one of the user's hosts told it; NULL before the first one
-ALTER TABLE member ADD COLUMN credit INTEGER;
--- whether others know the user as anonymous
-ALTER TABLE member ADD COLUMN is_anonymous INTEGER NOT NULL DEFAULT 0;
-CREATE TABLE host_day (          -- credit at the last call of a day (since 1970, in UTC)
-  hostid INTEGER NOT NULL, day INTEGER NOT NULL, credit INTEGER NOT NULL, PRIMARY KEY (hostid, day)
-) STRICT, WITHOUT ROWID;
-CREATE TABLE member_day (        -- the same of an account, by its number
-  member INTEGER NOT NULL, day INTEGER NOT NULL, credit INTEGER NOT NULL, PRIMARY KEY (member, day)
-) STRICT, WITHOUT ROWID;
-CREATE INDEX member_by_credit ON member (credit DESC) WHERE credit IS NOT NULL;
-CREATE INDEX host_by_credit ON host (host_credit DESC, hostid)
-  WHERE scheduler_hostid IS NOT NULL AND hostid IS NOT NULL;
-"""
-TEAMS = """
-CREATE TABLE team (
-  id INTEGER PRIMARY KEY AUTOINCREMENT,
-  name TEXT NOT NULL,
-  folded TEXT NOT NULL UNIQUE,  -- what names that look alike have in common
-  founder INTEGER NOT NULL,     -- the number of a user
-  created_at INTEGER NOT NULL
-) STRICT;
-ALTER TABLE member ADD COLUMN team INTEGER;
-CREATE INDEX member_of_team ON member (team, credit) WHERE team IS NOT NULL;
-"""
-PREFERENCES = """
-ALTER TABLE member ADD COLUMN preferences TEXT;  -- for the user's clients, as JSON; NULL if there are none
-"""
-CREDIT_OF_MEMBERS = """
-UPDATE member SET credit = (
-    SELECT coalesce(user_credit, 0) FROM host WHERE host.authenticator = member.authenticator
-      AND scheduler_hostid IS NOT NULL ORDER BY heard_at DESC LIMIT 1
-  );
-"""
-# inserts the accounts of hosts that had a reply before the table member existed
-HEARD_MEMBERS = """
-INSERT INTO member (authenticator, name, is_imported, cpid, created_at)
-  SELECT authenticator, user_name, 1, lower(hex(randomblob(16))), heard_at FROM host AS one
-  WHERE hostid IS NOT NULL AND NOT EXISTS (
-    SELECT 1 FROM host AS other WHERE other.authenticator = one.authenticator AND other.hostid IS NOT NULL
-      AND (other.heard_at, other.hostid) < (one.heard_at, one.hostid)
-  ) ORDER BY heard_at, hostid;
-"""
-# Which number a client was told before is not known: it may be from earlier tables.
-HOSTS_OF_VERSION_2 = (
-    """
-DROP INDEX host_by_number;
-DROP INDEX host_with_open_call;
-DROP INDEX host_heard;
-ALTER TABLE host RENAME TO host_of_version_2;
-"""
-    + HOSTS
-    + """
-INSERT INTO host (authenticator, host_cpid, has_former_number, scheduler_hostid, last_number, open_call,
-    jobs_in_hand, user_name, user_credit, host_credit, heard_at)
-  SELECT authenticator, host_cpid, 1, hostid, last_number, open_call, jobs_in_hand, user_name, user_credit,
-    host_credit, heard_at FROM host_of_version_2;
-DROP TABLE host_of_version_2;
-"""
-)
-NEW_FILE = HOSTS + NUMBERS + MEMBERS + BARRED + PEOPLE + TEAMS + PREFERENCES
-# the statements from each version to the next
-UPGRADES = {
-    1: MEMBERS + HEARD_MEMBERS,
-    2: HOSTS_OF_VERSION_2 + NUMBERS,
-    3: BARRED,
-    4: PEOPLE + CREDIT_OF_MEMBERS,
-    5: TEAMS,
-    6: PREFERENCES,
-}
+from bsched_files.bridge_state import STATE
+from bsched_files.faults import Fault
+
 BUSY_SECONDS = 10.0  # for a transaction of another process
 # how long a write is put off at most, while WaitingWrites runs, and how many are
 PUT_OFF_SECONDS, MOST_WAITING = 1.0, 1000
 
 
+ADVICE = "; give another name as `state`"  # for a file of another format
 SPOILED = 'it is spoiled or no state file: see docs/VOLUNTEERS.md, "The state file"'
 
 Write = Callable[[sqlite3.Connection], None]  # writes, within a transaction
@@ -164,7 +33,7 @@ Write = Callable[[sqlite3.Connection], None]  # writes, within a transaction
 log = logging.getLogger(__name__)
 
 
-class StateFault(Exception):
+class StateFault(Fault):
     """Raised if the state file can't be used."""
 
 
@@ -235,12 +104,12 @@ class StateFile:
             else:
                 check(self._connection)
                 with self.transaction() as connection:
-                    prepare(connection)
+                    STATE.prepare(connection, ADVICE)
             self._looking = sqlite3.connect(
                 path, isolation_level=None, check_same_thread=False, timeout=BUSY_SECONDS
             )
             self._looking.execute("PRAGMA query_only = ON").fetchall()
-        except StateFault as fault:
+        except Fault as fault:
             self.close()
             raise StateFault(f"{path}: {fault}") from None
         except sqlite3.Error as error:
@@ -427,12 +296,9 @@ class Transaction:
 
 def check_version(connection: sqlite3.Connection) -> None:
     """Checks that a file is one of this bridge's format."""
-    identity = connection.execute("PRAGMA application_id").fetchone()[0]
-    version = connection.execute("PRAGMA user_version").fetchone()[0]
-    if identity != APPLICATION_ID:
-        raise StateFault("is not the state file of a bridge")
-    if version != SCHEMA_VERSION:
-        raise StateFault(f"has format {version}, and this command knows {SCHEMA_VERSION}: restart the bridge")
+    version = STATE.version_of(connection)
+    if version != STATE.version:
+        raise StateFault(f"has format {version}, and this command knows {STATE.version}: restart the bridge")
 
 
 def check(connection: sqlite3.Connection) -> None:
@@ -442,26 +308,3 @@ def check(connection: sqlite3.Connection) -> None:
     found = connection.execute("PRAGMA quick_check(1)").fetchone()[0]
     if found != "ok":
         raise StateFault(f"{str(found).strip().splitlines()[-1]}; {SPOILED}")
-
-
-def prepare(connection: sqlite3.Connection) -> None:
-    """Makes the tables in a new file, or upgrades those of an older format, within a transaction."""
-    identity, version = (
-        connection.execute(f"PRAGMA {name}").fetchone()[0] for name in ("application_id", "user_version")
-    )
-    has_tables = connection.execute("SELECT count(*) FROM sqlite_schema").fetchone()[0]
-    if identity == APPLICATION_ID and version > SCHEMA_VERSION:
-        raise StateFault(
-            f"a newer bridge wrote this file (format {version}, and this bridge knows {SCHEMA_VERSION}): "
-            "run that bridge"
-        )
-    if identity == APPLICATION_ID:
-        texts = [UPGRADES[older] for older in range(version, SCHEMA_VERSION)]
-    elif has_tables or (identity, version) != (0, 0):
-        raise StateFault("is not the state file of a bridge; give another name as `state`")
-    else:
-        texts = [NEW_FILE]
-    for statement in (part for text in texts for part in text.split(";\n") if part.strip()):
-        connection.execute(statement)
-    connection.execute(f"PRAGMA application_id = {APPLICATION_ID}")
-    connection.execute(f"PRAGMA user_version = {SCHEMA_VERSION}")

@@ -3,13 +3,15 @@ replies, and from archives.
 """
 import csv
 import io
-import json
 import threading
 import time
 from collections import Counter, OrderedDict, deque
 from dataclasses import dataclass, replace
 from decimal import Decimal, InvalidOperation
-from pathlib import Path
+
+from bsched_files.counts import KnownCounts, UnitCounts
+from bsched_files.json_files import WatchedFile
+from bsched_files.moments import DAY, moment_text
 
 from .archives import Archives
 from .directory import Computer
@@ -31,10 +33,7 @@ MOST_RESULTS, MOST_KEPT_RESULTS = 500, 50  # results of a host on its page, and 
 # Statements that pages of hosts read in KEPT_SECONDS, and at once: bsched has calls to answer, and if it
 # hangs, other pages still find a thread.
 MOST_READ, MOST_READING = 120, 2
-MOST_COUNTS = 1_048_576  # bytes of a file of counts
-MOST_MOMENT = 250_000_000_000  # seconds; years have four digits
 NO_REPLY, SUCCESS, INVALID = "4", "1", "2"
-DAY = 86_400
 
 
 @dataclass(frozen=True, slots=True)
@@ -80,16 +79,6 @@ class Result:
     state: str  # as in the tables of hosts
     words: str  # the same for people, with the reason if it was not valid
     credit: str
-
-
-@dataclass(frozen=True, slots=True)
-class UnitCounts:
-    """How many workunits have each status, in a copy of bsched's tables."""
-
-    by_status: dict[str, int]
-    counted_at: float
-    out: int | None = None  # of those that are open, how many a host has; None if that is not known
-    stuck: int = 0  # of those that are open, how many no user with a host can take
 
 
 @dataclass(frozen=True, slots=True)
@@ -160,7 +149,7 @@ def read_results(text: str) -> list[Result]:
 def read_statement(host: HeardHost, text: str) -> HostStatus:
     """Reads the status of a host from its statement. The last line is the credit, not a result."""
     rows = list(csv.DictReader(io.StringIO(text)))
-    yesterday = time.strftime("%Y-%m-%d %H:%M:%S", time.gmtime(time.time() - DAY))
+    yesterday = moment_text(time.time() - DAY)
     try:
         counted = Counter(map(standing, rows[:-1]))
         counted["invalid"] = sum(
@@ -172,30 +161,6 @@ def read_statement(host: HeardHost, text: str) -> HostStatus:
     return HostStatus(host, credit, **counted)
 
 
-def read_unit_counts(path: Path | None) -> UnitCounts | None:
-    """Reads the counts of workunits from a file. Returns None if the operator makes no such file, or it can't
-    be read.
-    """
-    if path is None:
-        return None
-    try:
-        with path.open("rb") as file:
-            fields = json.loads(file.read(MOST_COUNTS))
-        workunits = fields["workunits"]
-        by_status = {name: count for name, count in workunits.items() if type(count) is int}
-        moment = fields.get("moment")
-        is_known = type(moment) is int and 0 <= moment <= MOST_MOMENT
-        counted_at = moment if is_known else path.stat().st_mtime
-        out, stuck = (fields.get("open_workunits", {}).get(name) for name in ("out", "stuck"))
-        opened = by_status.get("open", 0)
-        if type(out) is not int or not 0 <= out <= opened:
-            out = None
-        is_stuck = out is not None and type(stuck) is int and 0 <= stuck <= opened - out
-        return UnitCounts(by_status, counted_at, out, stuck if is_stuck else 0) if by_status else None
-    except (OSError, ValueError, KeyError, TypeError, AttributeError):
-        return None
-
-
 class Statements:
     """Reads the status of hosts, and keeps it for a while."""
 
@@ -205,13 +170,13 @@ class Statements:
         members: Members,
         scheduler: Scheduler,
         operator_key: str | None,
-        unit_counts: Path | None,
+        counts: WatchedFile[KnownCounts],
         archives: Archives,
         recent: RecentCredit,
     ):
         self.recent = recent
         self.hosts, self.members, self.scheduler, self.operator_key = hosts, members, scheduler, operator_key
-        self.unit_counts, self.archives = unit_counts, archives
+        self.counts, self.archives = counts, archives
         self.wait_seconds = WAIT_SECONDS
         self._lock, self._accounts_lock = threading.Lock(), threading.Lock()
         self._kept: tuple[Status, float] | None = None  # with the moment until which it is shown
@@ -323,7 +288,7 @@ class Statements:
         heard = self.hosts.heard(MOST_HOSTS)
         return Status(
             self._hosts(heard) if with_statements else self._heard_only(heard),
-            read_unit_counts(self.unit_counts),
+            self.counts.value().units,
             self.scheduler.silent_since,
             self.members.shown(host.authenticator for host in heard),
         )

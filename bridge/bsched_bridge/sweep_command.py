@@ -3,10 +3,15 @@ import time
 from collections.abc import Iterable, Set
 from pathlib import Path
 
+from bsched_files.faults import Fault
+from bsched_files.project_settings import Settings, read_settings
+from bsched_files.tables import opened
+from bsched_files.toml_entries import OperatorFault
+from bsched_files.uploads import DATABASE
+from bsched_files.workunits import decided
+
 from .barring import Barring
-from .operator_files import OperatorFault
 from .rights import rights_of_owner
-from .settings import Settings, read_settings
 from .state_file import StateFile
 from .upload_store import UploadStore
 from .upload_sweep import Decisions, sweep
@@ -14,13 +19,6 @@ from .upload_sweep import Decisions, sweep
 
 def decisions_in(paths: Iterable[Path]) -> Decisions:
     """Returns the decisions in copies of the tables. Raises OperatorFault if one can't be read."""
-    try:
-        from bsched_tools.faults import Fault
-        from bsched_tools.tables import opened
-        from bsched_tools.workunits import decided
-    except ModuleNotFoundError:
-        what = "--tables needs the package bsched_tools: add the folder tools to PYTHONPATH"
-        raise OperatorFault(Path("sweep"), None, what) from None
     decisions = Decisions()
     try:
         for path in paths:
@@ -51,7 +49,7 @@ def run(config: Path, tables: list[Path]) -> str:
     settings = read_settings(config)
     if settings.uploads is None:
         raise OperatorFault(config, None, "has no [uploads], so there is nothing to sweep")
-    if not (settings.uploads.folder / "uploads.db").exists():
+    if not (settings.uploads.folder / DATABASE).exists():
         raise OperatorFault(settings.uploads.folder, None, "has no uploads.db, which the bridge makes")
     decisions, barred = decisions_in(tables) if tables else None, barred_in(settings)
     with rights_of_owner(settings.uploads.folder):

@@ -8,6 +8,8 @@ from dataclasses import dataclass
 from enum import Enum
 from typing import cast
 
+from bsched_files.moments import DAY
+
 from .directory import USER, User, pattern_of, user_of
 from .languages import gettext_noop
 from .limits import RecentCounts
@@ -17,7 +19,7 @@ from .state_file import StateFile
 from .team_rows import leave
 
 MOST_TEAMS = 1000
-MOST_NEW, DAY = 3, 86400  # teams that a user makes in a day
+MOST_NEW = 3  # teams that a user makes in a day
 # the credit and the number of the members of each team, or of one
 SUMS = "SELECT team, coalesce(sum(credit), 0), count(*) FROM member WHERE team IS NOT NULL GROUP BY team"
 SUMS_OF_ONE = "SELECT team, coalesce(sum(credit), 0), count(*) FROM member WHERE team = ? GROUP BY team"

@@ -11,10 +11,12 @@ from jinja2 import Environment, FileSystemLoader, StrictUndefined
 from markupsafe import Markup, escape
 from werkzeug.wrappers import Request, Response
 
+from bsched_files.moments import moment_text
+from bsched_files.project_settings import Settings
+
 from .http_messages import CSS, FOR_GOOD, HTML, NO_STORE, answer
 from .languages import ENGLISH, LANGUAGES, Language
-from .settings import Settings
-from .texts import bytes_text, moment_text, page_credits, without_zeros
+from .texts import bytes_text, page_credits, without_zeros
 
 FOLDER = Path(__file__).with_name("templates")
 HASH_DIGITS = 16

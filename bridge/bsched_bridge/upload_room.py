@@ -12,8 +12,9 @@ from collections.abc import Callable, Iterator
 from contextlib import contextmanager
 from dataclasses import dataclass
 
+from bsched_files.project_settings import UploadSettings
+
 from .handed_out import HandedOut
-from .settings import UploadSettings
 from .upload_owners import Owner
 from .upload_tables import UploadTables
 from .words import shown_key

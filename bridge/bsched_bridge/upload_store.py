@@ -26,10 +26,12 @@ from pathlib import Path
 from typing import cast
 from uuid import uuid4
 
+from bsched_files.catalogue import OutputFile
+from bsched_files.project_settings import Settings, UploadSettings
+from bsched_files.toml_entries import OperatorFault
+from bsched_files.uploads import DATABASE, PENDING, STORE, StoredOutput
+
 from .catalogue import Catalogue
-from .operator_files import OperatorFault
-from .output_files import OutputFile, StoredOutput
-from .settings import Settings, UploadSettings
 from .upload_owners import Owner
 from .upload_room import Coming, NotNow, UploadRoom
 from .upload_tables import UploadTables
@@ -116,12 +118,12 @@ class UploadStore:
         all jobs that are out would be lost.
         """
         self.settings, folder = settings, settings.folder
-        self.temp, self.pending, self.store = folder / "temp", folder / "pending", folder / "store"
+        self.temp, self.pending, self.store = folder / "temp", folder / PENDING, folder / STORE
         try:
             for path in (folder, self.temp, self.pending, self.store):
                 path.mkdir(mode=0o750, exist_ok=True)
             self.secret = secret_in(folder)
-            self.tables = UploadTables(folder / "uploads.db")
+            self.tables = UploadTables(folder / DATABASE)
             self.room = UploadRoom(settings, self.tables, self.forget_ended)
             sync_folder(folder)
             sync_folder(folder.parent)
@@ -346,7 +348,7 @@ def check_uploads(settings: Settings, catalogue: Catalogue) -> None:
     """Checks that the settings of uploads fit the output files in the catalogue, and that the secret of an
     existing folder is there. It makes nothing.
     """
-    if settings.uploads is not None and (settings.uploads.folder / "uploads.db").exists():
+    if settings.uploads is not None and (settings.uploads.folder / DATABASE).exists():
         secret_in(settings.uploads.folder)
     for app in catalogue.apps.values():
         nbytes = sum(file.max_nbytes for file in app.output_files)
@@ -380,7 +382,7 @@ def secret_in(folder: Path) -> bytes:
     """Returns the secret in a folder of uploads. A new folder gets one."""
     path = folder / "secret"
     if not path.exists():
-        if (folder / "uploads.db").exists():
+        if (folder / DATABASE).exists():
             raise OperatorFault(
                 path,
                 None,

@@ -16,9 +16,10 @@ from collections.abc import Iterable, Set
 from dataclasses import dataclass, field
 from typing import TypeVar
 
+from bsched_files.moments import DAY
+
 from .upload_store import UploadStore
 
-DAY = 86_400
 ENDED_DAYS = 1  # for which an operator can look at files that nobody needs
 LEFT_DAYS = 120  # after which no result comes any more: a client gives up an upload after 90 days
 PART = 200  # rows of a turn; an upload may have to wait for it

@@ -14,74 +14,13 @@ from collections.abc import Iterator
 from contextlib import contextmanager
 from pathlib import Path
 
+from bsched_files.faults import Fault
+from bsched_files.uploads import UPLOADS
+
 from .state_file import StateFault, make_private
 
-APPLICATION_ID, SCHEMA_VERSION = 0x62736375, 3  # "bscu"
 SECONDS = 30.0  # that a process waits for another one, whose turns take a part of a second
 PAUSE_SECONDS = 0.005
-TABLES = """
-CREATE TABLE listing (            -- a list of the output files of an application
-  id INTEGER PRIMARY KEY, app TEXT NOT NULL, files TEXT NOT NULL, UNIQUE (app, files)
-) STRICT;
-CREATE TABLE job (                -- a result that went out
-  result TEXT PRIMARY KEY,
-  authenticator TEXT NOT NULL, host_cpid TEXT NOT NULL,  -- the host that has it
-  listing INTEGER NOT NULL REFERENCES listing,  -- as the catalogue had it when the job went out
-  deadline INTEGER NOT NULL,
-  stored_at INTEGER,              -- when its files were stored, which a report of a success does
-  exit_status INTEGER, output TEXT  -- what bsched gets of that report, by a digest program
-) STRICT;
-CREATE TABLE upload (             -- a file in pending/, whose result is not reported yet
-  name TEXT PRIMARY KEY, nbytes INTEGER NOT NULL, md5 TEXT NOT NULL, sha256 TEXT NOT NULL,
-  received_at INTEGER NOT NULL
-) STRICT;
-CREATE TABLE file (               -- a file of a reported result
-  result TEXT NOT NULL, place INTEGER NOT NULL, open_name TEXT NOT NULL, nbytes INTEGER NOT NULL,
-  sha256 TEXT NOT NULL, PRIMARY KEY (result, place)
-) STRICT, WITHOUT ROWID;
-CREATE INDEX file_by_content ON file (sha256);
-CREATE TABLE content (            -- a file in store/
-  sha256 TEXT PRIMARY KEY, nbytes INTEGER NOT NULL
-) STRICT, WITHOUT ROWID;
-CREATE TABLE used (nbytes INTEGER NOT NULL) STRICT;  -- by the files in pending/ and store/
-INSERT INTO used VALUES (0);
-CREATE TRIGGER upload_comes AFTER INSERT ON upload BEGIN UPDATE used SET nbytes = nbytes + NEW.nbytes; END;
-CREATE TRIGGER upload_goes AFTER DELETE ON upload BEGIN UPDATE used SET nbytes = nbytes - OLD.nbytes; END;
-CREATE TRIGGER content_comes AFTER INSERT ON content BEGIN UPDATE used SET nbytes = nbytes + NEW.nbytes; END;
-CREATE TRIGGER content_goes AFTER DELETE ON content BEGIN UPDATE used SET nbytes = nbytes - OLD.nbytes; END;
-"""
-# whose the files in pending/ are, and which jobs ended as errors
-OWNERS = """
-ALTER TABLE job ADD COLUMN ended_at INTEGER;  -- when bsched had a report of it whose files are not stored
-CREATE INDEX job_of_host ON job (authenticator, host_cpid, listing)
-  WHERE stored_at IS NULL AND ended_at IS NULL;
-ALTER TABLE upload ADD COLUMN result TEXT NOT NULL DEFAULT '';
--- the host that has the job; empty if the bridge does not know the job
-ALTER TABLE upload ADD COLUMN authenticator TEXT NOT NULL DEFAULT '';
-ALTER TABLE upload ADD COLUMN host_cpid TEXT NOT NULL DEFAULT '';
-CREATE INDEX upload_of_host ON upload (authenticator, host_cpid, nbytes);
-"""
-OWNERS_OF_UPLOADS = """
-UPDATE upload SET result = replace(substr(name, 1, length(rtrim(name, '0123456789')) - 1), '+', '');
-UPDATE upload SET authenticator = job.authenticator, host_cpid = job.host_cpid
-  FROM job WHERE job.result = upload.result;
-"""
-URLS = """
-ALTER TABLE job ADD COLUMN has_url INTEGER NOT NULL DEFAULT 0;  -- 1: its client has URLs with tokens
-CREATE INDEX job_without_url ON job (listing) WHERE has_url = 0 AND stored_at IS NULL AND ended_at IS NULL;
-"""
-NEW_FILE = TABLES + OWNERS + URLS
-UPGRADES = {1: OWNERS + OWNERS_OF_UPLOADS, 2: URLS}  # the statements from each version to the next
-
-
-def statements_of(text: str) -> Iterator[str]:
-    """Yields the statements in a text, without its comments."""
-    statement = ""
-    for line in text.strip().splitlines():
-        statement += line.partition("--")[0] + "\n"
-        if sqlite3.complete_statement(statement):
-            yield statement
-            statement = ""
 
 
 class UploadTables:
@@ -112,24 +51,10 @@ class UploadTables:
     def _prepare(self, path: Path) -> None:
         """Makes the tables in a new file, or upgrades those of an older format."""
         with self._transaction() as connection:
-            names = "application_id", "user_version"
-            identity, version = (connection.execute(f"PRAGMA {name}").fetchone()[0] for name in names)
-            has_tables = connection.execute("SELECT count(*) FROM sqlite_schema").fetchone()[0]
-            if identity == APPLICATION_ID and version > SCHEMA_VERSION:
-                raise StateFault(
-                    f"{path}: a newer bridge wrote this file (format {version}, and this bridge knows "
-                    f"{SCHEMA_VERSION}): run that bridge"
-                )
-            if identity == APPLICATION_ID:
-                texts = [UPGRADES[older] for older in range(version, SCHEMA_VERSION)]
-            elif has_tables or (identity, version) != (0, 0):
-                raise StateFault(f"{path}: is not a file of uploads that this bridge knows")
-            else:
-                texts = [NEW_FILE]
-            for statement in (one for text in texts for one in statements_of(text)):
-                connection.execute(statement)
-            connection.execute(f"PRAGMA application_id = {APPLICATION_ID}")
-            connection.execute(f"PRAGMA user_version = {SCHEMA_VERSION}")
+            try:
+                UPLOADS.prepare(connection)
+            except Fault as fault:
+                raise StateFault(f"{path}: {fault}") from None
 
     @contextmanager
     def turn(self) -> Iterator[None]:

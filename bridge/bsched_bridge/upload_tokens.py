@@ -13,7 +13,7 @@ import os
 import secrets
 from pathlib import Path
 
-from .operator_files import OperatorFault
+from bsched_files.toml_entries import OperatorFault
 
 SECRET_BYTES = 32
 URL_DIGITS, ACCOUNT_DIGITS = 32, 16

@@ -23,11 +23,12 @@ from typing import BinaryIO
 from werkzeug.exceptions import Forbidden
 from werkzeug.wrappers import Request, Response
 
+from bsched_files.project_settings import MOST_HEAD, most_upload
+
 from .http_messages import TEXT, answer, length_of
 from .languages import Language, language_of
 from .limits import NoPlace, Places
 from .measurements import UploadCounts, UploadEnd
-from .settings import UploadSettings
 from .upload_owners import Ended, Owner, UploadOwners
 from .upload_room import NotNow
 from .upload_store import SentFile, UploadStore
@@ -35,7 +36,6 @@ from .upload_tokens import UploadTokens
 
 PATH = "file_upload_handler"  # of the URL; the client takes a URL without this word for that of a download
 CHECK_PATH = "upload_check"  # where the web server asks about a URL
-MOST_HEAD = 8192  # bytes of a message before those of the file
 BLOCK = 256 * 1024
 # how long an upload waits for a place: after three refusals a client pauses for a quarter of an hour
 PLACE_SECONDS = 5.0
@@ -142,11 +142,6 @@ def blocks_of(begin: bytes, body: Body) -> Iterator[bytes]:
         yield block
 
 
-def most_body(settings: UploadSettings | None) -> int:
-    """Returns how many bytes the largest upload has, whatever the catalogue says later."""
-    return MOST_HEAD + (0 if settings is None else settings.most_result_bytes)
-
-
 class Uploads:
     """Answers the messages of uploads. Only so many receive a file, and some more wait for a place."""
 
@@ -201,7 +196,7 @@ class Uploads:
         """
         body = Body(message.environ["wsgi.input"], length_of(message.environ))
         answered = self._answered(body, name, token, language_of(message))
-        body.read_on(most_body(self.store.settings))
+        body.read_on(most_upload(self.store.settings.most_result_bytes))
         return answered
 
     def _answered(self, body: Body, name: str | None, token: str, language: Language) -> Response:

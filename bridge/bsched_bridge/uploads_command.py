@@ -9,10 +9,13 @@ from dataclasses import dataclass
 from pathlib import Path
 from typing import cast
 
+from bsched_files.moments import moment_text
+from bsched_files.project_settings import read_settings
+from bsched_files.texts import shown
+from bsched_files.uploads import DATABASE
+
 from .operator_orders import AnyParser, OrderFault, State, as_table, config_of, open_state
 from .rights import rights_of_owner
-from .settings import read_settings
-from .texts import moment_text
 from .upload_store import UploadStore
 from .words import shown_key
 
@@ -47,7 +50,7 @@ def add_uploads(orders: "argparse._SubParsersAction[AnyParser]") -> None:
 def opened_store(state: State) -> Iterator[UploadStore]:
     """Opens the folder of uploads of a project for the block, with the rights of its owner."""
     settings = state.settings.uploads
-    if settings is None or not (settings.folder / "uploads.db").exists():
+    if settings is None or not (settings.folder / DATABASE).exists():
         raise OrderFault("the project has no folder of uploads")
     with rights_of_owner(settings.folder), closing(UploadStore(settings)) as store:
         yield store
@@ -128,6 +131,6 @@ def run(args: argparse.Namespace) -> None:
                     else deleted(state, store, args.delete)
                 )
                 for line in lines:
-                    print("".join(one if one.isprintable() else "\ufffd" for one in line))
+                    print(shown(line, kept=""))
         finally:
             state.file.close()

@@ -3,6 +3,8 @@ import time
 
 from werkzeug.wrappers import Request, Response
 
+from bsched_files.project_settings import Settings
+
 from .badges import badges_of, kinds_of_badges
 from .charts import chart_of
 from .credit_days import CreditDays
@@ -10,7 +12,6 @@ from .directory import MOST_SEARCH, Computer, Directory, User
 from .http_messages import query_of
 from .languages import language_of
 from .page_numbers import PageOf, page_of
-from .settings import Settings
 from .statements import Statements
 from .teams import Teams
 from .templates import Templates

@@ -1,26 +1,4 @@
-"""The small texts of the profile, and texts that fit into XML."""
-import re
-
-WORD = re.compile(r"[A-Za-z0-9_.-]{1,64}")
-# the characters that XML 1.0 does not allow, not even escaped (section 2.2, "Characters")
-NO_XML = re.compile("[^\t\n\r\x20-\ud7ff\ue000-\ufffd\U00010000-\U0010ffff]")
-
-
-def is_word(value: object) -> bool:
-    """Returns whether a value is a word of the profile."""
-    return isinstance(value, str) and WORD.fullmatch(value) is not None
-
-
-def cut_to_bytes(text: str, most: int) -> str:
-    """Returns the longest front of a text that takes at most this many bytes of UTF-8, with no part of a
-    character.
-    """
-    return text.encode()[:most].decode(errors="ignore")
-
-
-def xml_text(text: str) -> str:
-    """Returns a text in which each character that XML does not allow is U+FFFD."""
-    return NO_XML.sub("\ufffd", text)
+"""Texts as BOINC's client compares them, and keys as an operator may see them."""
 
 
 def in_small_letters(text: str) -> str:

@@ -4,7 +4,7 @@ ElementTree writes the same bytes, and takes several times as long: it makes an 
 """
 import re
 
-from .words import xml_text
+from bsched_files.texts import xml_text
 
 INDENT = "    "
 # each character that must be escaped in a text, or that XML 1.0 does not allow

@@ -11,11 +11,13 @@ from bsched_bridge.current_catalogue import CatalogueReader
 from bsched_bridge.host_rules import HostRuleReader
 from bsched_bridge.passwords import Cost, Passwords
 from bsched_bridge.scheduler import Scheduler
-from bsched_bridge.settings import read_settings
 from bsched_bridge.state_file import StateFile
 from bsched_bridge.upload_store import open_store
+from bsched_files.project_settings import read_settings
 
 BRIDGE = Path(__file__).resolve().parent.parent
+# of a process that runs the bridge of this clone
+ENVIRONMENT = {"PYTHONPATH": f"{BRIDGE}:{BRIDGE.parent / 'files'}", "PYTHONDONTWRITEBYTECODE": "1"}
 MEMORY = "/dev/shm"
 CATALOGUE = """\
 code_sign_key = "key"

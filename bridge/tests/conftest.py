@@ -105,8 +105,8 @@ def file_bridge(file_project: Path, twin: Twin, monkeypatch: pytest.MonkeyPatch)
 @pytest.fixture
 def full_bridge(file_project: Path, twin: Twin, monkeypatch: pytest.MonkeyPatch) -> Iterator[Bridge]:
     """A bridge of a project of bsched-project, with accounts, output files, and what the tools wrote."""
-    monkeypatch.setattr("bsched_bridge.settings.project_of", lambda _path: "sums")
-    monkeypatch.setattr("bsched_bridge.tool_files.STAMPS", file_project / "timers")
+    monkeypatch.setattr("bsched_files.project_settings.project_of", lambda _path: "sums")
+    monkeypatch.setattr("bsched_files.timers.STAMPS", file_project / "timers")
     monkeypatch.setattr("bsched_bridge.scheduler.PAUSE_SECONDS", 0.0)
     write_tool_outputs(file_project)
     settings = file_project / "bridge.toml"

@@ -12,7 +12,8 @@ from concurrent.futures import ThreadPoolExecutor
 from pathlib import Path
 
 sys.dont_write_bytecode = True
-sys.path[:0] = [str(Path(__file__).resolve().parent.parent)]
+BRIDGE = Path(__file__).resolve().parent.parent
+sys.path[:0] = [str(BRIDGE), str(BRIDGE.parent / "files")]
 
 from bsched_bridge.calls import call_text  # noqa: E402
 from bsched_bridge.client_requests import MOST_BYTES  # noqa: E402

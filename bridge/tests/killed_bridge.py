@@ -2,7 +2,7 @@
 
 usage: killed_bridge.py SETTINGS SOCKET N before|after
 SOCKET is the descriptor of a socket that listens.
-PYTHONPATH must have the folders bridge and bench.
+PYTHONPATH must have the folders bridge, bench and files.
 """
 import os
 import signal
@@ -17,8 +17,8 @@ import waitress
 from bsched_bridge.application import Application
 from bsched_bridge.catalogue import read_catalogue
 from bsched_bridge.scheduler import Scheduler
-from bsched_bridge.settings import read_settings
 from bsched_bridge.state_file import StateFile
+from bsched_files.project_settings import read_settings
 
 
 class Killed(joining.Stopped):

@@ -1,12 +1,12 @@
 """The replies of the bridge as ElementTree writes them. Those of client_replies must have the same bytes."""
 import json
+from decimal import Decimal
 from xml.etree.ElementTree import Element, SubElement
 
 from bsched_bridge.catalogue import App, Catalogue, MissingFile, Version, Work
 from bsched_bridge.client_replies import (
     ACCOUNT,
     KEY_CHANGED,
-    MILLICREDITS,
     NO_JOBS,
     SCHEDULER_VERSION,
     STATUS,
@@ -24,7 +24,7 @@ from bsched_bridge.recent_credit import Recent
 from bsched_bridge.scheduler import Job, Reply
 from bsched_bridge.upload_tokens import UploadTokens
 from bsched_bridge.uploads import PATH as UPLOAD_PATH
-from bsched_bridge.words import xml_text
+from bsched_files.texts import MILLICREDITS, xml_text
 
 
 def add_message(parent: Element, text: str, priority: str) -> None:
@@ -82,8 +82,8 @@ class PlainReplies:
         add(root, "user_name", reply.user_name)
         if reply.team_name is not None:
             add(root, "team_name", reply.team_name)
-        add(root, "user_total_credit", f"{reply.user_total_credit / MILLICREDITS:.3f}")
-        add(root, "host_total_credit", f"{reply.host_total_credit / MILLICREDITS:.3f}")
+        add(root, "user_total_credit", f"{Decimal(reply.user_total_credit) / MILLICREDITS:.3f}")
+        add(root, "host_total_credit", f"{Decimal(reply.host_total_credit) / MILLICREDITS:.3f}")
         if recent is not None:
             add(root, "user_expavg_credit", f"{recent.user:.6f}")
             add(root, "host_expavg_credit", f"{recent.host:.6f}")
@@ -241,9 +241,9 @@ class PlainReplies:
         add(element, "name", job.wu_name)
         add(element, "app_name", job.app_name)
         add(element, "rsc_fpops_est", operations)
-        add(element, "rsc_fpops_bound", operations * app.fpops_bound_factor)
-        add(element, "rsc_memory_bound", app.rsc_memory_bound)
-        add(element, "rsc_disk_bound", app.rsc_disk_bound)
+        add(element, "rsc_fpops_bound", operations * app.bounds.factor)
+        add(element, "rsc_memory_bound", app.bounds.memory)
+        add(element, "rsc_disk_bound", app.bounds.disk)
         if work.command_line:
             add(element, "command_line", work.command_line)
         for file in work.input_files:

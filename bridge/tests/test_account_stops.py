@@ -21,7 +21,7 @@ from twin import Twin
 from bsched_bridge.scheduler import NoAnswer
 
 EMAIL = "ann@sums.example"
-PACKAGES = f"{BRIDGE}:{BRIDGE.parent / 'bench'}"
+PACKAGES = f"{BRIDGE}:{BRIDGE.parent / 'bench'}:{BRIDGE.parent / 'files'}"
 FULL = '{"error":"table_full","number":18}'
 # the answers to the first imports; later answers are good
 PASTS: dict[str, list[str]] = {

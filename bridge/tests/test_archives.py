@@ -13,8 +13,8 @@ from twin import Twin
 
 from bsched_bridge.archives import Archives, read_archives
 from bsched_bridge.hosts import Key
-from bsched_bridge.operator_files import OperatorFault
-from bsched_bridge.settings import read_settings
+from bsched_files.project_settings import read_settings
+from bsched_files.toml_entries import OperatorFault
 
 
 SETTINGS = {"max_hosts": 100, "operator_key": "change-this-key"}

@@ -12,7 +12,7 @@ from typing import Any, cast
 from urllib.parse import urlencode
 
 import pytest
-from bridges import Bridge
+from bridges import ENVIRONMENT, Bridge
 from joining import CLIENT, client_hash, create, look_up
 from messages import request, value
 
@@ -360,6 +360,5 @@ def test_a_second_bridge_is_refused_while_a_command_works(project: Path, open_br
 
 def test_the_version() -> None:
     command = [sys.executable, "-m", "bsched_bridge", "--version"]
-    bridge = os.path.dirname(os.path.dirname(os.path.abspath(__file__)))
-    completed = subprocess.run(command, capture_output=True, text=True, timeout=600, cwd=bridge)
+    completed = subprocess.run(command, capture_output=True, text=True, timeout=600, env=ENVIRONMENT)
     assert re.fullmatch(r"bsched-bridge \d+\.\d+\.\d+\n", completed.stdout)

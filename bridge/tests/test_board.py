@@ -17,7 +17,7 @@ from bsched_bridge.board import Board, age_text, seconds_text
 from bsched_bridge.hosts import MOST_NUMBER
 from bsched_bridge.limits import RecentCounts
 from bsched_bridge.measurements import End
-from bsched_bridge.settings import project_of
+from bsched_files.project_settings import project_of
 
 KEY = "change-this-key"
 FORM = "application/x-www-form-urlencoded"
@@ -275,7 +275,7 @@ def test_a_scheduler_that_does_not_answer(bridge: Bridge, twin: Twin) -> None:
 
 
 def test_the_name_of_a_project(tmp_path: Path, monkeypatch: pytest.MonkeyPatch) -> None:
-    monkeypatch.setattr("bsched_bridge.settings.PROJECTS", tmp_path)
+    monkeypatch.setattr("bsched_files.project_settings.PROJECTS", tmp_path)
     monkeypatch.chdir(tmp_path)
     assert project_of(tmp_path / "sums" / "bridge" / "bridge.toml") == "sums"
     assert project_of(Path("sums/bridge/bridge.toml")) == "sums"

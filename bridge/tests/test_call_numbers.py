@@ -18,10 +18,11 @@ from bsched_bridge.call_numbers import (
     KnownHost,
     TooManyHosts,
 )
-from bsched_bridge.credit_days import DAY, CreditDay, CreditDays, StoredDay
+from bsched_bridge.credit_days import CreditDay, CreditDays, StoredDay
 from bsched_bridge.hosts import FIRST_KEY, MOST_NUMBER, Hosts, Key
 from bsched_bridge.scheduler import Job, Reply
 from bsched_bridge.state_file import StateFile
+from bsched_files.moments import DAY
 
 KEY = Key("ann-key", "c1")
 JOB = Job("u1_0", "u1", "sum", "linux", 1, 60, 1000, False)

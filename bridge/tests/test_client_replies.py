@@ -9,17 +9,17 @@ from messages import FIRST, jobs, request
 from plain_replies import PlainReplies
 from twin import Twin
 
-from bsched_bridge.catalogue import App, Catalogue, FileFolder, InputFile, MissingFile, StoredFile, Version
+from bsched_bridge.catalogue import App, Catalogue, FileFolder, MissingFile, StoredFile, Version
 from bsched_bridge.catalogue import VersionFile, Work
 from bsched_bridge.client_replies import ReplyWriter
 from bsched_bridge.client_requests import ClientRequest, read_request
 from bsched_bridge.exchange import PutOff
-from bsched_bridge.output_files import OutputFile
 from bsched_bridge.plan_classes import PlanClass
 from bsched_bridge.preferences import Preferences
 from bsched_bridge.recent_credit import Recent
 from bsched_bridge.scheduler import Job, Reply
 from bsched_bridge.upload_tokens import UploadTokens
+from bsched_files.catalogue import Bounds, InputFile, OutputFile
 
 written = Preferences.written
 # texts that must be escaped, that XML does not allow, and any others
@@ -60,9 +60,9 @@ def catalogue() -> Catalogue:
     inputs = (InputFile("{workunit}.txt", "numbers"), InputFile("two.txt", "two.txt"))
     outputs = (OutputFile("out", 20_000, False, True), OutputFile("log", 1000, True, False))
     apps = [
-        App("plain", "Sums & more", 10**8, 10**9, 10, False, Work("", ())),
-        App("files", "<Files>", 5, 6, 7, True, Work("--name {workunit} & <x>", inputs), outputs),
-        App("lacks", "Lacks", 5, 6, 7, False, Work("", (InputFile("missing", "x"),))),
+        App("plain", "Sums & more", Bounds(10**8, 10**9, 10), False, Work("", ())),
+        App("files", "<Files>", Bounds(5, 6, 7), True, Work("--name {workunit} & <x>", inputs), outputs),
+        App("lacks", "Lacks", Bounds(5, 6, 7), False, Work("", (InputFile("missing", "x"),))),
     ]
     classes = [
         PlanClass("mt", 2, 16, None, 1.0, None, None, "--threads {ncpus}"),

@@ -16,8 +16,8 @@ from bsched_bridge import catalogue, current_catalogue
 from bsched_bridge.catalogue import FileFolder, MissingFile, own_line
 from bsched_bridge.code_signing import file_md5, signature_text
 from bsched_bridge.current_catalogue import CatalogueReader
-from bsched_bridge.operator_files import OperatorFault
-from bsched_bridge.settings import read_settings
+from bsched_files.project_settings import read_settings
+from bsched_files.toml_entries import OperatorFault
 
 
 @pytest.fixture(autouse=True)
@@ -67,7 +67,8 @@ def test_a_fault_keeps_the_former_catalogue_and_is_logged_once(
     for _ in range(3):
         assert value(bridge.call(request()), "code_sign_key") is not None
     path = bridge.folder / "catalogue.toml"
-    assert errors(caplog) == [f"the catalogue stays as it was: {path}: line 6: titel is not known here"]
+    fault = "titel is not known here: is title meant?"
+    assert errors(caplog) == [f"the catalogue stays as it was: {path}: line 6: {fault}"]
     assert bridge.application.catalogue.apps["sum"].title == "Sums & more"
     edit(bridge.folder, "titel = 3", 'title = "Good"')
     assert bridge.application.catalogue.apps["sum"].title == "Good"

@@ -33,8 +33,8 @@ from bsched_bridge.digest_programs import (
 )
 from bsched_bridge.digest_queue import DigestQueue
 from bsched_bridge.handed_out import HandedOut
-from bsched_bridge.operator_files import OperatorFault
-from bsched_bridge.output_files import OutputFile
+from bsched_files.catalogue import OutputFile
+from bsched_files.toml_entries import OperatorFault
 
 EXAMPLES = Path(__file__).resolve().parent.parent.parent / "examples" / "digest_programs"
 OUT = OutputFile("out", 1000, False, True), OutputFile("log", 1000, True, False)

@@ -15,7 +15,8 @@ from bsched_bridge.handed_out import HandedJob, Outcome
 from bsched_bridge.hosts import Key
 from bsched_bridge.limits import UsedSeconds
 from bsched_bridge.measurements import WhyPutOff
-from bsched_bridge.output_files import OutputFile, StoredOutput
+from bsched_files.catalogue import OutputFile
+from bsched_files.uploads import StoredOutput
 
 PROGRAM = DigestProgram(Path("/usr/bin/true"), 10, None)
 OUT = (OutputFile("out", 100, False, True),)

@@ -55,7 +55,7 @@ def served(project: Path, twin: Twin) -> Iterator[tuple[int, "subprocess.Popen[s
     process = subprocess.Popen(
         command(port),
         cwd=project,
-        env={"PYTHONPATH": str(BRIDGE), "PYTHONDONTWRITEBYTECODE": "1"},
+        env={"PYTHONPATH": f"{BRIDGE}:{BRIDGE.parent / 'files'}", "PYTHONDONTWRITEBYTECODE": "1"},
         stdout=subprocess.PIPE,
         stderr=subprocess.STDOUT,
         text=True,

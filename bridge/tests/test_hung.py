@@ -14,7 +14,7 @@ from messages import request
 from twin import Twin
 
 from bsched_bridge.scheduler import Hung, NoAnswer, Refusal, Scheduler, read_refusal
-from bsched_bridge.settings import Address
+from bsched_files.project_settings import Address
 
 
 @pytest.fixture

@@ -1,19 +1,21 @@
 """Faults of the settings and of the catalogue are reported with their line."""
 import re
+import shutil
 import subprocess
 import sys
+import tomllib
 from pathlib import Path
 from typing import Any
 
 import pytest
-from bridges import BRIDGE
+from bridges import ENVIRONMENT
 from served import free_port
 from twin import Twin
 
 from bsched_bridge.catalogue import read_catalogue
 from bsched_bridge.code_signing import new_key, signature_text
-from bsched_bridge.operator_files import OperatorFault
-from bsched_bridge.settings import AccountSettings, Address, HostRules, read_settings
+from bsched_files.project_settings import AccountSettings, Address, HostRules, read_settings
+from bsched_files.toml_entries import OperatorFault
 
 
 def test_settings(project: Path) -> None:
@@ -236,11 +238,43 @@ def ordered(folder: Path, *words: str) -> Any:
     return subprocess.run(
         [sys.executable, "-m", "bsched_bridge", *words],
         cwd=folder,
-        env={"PYTHONPATH": str(BRIDGE), "PYTHONDONTWRITEBYTECODE": "1"},
+        env=ENVIRONMENT,
         capture_output=True,
         text=True,
         timeout=600,
     )
+
+
+def test_settings_are_printed(project: Path) -> None:
+    completed = ordered(
+        project, "--config", "bridge.toml", "--print", "url", "most_result_bytes", "most_upload"
+    )
+    url = next(line for line in (project / "bridge.toml").read_text().splitlines() if line.startswith("url"))
+    assert completed.stdout.splitlines() == [url.partition('"')[2].partition('"')[0], "0", "16777216"]
+    completed = ordered(project, "--config", "none.toml", "--print", "url")
+    assert (completed.returncode, completed.stderr) == (
+        1,
+        "bsched-bridge: none.toml: No such file or directory\n",
+    )
+    assert ordered(project, "--config", "bridge.toml", "--print", "operator_key").returncode == 64
+
+
+def test_ports_are_set(project: Path) -> None:
+    folder = project / "sums"
+    folder.mkdir()
+    (folder / "environment").write_text("PORT=8080\nBRIDGE_PORT=8081\n")
+    (folder / "bridge").mkdir()
+    shutil.copy(project / "bridge.toml", folder / "bridge")
+    words = "--config", "bridge.toml", "--set-ports"
+    assert ordered(folder / "bridge", *words, "9001", "9002").returncode == 0
+    assert (folder / "environment").read_text() == "PORT=9001\nBRIDGE_PORT=9002\n"
+    settings = tomllib.loads((folder / "bridge" / "bridge.toml").read_text())
+    assert (settings["scheduler"], settings["listen"]) == ("127.0.0.1:9001", "127.0.0.1:9002")
+    for port in ("0", "65536", "x"):
+        completed = ordered(folder / "bridge", *words, "9001", port)
+        assert completed.returncode == 64 and "is no port" in completed.stderr
+    completed = ordered(project, *words, "9001", "9002")
+    assert completed.returncode == 1 and "environment: No such file or directory" in completed.stderr
 
 
 def at_port(project: Path, port: int) -> None:

@@ -14,9 +14,11 @@ from joining import CLIENT, create, look_up
 from messages import request
 from twin import Twin
 
-from bsched_bridge.operator_files import OperatorFault
+from bsched_bridge.pictures import TITLES
 from bsched_bridge.templates import FOLDER, contact, linked, paragraphs
 from bsched_bridge.texts import page_credits
+from bsched_files.plots import COMPUTERS, CREDIT, RESULTS
+from bsched_files.toml_entries import OperatorFault
 
 EMPTY = {"meta", "link", "input", "br", "img"}
 FORM = "application/x-www-form-urlencoded"
@@ -357,6 +359,10 @@ def plots_of(project: Path, *names: str) -> None:
 def images(bridge: Bridge) -> list[dict[str, str]]:
     """Returns the pictures on the project's page."""
     return [fields for tag, fields in page_of(bridge.got("/p/")).tags if tag == "img"]
+
+
+def test_the_titles_of_plots_are_translated() -> None:
+    assert set(TITLES) == {RESULTS, COMPUTERS, CREDIT}
 
 
 def test_the_plots_of_the_last_month(project: Path, bridge: Bridge) -> None:

@@ -8,8 +8,8 @@ from bridges import Bridge
 from messages import FIRST, element_at, jobs, request
 
 from bsched_bridge.client_requests import ClientRequest, Coproc, read_request
-from bsched_bridge.operator_files import OperatorFault
 from bsched_bridge.plan_classes import PlanClass, by_resource
+from bsched_files.toml_entries import OperatorFault
 
 X86, I686 = "x86_64-pc-linux-gnu", "i686-pc-linux-gnu"
 MT = PlanClass("mt", 2, 16, None, 1.0, None, None, "--nthreads {ncpus}")

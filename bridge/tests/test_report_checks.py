@@ -14,7 +14,8 @@ from uploading import file_info, lost_report, on_disk, report, sent, sha256_of, 
 
 from bsched_bridge.handed_out import HandedOut
 from bsched_bridge.hosts import Key
-from bsched_bridge.output_files import OutputFile, StoredOutput, compared_text
+from bsched_files.catalogue import OutputFile
+from bsched_files.uploads import StoredOutput, compared_text
 
 PLAIN = """\
 [[app]]

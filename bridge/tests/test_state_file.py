@@ -17,7 +17,8 @@ from bsched_bridge.descriptions import Description
 from bsched_bridge.directory import Directory
 from bsched_bridge.hosts import Hosts, Key
 from bsched_bridge.members import Members
-from bsched_bridge.state_file import SCHEMA_VERSION, StateFault, StateFile, WaitingWrites
+from bsched_bridge.state_file import StateFault, StateFile, WaitingWrites
+from bsched_files.bridge_state import STATE, UPGRADES
 
 # the tables of version 1, as a bridge of 2026-11-27 made them
 VERSION_1 = """
@@ -387,7 +388,7 @@ def test_a_newer_file_is_refused_and_not_changed(tmp_path: Path) -> None:
     path = tmp_path / "state.db"
     StateFile(path).close()
     connection = sqlite3.connect(path)
-    connection.execute(f"PRAGMA user_version = {SCHEMA_VERSION + 1}")
+    connection.execute(f"PRAGMA user_version = {STATE.version + 1}")
     connection.close()
     before = contents(path)
     with pytest.raises(StateFault) as raised:
@@ -444,11 +445,9 @@ def test_an_upgrade_that_is_stopped_changes_nothing(
     path = tmp_path / "state.db"
     old_file(path, version)
     before = contents(path)
-    from bsched_bridge import state_file
-
-    statements = [part for part in state_file.UPGRADES[version].split(";\n") if part.strip()]
+    statements = [part for part in UPGRADES[version].split(";\n") if part.strip()]
     for count in range(len(statements) + 1):
-        monkeypatch.setitem(state_file.UPGRADES, version, ";\n".join([*statements[:count], "SELECT stop()"]))
+        monkeypatch.setitem(UPGRADES, version, ";\n".join([*statements[:count], "SELECT stop()"]))
         with pytest.raises(StateFault):
             StateFile(path)
         assert contents(path) == before
@@ -503,11 +502,9 @@ def test_a_stopped_upgrade_of_version_4_changes_nothing(
     path = tmp_path / "state.db"
     file_of_version_4(path)
     before = contents(path)
-    from bsched_bridge import state_file
-
-    statements = [part for part in state_file.UPGRADES[4].split(";\n") if part.strip()]
+    statements = [part for part in UPGRADES[4].split(";\n") if part.strip()]
     for count in range(len(statements) + 1):
-        monkeypatch.setitem(state_file.UPGRADES, 4, ";\n".join([*statements[:count], "SELECT stop()"]))
+        monkeypatch.setitem(UPGRADES, 4, ";\n".join([*statements[:count], "SELECT stop()"]))
         with pytest.raises(StateFault):
             StateFile(path)
         assert contents(path) == before

@@ -9,7 +9,7 @@ from pathlib import Path
 from time import time
 
 import pytest
-from bridges import BRIDGE, Bridge
+from bridges import ENVIRONMENT, Bridge
 from messages import FIRST, names, request
 from test_upload_sweep import later, ran
 from uploading import AGAIN, DONE, NEVER, on_disk, report, sent, sha256_of, upload, url_of
@@ -18,8 +18,9 @@ from bsched_bridge.handed_out import HandedJob, HandedOut
 from bsched_bridge.hosts import Key
 from bsched_bridge.output_files import upload_name
 from bsched_bridge.state_file import StateFault
-from bsched_bridge.upload_sweep import DAY, Swept, sweep
+from bsched_bridge.upload_sweep import Swept, sweep
 from bsched_bridge.upload_tables import UploadTables
+from bsched_files.moments import DAY
 
 SIZE, MOST = 20_000, 1_000_000  # max_nbytes of the file `out`, and most_bytes
 TENTH = MOST // 10
@@ -230,7 +231,7 @@ def ordered(bridge: Bridge, *words: str) -> tuple[int, str, str]:
         [sys.executable, "-m", "bsched_bridge", "uploads", "--config", bridge.folder / "bridge.toml", *words],
         capture_output=True,
         text=True,
-        cwd=BRIDGE,
+        env=ENVIRONMENT,
         timeout=600,
     )
     return completed.returncode, completed.stdout, completed.stderr

@@ -9,10 +9,11 @@ from uploading import file_info, on_disk, report, sent, sha256_of, tokens_of, up
 from bsched_bridge import sweep_command
 from bsched_bridge.client_requests import read_request
 from bsched_bridge.hosts import Key
-from bsched_bridge.operator_files import OperatorFault
-from bsched_bridge.output_files import OutputFile
 from bsched_bridge.state_file import StateFault
-from bsched_bridge.upload_sweep import DAY, Decisions, Swept, sweep
+from bsched_bridge.upload_sweep import Decisions, Swept, sweep
+from bsched_files.catalogue import OutputFile
+from bsched_files.moments import DAY
+from bsched_files.toml_entries import OperatorFault
 
 RIGHT, WRONG = b"right\n", b"wrong\n"
 

@@ -35,9 +35,9 @@ from bsched_bridge import uploads
 from bsched_bridge.application import UPLOADS_WAITING
 from bsched_bridge.catalogue import read_catalogue
 from bsched_bridge.limits import Places
-from bsched_bridge.operator_files import OperatorFault
-from bsched_bridge.settings import read_settings
 from bsched_bridge.upload_store import UploadStore, check_uploads
+from bsched_files.project_settings import read_settings
+from bsched_files.toml_entries import OperatorFault
 
 
 def given(bridge: Bridge, **more: Any) -> dict[str, str]:

@@ -13,7 +13,7 @@ from twin import Twin
 from bsched_bridge import large_calls, scheduler, scheduler_messages
 from bsched_bridge.client_requests import ClientRequest
 from bsched_bridge.measurements import End
-from bsched_bridge.settings import Address, read_settings
+from bsched_files.project_settings import Address, read_settings
 from bsched_bridge.vain_calls import VainCalls
 
 TOO_OFTEN = b"ask too often at the moment"

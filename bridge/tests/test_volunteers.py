@@ -16,10 +16,11 @@ from test_pages import Page, page_of, posted, with_key
 from twin import Twin
 
 from bsched_bridge.charts import chart_of
-from bsched_bridge.credit_days import DAY, CreditDay, CreditDays
+from bsched_bridge.credit_days import CreditDay, CreditDays
 from bsched_bridge.descriptions import Description, one_line, read_description, system_of
 from bsched_bridge.hosts import MOST_NUMBER, Key
 from bsched_bridge.scheduler import Reply
+from bsched_files.moments import DAY
 
 TODAY = 20_000
 FIRST_XML = Path(__file__).resolve().parent / "requests" / "first.xml"

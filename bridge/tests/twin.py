@@ -9,7 +9,7 @@ from typing import Any
 import plain
 from plain_formats import Refused
 
-from bsched_bridge.settings import Address
+from bsched_files.project_settings import Address
 
 IMPORTS = {
     "accounts": "authenticator,name\nann-key,Ann\nbob-key,Bob\n",

@@ -10,7 +10,8 @@ from served import NotStarted, start, stop
 
 START_SECONDS, ORDER_SECONDS = 120, 120
 BRIDGE = Path(__file__).resolve().parent.parent
-PACKAGES = f"{BRIDGE}:{BRIDGE.parent / 'tools'}"  # the tools open the archives of a bridge
+TOP = BRIDGE.parent
+PACKAGES = f"{BRIDGE}:{TOP / 'files'}:{TOP / 'tools'}"  # the tools open the archives of a bridge
 CLIENT_OPTIONS = ["--allow_multiple_clients", "--skip_cpu_benchmarks", "--no_gpus", "--no_info_fetch"]
 CLIENT_CONFIG = """\
 <cc_config>
@@ -110,7 +111,7 @@ class Bridge(Program):
             words,
             folder,
             port,
-            {"PYTHONPATH": f"{code}:{PACKAGES}", "PYTHONDONTWRITEBYTECODE": "1"},
+            {"PYTHONPATH": f"{code}:{code.parent / 'files'}:{PACKAGES}", "PYTHONDONTWRITEBYTECODE": "1"},
         )
 
     def order(self, *words: str) -> str:

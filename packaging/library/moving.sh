@@ -118,16 +118,13 @@ hand_over_project() {
 
 # Gives a project other ports if its own are taken here.
 choose_other_ports() {
-  local folder=$1 listen
-  port=$(sed -n 's/^PORT=//p' "$folder/environment") listen=$(sed -n 's/^BRIDGE_PORT=//p' "$folder/environment")
-  [[ $port =~ ^[0-9]+$ && $listen =~ ^[0-9]+$ ]] || fail "the project has no valid PORT and BRIDGE_PORT"
+  local folder=$1 listen message
+  read_ports "$folder"
   ! is_taken "$port" && ! is_taken "$listen" && return
   port=''
   choose_port
-  sed -i -E -e "s/^PORT=.*/PORT=$port/" -e "s/^BRIDGE_PORT=.*/BRIDGE_PORT=$((port + 1))/" "$folder/environment"
-  [ ! -e "$folder/bridge/bridge.toml" ] ||
-    sed -i -E -e "s/^(scheduler.*127\.0\.0\.1:)[0-9]+/\1$port/" -e "s/^(listen.*127\.0\.0\.1:)[0-9]+/\1$((port + 1))/" \
-      "$folder/bridge/bridge.toml"
+  message=$(bsched-bridge --config "$folder/bridge/bridge.toml" --set-ports "$port" $((port + 1)) 2>&1) ||
+    fail "its ports can't be set: ${message#bsched-bridge: }"
   echo "Its ports are taken here, so it gets $port and $((port + 1))."
 }
 

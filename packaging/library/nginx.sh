@@ -1,22 +1,9 @@
 # The files for nginx of a project. bsched-project reads this file.
 # shellcheck shell=bash
 
-DEFAULT_RESULT_BYTES=1000000000 # most_result_bytes of a bridge.toml without this key
-MOST_HEAD=8192                  # bytes of an upload before those of its file
-NO_UPLOADS=16777216             # bytes of an upload if the bridge takes none
-
-# Prints the value of a key of the settings of a project's bridge.
-bridge_value() {
-  sed -nE "s/^$2[[:space:]]*=[[:space:]]*\"([^\"]*)\".*/\1/p" "$PROJECTS/$1/bridge/bridge.toml"
-}
-
-# Prints how many bytes an upload may have. The bridge takes no larger one, for any catalogue.
-most_upload() {
-  local settings=$PROJECTS/$1/bridge/bridge.toml nbytes
-  grep -q '^[[:space:]]*\[[[:space:]]*uploads[[:space:]]*\]' "$settings" || { echo "$NO_UPLOADS" && return; }
-  nbytes=$(sed -nE 's/^[[:space:]]*most_result_bytes[[:space:]]*=[[:space:]]*([^[:space:]#]*).*/\1/p' "$settings")
-  nbytes=${nbytes:-$DEFAULT_RESULT_BYTES}
-  [[ $nbytes =~ ^[1-9][0-9_]*$ ]] && echo $((${nbytes//_/} + MOST_HEAD))
+# Prints some settings of a project's bridge, as the bridge reads them: each on a line.
+bridge_values() {
+  bsched-bridge --config "$PROJECTS/$1/bridge/bridge.toml" --print "${@:2}"
 }
 
 # Prints a location that nginx answers by itself. A URL may have a key, so nothing is logged.
@@ -65,15 +52,16 @@ filled() {
 # Writes the files for nginx of a project. They are not in its own folder: that is the user bsched's, who could put
 # other lines or a link there before root installs them.
 write_nginx() {
-  local project=$1 folder=$PROJECTS-nginx/$1 url listen most file
-  [ -e "$PROJECTS/$project/bridge/bridge.toml" ] || fail "there is no bridge in $PROJECTS/$project"
+  local project=$1 folder=$PROJECTS-nginx/$1 settings=$PROJECTS/$1/bridge/bridge.toml values url most file
+  [ -e "$settings" ] || fail "there is no bridge in $PROJECTS/$project"
   [ -d "$TEMPLATES/nginx" ] || fail "the bridge is not installed: apt install bsched-tools"
-  url=$(bridge_value "$project" url)
-  is_url "$url" || fail "$PROJECTS/$project/bridge/bridge.toml has no url of the form https://NAME/PATH/"
-  [[ $url = https://* ]] || fail "the url in $PROJECTS/$project/bridge/bridge.toml is $url: these files are for https"
-  listen=$(sed -n 's/^BRIDGE_PORT=//p' "$PROJECTS/$project/environment")
-  [[ $listen =~ ^[0-9]+$ ]] || fail "$PROJECTS/$project/environment has no valid BRIDGE_PORT"
-  most=$(most_upload "$project") || fail "$PROJECTS/$project/bridge/bridge.toml has no valid most_result_bytes"
+  # the bridge takes no upload with more bytes than most_upload, for any catalogue
+  values=$(bridge_values "$project" url most_upload 2>&1) || fail "${values#bsched-bridge: }"
+  url=${values%%$'\n'*} most=${values##*$'\n'}
+  is_url "$url" || fail "$settings has no url of the form https://NAME/PATH/"
+  [[ $url = https://* ]] || fail "the url in $settings is $url: these files are for https"
+  [[ $most =~ ^[0-9]+$ ]] || fail "bsched-bridge prints $most and no number of bytes"
+  read_ports "$PROJECTS/$project"
   mkdir -p "$folder" || fail "$folder can't be made"
   for file in limits locations site; do
     filled "$TEMPLATES/nginx/$file.conf" "$project" "$url" "$listen" "$most" > "$folder/$file.conf" ||

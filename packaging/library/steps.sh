@@ -54,7 +54,7 @@ END
 
 # Prints how volunteers reach a project, if its URL needs nginx.
 print_nginx_step() {
-  [[ $(bridge_value "$1" url) = https:* ]] || return 0
+  [[ $(bridge_values "$1" url 2> /dev/null) = https:* ]] || return 0
   cat << END
 
 Volunteers need nginx with a certificate for the name in the URL. This writes the lines for

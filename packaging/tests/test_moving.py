@@ -17,8 +17,8 @@ TWIN = TOP / "bridge" / "trial" / "twin"
 # the tools of this clone; systemctl writes down what it is asked
 MORE_STUBS = f"""
 bsched() {{ {TWIN} "$@"; }}
-bsched-tools() {{ PYTHONPATH={TOP}/tools {sys.executable} -m bsched_tools "$@"; }}
-bsched-bridge() {{ PYTHONPATH={TOP}/bridge {sys.executable} -m bsched_bridge "$@"; }}
+bsched-tools() {{ PYTHONPATH={TOP}/tools:{TOP}/files {sys.executable} -m bsched_tools "$@"; }}
+bsched-bridge() {{ PYTHONPATH={TOP}/bridge:{TOP}/files {sys.executable} -m bsched_bridge "$@"; }}
 systemctl() {{
   echo "$*" >> $PROJECTS/../systemctl
   case "$1 $3" in
@@ -50,9 +50,9 @@ def machines(tmp_path: Path) -> tuple[Machine, Machine]:
     bridge = first.projects / "sums" / "bridge"
     (bridge / "files" / "sum_1").write_text("program\n")
     command = [sys.executable, "-m", "bsched_bridge", "keygen"]
-    subprocess.run(command, check=True, cwd=bridge, env={"PYTHONPATH": f"{TOP}/bridge"})
+    subprocess.run(command, check=True, cwd=bridge, env={"PYTHONPATH": f"{TOP}/bridge:{TOP}/files"})
     command[1:] = ["-c", MAKE_STATE]
-    subprocess.run(command, check=True, cwd=bridge, env={"PYTHONPATH": f"{TOP}/bridge"})
+    subprocess.run(command, check=True, cwd=bridge, env={"PYTHONPATH": f"{TOP}/bridge:{TOP}/files"})
     return first, second
 
 

@@ -63,7 +63,7 @@ def test_what_has_no_files(machine: Machine) -> None:
     assert machine.make("nginx", "others").returncode == 1
     assert machine.make("nginx", "../sums").returncode == 64
     (machine.projects / "sums" / "bridge" / "bridge.toml").write_text("name = 1\n")
-    assert "has no url" in machine.make("nginx", "sums").stderr
+    assert "bridge.toml: line 1: url is missing" in machine.make("nginx", "sums").stderr
 
 
 def test_the_files_are_not_in_the_folder_of_the_bridges_user(machine: Machine, tmp_path: Path) -> None:

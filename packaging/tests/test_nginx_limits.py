@@ -82,8 +82,14 @@ def test_browsers_use_tls_alone_where_it_is_at_its_usual_port(
         ("[ uploads ]\n  most_result_bytes=2000000", 2_008_192),
         ('[uploads]\nfolder = "uploads"', 1_000_008_192),
         ("# most_result_bytes = 5", 16_777_216),
-        ("[uploads]\nmost_result_bytes = 0x100", None),
+        # all that TOML allows
+        ("[uploads]\nmost_result_bytes = 0x100", 8_448),
+        ('uploads = { folder = "u", most_bytes = 1000000000, most_result_bytes = 50_000_000 }', 50_008_192),
+        ('uploads.most_result_bytes = 50_000_000\nuploads.folder = "u"', 50_008_192),
+        ("[uploads]\n'most_result_bytes' = 50_000_000", 50_008_192),
+        ('[accounts]\nterms = """\n[uploads]\nmost_result_bytes = 1\n"""', 16_777_216),
         ('[uploads]\nmost_result_bytes = "5"', None),
+        ("[uploads]\nmost_result_bytes = 0", None),
     ],
 )
 def test_the_largest_upload(machine: Machine, lines: str | None, most: int | None) -> None:
@@ -93,7 +99,7 @@ def test_the_largest_upload(machine: Machine, lines: str | None, most: int | Non
         settings.write_text(f'url = "{URL}"\n{lines}\n')
     completed = machine.make("nginx", "sums")
     if most is None:
-        assert completed.returncode == 1 and "has no valid most_result_bytes" in completed.stderr
+        assert completed.returncode == 1 and "line 3: most_result_bytes is not" in completed.stderr
         return
     assert (completed.returncode, completed.stderr) == (0, "")
     locations = (machine.folder / "projects-nginx" / "sums" / "locations.conf").read_text()

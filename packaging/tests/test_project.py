@@ -18,12 +18,15 @@ PACKAGING = Path(__file__).resolve().parent.parent
 TOP = PACKAGING.parent
 SERVICE, EXAMPLE, TEMPLATE = PACKAGING / "service", TOP / "bridge" / "example", PACKAGING / "project"
 # in place of the programs that need root or an installed package
-STUBS = """
-chown() { :; }
-chgrp() { :; }
-id() { echo 0; }
-runuser() { shift 3; "$@"; }
-bsched() { echo tables > project.db; }
+STUBS = f"""
+chown() {{ :; }}
+chgrp() {{ :; }}
+id() {{ echo 0; }}
+runuser() {{ shift 3; "$@"; }}
+bsched() {{ echo tables > project.db; }}
+bsched-bridge() {{
+  PYTHONPATH={TOP}/bridge:{TOP}/files PYTHONDONTWRITEBYTECODE=1 /usr/bin/python3 -m bsched_bridge "$@"
+}}
 """
 MADE_KEY = re.compile("[0-9a-f]{32}")
 
@@ -321,7 +324,7 @@ def test_the_example_asks_nothing(machine: Machine) -> None:
 def test_the_fault_in_a_file_of_settings_is_named(machine: Machine) -> None:
     stubs = (
         "bsched() { echo 'bsched: settings' >&2; return 1; }\n"
-        f'bsched-tools() {{ PYTHONPATH={TOP}/tools /usr/bin/python3 -m bsched_tools "$@"; }}\n'
+        f'bsched-tools() {{ PYTHONPATH={TOP}/tools:{TOP}/files /usr/bin/python3 -m bsched_tools "$@"; }}\n'
     )
     path = machine.settings("max_host = 7\noperator_key = 'my-own.key_1'")
     completed = machine.make("--settings", path, "sums", stubs=stubs)

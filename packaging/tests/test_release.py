@@ -90,7 +90,7 @@ def synopsis(page: str) -> dict[str, set[str]]:
 
 def offered_by(*args: str) -> set[str]:
     """Returns the options that the help of a command names."""
-    path = {"PYTHONPATH": f"{TOP}/bridge:{TOP}/tools", "PYTHONDONTWRITEBYTECODE": "1"}
+    path = {"PYTHONPATH": f"{TOP}/bridge:{TOP}/files:{TOP}/tools", "PYTHONDONTWRITEBYTECODE": "1"}
     command = [*args, "--help"]
     completed = subprocess.run(command, env=path, capture_output=True, text=True, timeout=600, check=True)
     return set(re.findall(r"(?<![a-z])--[a-z-]+", completed.stdout)) - {"--help"}

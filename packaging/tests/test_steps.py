@@ -34,7 +34,7 @@ def machine(tmp_path: Path) -> Machine:
 
 def stubs_of(machine: Machine) -> str:
     """Returns the stubs with which printed commands run: systemctl says what it enables."""
-    path = f"PYTHONPATH={TOP}/tools:{TOP}/bridge PYTHONDONTWRITEBYTECODE=1"
+    path = f"PYTHONPATH={TOP}/tools:{TOP}/files:{TOP}/bridge PYTHONDONTWRITEBYTECODE=1"
     return (
         f"{MORE_STUBS}\n"
         f"bsched-tools() {{ {path} {sys.executable} -c '{TOOLS}' {machine.projects} {TWIN} \"$@\"; }}\n"

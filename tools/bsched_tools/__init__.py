@@ -1,16 +1,15 @@
 """Tools for the operator of a project: copies while it serves, results, counts, and why a file is refused.
 
 All commands but `copy`, `doctor` and `import` read a copy of the tables. Nothing here writes the tables:
-`import`, `app` and `submit` ask the scheduler, or run bsched. The modules:
+`import`, `app` and `submit` ask the scheduler, or run bsched. The package `bsched_files` has the formats that
+the bridge reads or writes, too. The modules:
 
-faults, files         faults in one line, and files that are written whole or not at all
+faults, files         what ends a step or a command, and files that are written whole or not at all
 holders, stopping     which process has the tables, and how it is stopped for a moment
 taking, copies        the bytes of the tables at one moment, and a folder of copies
 copying               how a copy is made with these
-schemas, tables       the tables in a copy, opened for reading
-workunits             what became of a workunit, by the rules of docs/PROFILE.md
 results, cursors      the results of workunits, and which were given out before
-texts                 texts of strangers, as they are shown on a terminal, in a spreadsheet and in JSON
+texts                 texts of strangers, as they are shown in a line, in a spreadsheet and in JSON
 uploaded, placing     the output files of canonical results, and how they get into an operator's folder
 jobs                  what happened to one workunit, and what one computer did
 stuck, computers      open workunits that nobody can take, and computers with many bad results

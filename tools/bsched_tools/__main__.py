@@ -10,6 +10,14 @@ from pathlib import Path
 from types import FrameType
 from typing import NoReturn
 
+from bsched_files.atomic import replace_file
+from bsched_files.copies import copies_in
+from bsched_files.counts import NAME as COUNTS
+from bsched_files.faults import Fault
+from bsched_files.findings import Finding, Level, worst_of
+from bsched_files.tables import opened
+from bsched_files.texts import shown
+
 from .amounts import count_text
 from .catalogue_file import output_names_of
 from .command_line import NAME, new_parser
@@ -17,23 +25,19 @@ from .copying import copy_tables
 from .counts import as_json, as_lines, as_metrics, counted
 from .doctor import examined
 from .exports import export
-from .faults import Ended, Fault
-from .files import replace_file
+from .faults import Ended
 from .handing import hand_on
 from .health import findings_of, write_findings
 from .history import History
 from .import_files import KINDS, ImportFile, checked
 from .imports import import_file
 from .jobs import host_lines, workunit_lines
-from .levels import Finding, Level, worst_of
 from .mailing import mail_changes
 from .members import agreed_in
 from .projects import PROGRAM, Project, project_of
 from .results import write_results
 from .starts import rows_in, start_text
 from .stuck import named
-from .tables import copies_in, opened
-from .texts import shown
 from .volunteers import Volunteers, ask_bridge, volunteers_of
 from .work_commands import WORK_COMMANDS, say_spoiled
 
@@ -219,16 +223,16 @@ def report(args: Arguments) -> None:
     if project is not None:
         kept, to = project.made(project.work, 0o700), to or project.made(project.units().page, 0o755)
         title, all_copies = title or project.title, copies_of(args, project)
-        replace_file(kept / "counts.json", (f"{line}\n".encode() for line in as_json(counted(all_copies))))
+        replace_file(kept / COUNTS, [f"{counted(all_copies).text()}\n".encode()])
     try:
-        from .month import write_plots
+        from .month import write_month
         from .page import write_report
     except ModuleNotFoundError:
         raise Fault("report: it needs Debian's python3-matplotlib: install that") from None
     written = write_report(copies[0], needed(args, "to", to), title, chosen(project).names, kept)
     if project is not None and kept is not None:
         entries = History(kept).entries
-        write_plots(project.made(kept / "plots", 0o700), entries, entries[-1].moment)
+        write_month(project.made(kept / "plots", 0o700), entries, entries[-1].moment)
     print(written)
 
 
@@ -241,7 +245,7 @@ def health(args: Arguments) -> int:
         units = project.units()
     except Fault as fault:
         found.append(Finding("settings", Level.CRITICAL, str(fault)))
-        units = project.units_by(project.folder / "units.toml", {})
+        units = project.default_units()
     project.become_owner()
     found += findings_of(project, units)
     print_lines(one.line for one in found)

@@ -8,28 +8,29 @@ import argparse
 import csv
 import io
 import re
-import subprocess
 from collections.abc import Iterator
 from dataclasses import dataclass, field
 from pathlib import Path
 from typing import Any
 
+from bsched_files.catalogue import FILE_NAME, MOST_OUTPUTS, UPLOAD_NAME, WORKUNIT
+from bsched_files.counts import MOST
+from bsched_files.faults import Fault
+from bsched_files.programs import run
+from bsched_files.tables import Tables
+from bsched_files.texts import WORD
+
 from .amounts import nbytes
-from .catalogue_file import FILE_NAME, UPLOAD_NAME, WORKUNIT, CatalogueFile, made_for_group, write_file
-from .counts import MOST
-from .faults import Fault
+from .catalogue_file import ProjectCatalogue, made_for_group, write_file
 from .import_files import AGREEMENT, MOST_DISTANCE, read_import
 from .imports import import_file
 from .inputs import digest_of
 from .looks import check_importing, tables_of
 from .projects import Project
-from .settings_file import WORD
-from .tables import Tables
 from .volunteers import command_of_bridge
 
 LINE_FOLDER = "lines"
 SIGN_SECONDS = 60.0
-MOST_OUTPUTS = 20
 VERSIONS = "SELECT num, platform FROM version JOIN app ON app.id = app_id WHERE app.name = ?1"
 SUFFIX = re.compile(r"\.[A-Za-z][A-Za-z0-9]{0,7}")
 
@@ -146,7 +147,7 @@ def agreement_of(tables: Tables, name: str) -> str | None:
     return None if row is None else "exact" if row[0] is None else f"within:{row[0]}"
 
 
-def check_app(catalogue: CatalogueFile, app: NewApp, agreement: str | None) -> None:
+def check_app(catalogue: ProjectCatalogue, app: NewApp, agreement: str | None) -> None:
     """Refuses an application that exists and is another one."""
     if agreement is not None and agreement != app.agreement:
         says = f"it exists with the agreement {agreement}, which can't be changed"
@@ -157,11 +158,10 @@ def check_app(catalogue: CatalogueFile, app: NewApp, agreement: str | None) -> N
             raise Fault(f"{catalogue.path}: {app.name} is there with another {key}: edit it there")
 
 
-def check_plan_class(catalogue: CatalogueFile, platform: str) -> None:
+def check_plan_class(catalogue: ProjectCatalogue, platform: str) -> None:
     """Refuses a plan class, which is after the dot of a platform, that the catalogue does not have."""
     _, _, name = platform.partition(".")
-    classes = catalogue.members.get("plan_class", [])
-    if name and name not in [one.get("name") for one in classes if isinstance(one, dict)]:
+    if name and name not in catalogue.plan_classes():
         lines = f'write [[plan_class]] and, on the next line, name = "{name}" at the end of {catalogue.path}'
         more = 'bridge/README, "Several processors, and coprocessors", has the further keys'
         raise Fault(f"--platform {platform}: there is no [[plan_class]] {name}: {lines}; {more}")
@@ -186,26 +186,25 @@ def is_same(path: Path, file: ProgramFile) -> bool:
     return path.is_file() and digest_of(path) == (file.nbytes, file.sha256)
 
 
-def known_version(catalogue: CatalogueFile, app: NewApp) -> NewVersion | None:
+def known_version(catalogue: ProjectCatalogue, app: NewApp) -> NewVersion | None:
     """Returns the newest version in the catalogue, if it has just the given files."""
-    mine = [one for one in catalogue.versions(app.name) if one.get("platform") == app.platform]
-    newest = max(mine, key=lambda one: int(one.get("version_num", 0)), default=None)
-    if newest is None or len(newest.get("files", [])) != len(app.files):
+    mine = [one for one in catalogue.versions(app.name) if one.platform == app.platform]
+    newest = max(mine, key=lambda one: one.number, default=None)
+    if newest is None or len(newest.files) != len(app.files):
         return None
-    members = sorted(newest["files"], key=lambda one: not one.get("main_program", False))
-    for member, file in zip(members, app.files):
-        open_name = member.get("open_name", member.get("name"))
-        is_named = file.is_main or open_name == file.open_name
-        if not is_named or not is_same(catalogue.files / str(member.get("name")), file):
+    listed = sorted(newest.files, key=lambda one: not one.is_main_program)
+    for one, file in zip(listed, app.files):
+        is_named = file.is_main or (one.open_name or one.name) == file.open_name
+        if not is_named or not is_same(catalogue.files / one.name, file):
             return None
-    return NewVersion(int(newest["version_num"]), [str(member["name"]) for member in members])
+    return NewVersion(newest.number, [one.name for one in listed])
 
 
-def next_version(catalogue: CatalogueFile, app: NewApp, tables: Tables) -> NewVersion:
+def next_version(catalogue: ProjectCatalogue, app: NewApp, tables: Tables) -> NewVersion:
     """Returns the next version: that of other platforms, if this one has none of that number yet. A number
     whose files are there with other bytes is left out: they may wait for their signatures.
     """
-    used = {(int(one.get("version_num", 0)), one.get("platform")) for one in catalogue.versions(app.name)}
+    used = {(one.number, one.platform) for one in catalogue.versions(app.name)}
     used |= {(number, platform) for number, platform in tables.rows(VERSIONS, app.name)}
     number = max((number for number, _ in used), default=1) - 1
     while True:
@@ -224,7 +223,9 @@ def next_version(catalogue: CatalogueFile, app: NewApp, tables: Tables) -> NewVe
 class Addition:
     """The steps by which a version is added. A fault undoes what this run wrote."""
 
-    def __init__(self, project: Project, catalogue: CatalogueFile, app: NewApp, version: NewVersion) -> None:
+    def __init__(
+        self, project: Project, catalogue: ProjectCatalogue, app: NewApp, version: NewVersion
+    ) -> None:
         self.project, self.catalogue, self.app, self.version = project, catalogue, app, version
         self.former: dict[Path, bytes | None] = {}  # of the files that this run wrote; None: there was none
 
@@ -260,12 +261,7 @@ class Addition:
         """Signs the files with a private key."""
         for name in self.version.names:
             command = [*command_of_bridge(), "sign", str(self.catalogue.files / name), "--key", str(key)]
-            try:
-                done = subprocess.run(
-                    command, capture_output=True, text=True, timeout=SIGN_SECONDS, stdin=subprocess.DEVNULL
-                )
-            except (OSError, subprocess.TimeoutExpired) as error:
-                raise Fault(f"{command[0]}: {getattr(error, 'strerror', None) or error}") from None
+            done = run(command, SIGN_SECONDS)
             if done.returncode:
                 raise Fault(done.stderr.strip().removeprefix("bsched-bridge: "))
             self.write(self.signature_path(name), done.stdout.encode())
@@ -343,7 +339,7 @@ def add_app(project: Project, app: NewApp, key: Path | None) -> Iterator[str]:
     check_words(app)
     if app.members.get("output_files"):
         project.check_uploads()
-    catalogue = CatalogueFile(project)
+    catalogue = ProjectCatalogue(project)
     check_plan_class(catalogue, app.platform)
     if not catalogue.public_key.exists():
         where = catalogue.public_key.parent

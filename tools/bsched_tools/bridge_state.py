@@ -8,9 +8,10 @@ from collections.abc import Iterator
 from typing import Any
 from urllib.parse import urlsplit
 
+from bsched_files.findings import Finding, Level
+
 from .amounts import bytes_text
 from .answers import answer_of
-from .levels import Finding, Level
 from .projects import Project, UnitSettings, toml_of
 
 PUT_OFF_SECONDS = 3600  # within which a report that was put off is worth a warning

@@ -8,10 +8,12 @@ from dataclasses import dataclass
 from itertools import groupby
 from typing import Any, NamedTuple
 
-from .counts import MOST
-from .settings_file import KEYS, WORD, shown, value_fault
-from .tables import Tables
-from .workunits import DONE, OPEN, SUCCESS, Instance, agree, canonical_of
+from bsched_files.counts import MOST
+from bsched_files.tables import Tables
+from bsched_files.texts import WORD
+from bsched_files.workunits import DONE, OPEN, SUCCESS, Instance, agree, canonical_of
+
+from .settings_file import KEYS, shown, value_fault
 
 MOST_TOLD = 20  # rows for each kind of fault
 PLATFORMS = re.compile(r"[A-Za-z0-9_.-]{1,64}(,[A-Za-z0-9_.-]{1,64}){0,7}")

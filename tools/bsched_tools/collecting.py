@@ -16,9 +16,12 @@ from contextlib import ExitStack
 from dataclasses import dataclass, field
 from pathlib import Path
 
+from bsched_files.faults import Fault
+from bsched_files.tables import Tables, all_opened
+from bsched_files.workunits import IS_HELD, Workunit, decided
+
 from .catalogue_file import output_names_of
 from .cursors import Cursor, cursor_at
-from .faults import Fault
 from .looks import Look
 from .progress import names_in_batch
 from .projects import Project
@@ -26,10 +29,8 @@ from .placing import OutputFolder, Spoiled
 from .results import Line, lines_of
 from .stuck import Stuck, named, stuck_in
 from .submitting import read_record
-from .tables import Tables, all_opened
 from .texts import table_text
 from .uploaded import UploadedFile, Uploads, uploads_in
-from .workunits import IS_HELD, Workunit, decided
 
 RESULTS, FAILED, OPENED, CURSOR = "results.csv", "failed.csv", "open.csv", ".collected"
 RESULT_COLUMNS = ("workunit", "input", "result", "credit", "output", "files")

@@ -1,33 +1,16 @@
 """The words of the command line of the tools."""
 import argparse
-import sys
-from importlib import metadata
 from pathlib import Path
-from typing import NoReturn
+
+from bsched_files.command_line import CommandLine, version
 
 from .work_options import LINK_HELP, add_work
 
-BAD_COMMAND_LINE = 64
 MOST_COUNT = 10**18 - 1  # SQLite has no much larger numbers
 NAME = "bsched-tools"
 COPIES = "copies of the tables; a folder means its newest copy"
 A_COPY = "a copy of the tables; a folder means its newest copy"
 PROJECT = "a project of bsched-project: its name, or its folder with a slash"
-
-
-class CommandLine(argparse.ArgumentParser):
-    """A parser that ends with the status of bsched for a bad command line."""
-
-    def error(self, message: str) -> NoReturn:
-        """Prints what is wrong, and ends the program."""
-        self.print_usage(sys.stderr)
-        self.exit(BAD_COMMAND_LINE, f"{NAME}: {message}\n")
-
-
-def version() -> str:
-    """Returns the version: of the package, or of the clone in which this file is."""
-    file = Path(__file__).resolve().parent.parent.parent / "VERSION"
-    return file.read_text().strip() if file.exists() else metadata.version(NAME)
 
 
 def count(text: str) -> int:

@@ -15,13 +15,16 @@ from dataclasses import asdict, dataclass, field
 from pathlib import Path
 from typing import Any
 
-from .catalogue_file import WORKUNIT, App, CatalogueFile
-from .counts import DAY
-from .faults import Fault
-from .files import keep_file
+from bsched_files.atomic import keep_file
+from bsched_files.catalogue import WORKUNIT, App
+from bsched_files.faults import Fault
+from bsched_files.moments import DAY
+from bsched_files.tables import opened
+from bsched_files.uploads import CONTENTS_AFTER, RESULT_WITH, stored_path
+
+from .catalogue_file import ProjectCatalogue
 from .projects import Project
 from .submitting import read_record
-from .tables import opened
 from .uploaded import uploads_in
 
 FORMAT = 1
@@ -30,8 +33,6 @@ MOST_SECONDS = 10.0  # that a run takes for each kind
 MOST_SPOILED = 50  # that are kept
 TURN_SECONDS = 5.0
 PART = 1 << 20
-CONTENTS = "SELECT sha256, nbytes FROM content WHERE sha256 > ?1 ORDER BY sha256 LIMIT 1000"
-RESULTS = "SELECT result, open_name FROM file WHERE sha256 = ?1 ORDER BY result LIMIT 1"
 
 
 @dataclass(frozen=True, slots=True)
@@ -120,12 +121,12 @@ class Outputs(Kind):
 
     def stored(self, sha256: str, nbytes: int) -> Stored:
         """Returns a file of the store."""
-        row = self.connection.execute(RESULTS, (sha256,)).fetchone()
+        row = self.connection.execute(RESULT_WITH, (sha256,)).fetchone()
         what = "" if row is None else f"{row[1]} of {row[0]}"
-        return Stored(sha256, self.folder / "store" / sha256, nbytes, sha256, what)
+        return Stored(sha256, stored_path(self.folder, sha256), nbytes, sha256, what)
 
     def after(self, key: str) -> Iterator[Stored]:
-        while rows := self.connection.execute(CONTENTS, (key,)).fetchall():
+        while rows := self.connection.execute(CONTENTS_AFTER, (key,)).fetchall():
             for sha256, nbytes in rows:
                 yield self.stored(sha256, nbytes)
             key = rows[-1][0]
@@ -154,7 +155,7 @@ class Inputs(Kind):
 
     def __init__(self, project: Project, open_units: frozenset[str] | None) -> None:
         self.project, self.open_units = project, open_units
-        self.catalogue = CatalogueFile(project)
+        self.catalogue = ProjectCatalogue(project)
 
     def after(self, key: str) -> Iterator[Stored]:
         batch = key.partition("/")[0]
@@ -181,7 +182,7 @@ class Inputs(Kind):
             place = self.catalogue.files / app.inputs[0].replace(WORKUNIT, workunit)
             return Stored(key, place, nbytes, sha256, what)
         line = f"{shown}\n".encode(errors="surrogatepass")
-        folder = self.catalogue.line_folder(app) or self.catalogue.files
+        folder = app.line_folder or self.catalogue.files
         return Stored(key, folder / workunit, len(line), hashlib.sha256(line).hexdigest(), what)
 
 

@@ -3,9 +3,10 @@ from collections import Counter
 from collections.abc import Iterable
 from dataclasses import dataclass
 
-from .counts import DAY
-from .tables import Tables
-from .workunits import decided
+from bsched_files.moments import DAY
+from bsched_files.tables import Tables
+from bsched_files.workunits import decided
+
 
 LEAST_BAD = 3  # a computer with fewer bad results may just have been unlucky
 MOST_NAMED = 3

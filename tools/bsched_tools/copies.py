@@ -1,4 +1,4 @@
-"""A folder of copies: their names, how a copy gets its place, and which older copies are removed."""
+"""A folder of copies of tables: whose turn it is, how a copy gets its place, and which older ones go."""
 import fcntl
 import os
 import shutil
@@ -6,12 +6,13 @@ import tempfile
 import time
 from collections.abc import Iterator
 from contextlib import contextmanager, suppress
-from datetime import datetime, timezone
 from pathlib import Path
 
-from . import tables
-from .faults import Fault
-from .files import sync
+from bsched_files import tables
+from bsched_files.atomic import sync
+from bsched_files.copies import beside, copies_in, give_to, remove
+from bsched_files.faults import Fault
+
 from .taking import Source, Taken
 
 WORK_PREFIX = ".bsched-copy-"
@@ -60,17 +61,6 @@ def work_folder(folder: Path) -> Iterator[Path]:
         shutil.rmtree(made, ignore_errors=True)
 
 
-def copy_name(source: Source, moment: float) -> str:
-    """Returns the name of a copy: the name of the tables, and the moment in UTC."""
-    at = datetime.fromtimestamp(moment, timezone.utc)
-    return f"{source.path.stem}-{at:%Y%m%dT%H%M%S}.{at.microsecond // 1000:03}Z.db"
-
-
-def beside(path: Path) -> list[Path]:
-    """Returns the files that SQLite and bsched may leave next to a database."""
-    return [path.with_name(f"{path.name}-{end}") for end in ("wal", "shm", "journal")]
-
-
 def place(taken: Taken, source: Source, target: Path) -> None:
     """Gives a copy the owner of the tables, and by one rename its name, which no file may have yet."""
     for path in (target, *beside(target)):
@@ -81,21 +71,6 @@ def place(taken: Taken, source: Source, target: Path) -> None:
     sync(taken.path)
     os.rename(taken.path, target)
     sync(target.parent)
-
-
-def give_to(path: Path, owner: os.stat_result) -> None:
-    """Gives a file that this process made to the owner of another one. The folder may belong to that owner,
-    who could have put a link in the file's place: a link is not followed, and a file of somebody else stays.
-    """
-    file = os.open(path, os.O_RDONLY | os.O_NOFOLLOW)
-    try:
-        status = os.fstat(file)
-        if status.st_uid != os.geteuid() or status.st_nlink != 1:
-            raise Fault(f"{path}: somebody else put this file there: take the copy in another folder")
-        with suppress(PermissionError):
-            os.fchown(file, owner.st_uid, owner.st_gid)
-    finally:
-        os.close(file)
 
 
 def project_of(path: Path) -> tuple[frozenset[object], frozenset[object]]:
@@ -119,10 +94,8 @@ def remove_older(newest: Path, stem: str, keep: int) -> list[Path]:
     """Removes older copies of the newest copy's project. This many copies are left, the newest one included.
     Returns the removed ones."""
     settings, imports = project_of(newest)
-    older = [path for path in tables.copies_in(newest.parent, stem) if path != newest]
+    older = [path for path in copies_in(newest.parent, stem) if path != newest]
     removed = [path for path in older if is_of_project(path, settings, imports)][keep - 1 :]
-    for path in removed:
-        for one in (path, *beside(path)):
-            one.unlink(missing_ok=True)
+    remove(removed)
     sync(newest.parent)
     return removed

@@ -8,14 +8,16 @@ next to a newer file.
 """
 import json
 import sqlite3
-import subprocess
 from contextlib import ExitStack, closing, suppress
 from dataclasses import dataclass
 from pathlib import Path
 
-from . import tables
-from .copies import copy_name, place, remove_older, turn, work_folder
-from .faults import Fault
+from bsched_files import tables
+from bsched_files.copies import copy_name, log_of
+from bsched_files.faults import Fault
+from bsched_files.programs import run
+
+from .copies import place, remove_older, turn, work_folder
 from .taking import Taken, Work, source_of, take
 
 TURN_SECONDS = 60.0  # how long to wait for another copy of the same tables
@@ -28,7 +30,7 @@ def merge(path: Path) -> None:
         busy, *_ = connection.execute("PRAGMA wal_checkpoint(TRUNCATE)").fetchone()
     if busy or tables.log_size(path):
         raise Fault("its log could not be moved into the file: another program has it")
-    tables.log_of(path).unlink(missing_ok=True)
+    log_of(path).unlink(missing_ok=True)
 
 
 def check_whole(path: Path) -> None:
@@ -44,12 +46,7 @@ def check_whole(path: Path) -> None:
 def check_by_program(program: Path, path: Path) -> None:
     """Has the program open the copy. It must say what host 1 was given, or that there is no such host."""
     args = [str(program), "statement", "--tables", str(path), "--host", "1"]
-    try:
-        completed = subprocess.run(
-            args, capture_output=True, text=True, timeout=CHECK_SECONDS, stdin=subprocess.DEVNULL
-        )
-    except (OSError, subprocess.TimeoutExpired) as error:
-        raise Fault(f"{program}: {getattr(error, 'strerror', None) or error}") from None
+    completed = run(args, CHECK_SECONDS)
     if completed.returncode == 0 and completed.stdout.startswith("result,"):
         return
     with suppress(ValueError):
@@ -103,7 +100,7 @@ def copy_tables(path: Path, target: Path, keep: int | None = None, program: Path
                 message = str(fault).removeprefix(f"{taken.path}: ").removesuffix(tables.TAKE_ANOTHER)
                 raise Fault(f"{path}: the copy was not good, and is not kept: {message}") from None
             with turn(folder, TURN_SECONDS):
-                name = target if folder != target else folder / copy_name(source, taken.moment)
+                name = target if folder != target else folder / copy_name(source.path.stem, taken.moment)
                 place(taken, source, name)
                 removed = remove_older(name, source.path.stem, keep) if keep is not None else []
     except OSError as error:

@@ -1,22 +1,20 @@
-"""How many there are of each thing in some tables, as lines, as JSON, and as Prometheus metrics."""
-import json
+"""How many there are of each thing in some tables, as lines and as Prometheus metrics."""
 from collections import Counter
 from collections.abc import Iterable, Iterator
 from contextlib import ExitStack
-from dataclasses import dataclass, field
 from pathlib import Path
 
-from .faults import Fault
-from .schemas import SCHEMA_NUMBER
-from .stuck import stuck_in
-from .tables import COPY_NAME, Tables, all_opened, copies_in, moment_of, opened
-from .workunits import IS_HELD
+from bsched_files.copies import COPY_NAME, copies_in, moment_of
+from bsched_files.counts import MOST, NOUNS, STATUSES, Counts, Limit
+from bsched_files.faults import Fault
+from bsched_files.moments import DAY
+from bsched_files.schemas import SCHEMA_NUMBER
+from bsched_files.tables import Tables, all_opened, opened
+from bsched_files.texts import credit_number
+from bsched_files.workunits import IS_HELD
 
-DAY = 86400
-STATUSES = {0: "open", 1: "done", 2: "failed by errors", 3: "failed by successes", 4: "failed by the total"}
-# how many rows there may be (docs/PROFILE.md, "What it knows"); for hosts a setting says it
-MOST = {"account": 10_000, "app": 100, "version": 1_000, "unit": 200_000}
-NOUNS = {"account": "accounts", "app": "apps", "version": "versions", "unit": "workunits", "host": "hosts"}
+from .stuck import stuck_in
+
 INSTANCES = f"""
 SELECT count(*), sum(queued), sum({IS_HELD}), sum({IS_HELD} AND deadline < ?1), sum(outcome IS NOT NULL),
   sum(lapse <> 0 AND outcome IS NULL)
@@ -34,48 +32,6 @@ SELECT auth, cpid, max(seqno)
 FROM ({OWNERS.replace("SELECT", "SELECT host.id AS id,")}) JOIN kept4 ON host_id = id GROUP BY id
 """
 HostKey = tuple[str, str]
-
-
-@dataclass(frozen=True, slots=True)
-class Limit:
-    """How many rows there are, and how many there may be."""
-
-    used: int
-    most: int
-
-
-@dataclass(slots=True)
-class Counts:
-    """What is counted."""
-
-    moment: int = 0
-    workunits: Counter[str] = field(default_factory=Counter)
-    out: int = 0  # open workunits with an instance that a host has
-    stuck: int = 0  # open workunits that no user with a host can take
-    instances: Counter[str] = field(default_factory=Counter)
-    people: dict[str, int] = field(default_factory=dict)
-    calls_unknown: str = ""  # why it is not known who called in the last day; empty if it is known
-    millicredits: int = 0
-    limits: dict[str, Limit] = field(default_factory=dict)  # of the tables that were named last
-    bytes: int = 0
-
-    def as_fields(self) -> dict[str, object]:
-        """Returns all counts, for JSON."""
-        return {
-            "schema": SCHEMA_NUMBER,
-            "moment": self.moment,
-            "bytes": self.bytes,
-            "millicredits": self.millicredits,
-            "workunits": dict(self.workunits),
-            "open_workunits": {
-                "out": self.out,
-                "waiting": self.workunits["open"] - self.out,
-                "stuck": self.stuck,
-            },
-            "instances": dict(self.instances),
-            "people": self.people,
-            "limits": {name: {"used": limit.used, "most": limit.most} for name, limit in self.limits.items()},
-        }
 
 
 def host_keys(tables: Tables, query: str, *values: int) -> set[HostKey]:
@@ -156,7 +112,7 @@ def count_rows(tables: Tables, counts: Counts) -> None:
 
 def counted(paths: Iterable[Path]) -> Counts:
     """Returns the counts over files of tables."""
-    counts = Counts(workunits=Counter(dict.fromkeys(STATUSES.values(), 0)))
+    counts = Counts(SCHEMA_NUMBER, workunits=Counter(dict.fromkeys(STATUSES.values(), 0)))
     with ExitStack() as stack:
         all_tables = stack.enter_context(all_opened(paths))
         counts.moment = max(tables.moment for tables in all_tables)
@@ -178,11 +134,11 @@ def as_lines(counts: Counts) -> Iterator[str]:
     rows += [(what, str(number)) for what, number in counts.people.items()]
     if counts.calls_unknown:
         rows.append(("hosts that called in the last day", f"unknown: {counts.calls_unknown}"))
-    rows += [("credit", f"{counts.millicredits / 1000:.3f}")]
+    rows += [("credit", credit_number(counts.millicredits))]
     for name, limit in counts.limits.items():
         share = 100 * limit.used // limit.most
         rows.append((f"{name} used", f"{limit.used} of {limit.most} ({share} %)"))
-    rows += [("bytes", str(counts.bytes)), ("schema", str(SCHEMA_NUMBER))]
+    rows += [("bytes", str(counts.bytes)), ("schema", str(counts.schema))]
     width = max(len(what) for what, _ in rows)
     return (f"{what:{width}}  {value}" for what, value in rows)
 
@@ -203,9 +159,9 @@ def labelled(label: str, values: dict[str, int]) -> dict[str, object]:
 def as_metrics(counts: Counts) -> Iterator[str]:
     """Yields the counts in the text format of Prometheus."""
     yield from metric("copy_timestamp_seconds", "When the copy was taken.", {"": counts.moment})
-    yield from metric("schema", "The schema of the tables.", {"": SCHEMA_NUMBER})
+    yield from metric("schema", "The schema of the tables.", {"": counts.schema})
     yield from metric("tables_bytes", "The size of the copies.", {"": counts.bytes})
-    yield from metric("credits", "All credit.", {"": f"{counts.millicredits / 1000:.3f}"})
+    yield from metric("credits", "All credit.", {"": credit_number(counts.millicredits)})
     yield from metric("workunits", "Workunits by their status.", labelled("status", counts.workunits))
     yield from metric(
         "stuck_workunits", "Open workunits that no user with a host can take.", {"": counts.stuck}
@@ -220,4 +176,4 @@ def as_metrics(counts: Counts) -> Iterator[str]:
 
 def as_json(counts: Counts) -> Iterator[str]:
     """Yields the counts as one line of JSON."""
-    yield json.dumps(counts.as_fields())
+    yield counts.text()

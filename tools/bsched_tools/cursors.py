@@ -13,9 +13,10 @@ from dataclasses import dataclass, field
 from pathlib import Path
 from typing import Any
 
-from .faults import Fault
-from .files import replace_file
-from .tables import Tables, project_mark
+from bsched_files.atomic import replace_file
+from bsched_files.faults import Fault
+from bsched_files.tables import Tables, project_mark
+
 
 FORMAT, FORMER = 2, 1
 

@@ -8,11 +8,9 @@ from contextlib import closing
 from itertools import islice
 from pathlib import Path
 
-from . import holders, starts
-from .checks import wrong_rows
-from .faults import Fault
-from .settings_file import settings_faults
-from .tables import (
+from bsched_files.copies import log_of, moment_of
+from bsched_files.faults import Fault
+from bsched_files.tables import (
     EMPTY,
     TAKE_ANOTHER,
     Tables,
@@ -20,11 +18,13 @@ from .tables import (
     connected,
     faults_of,
     journal_fault,
-    log_of,
     log_size,
-    moment_of,
     schema_fault,
 )
+
+from . import holders, starts
+from .checks import wrong_rows
+from .settings_file import settings_faults
 
 MOST_ROWS = 50
 LEAST_ROOM = 2**20  # bytes: a call and its part of the log need less

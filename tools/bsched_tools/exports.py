@@ -4,24 +4,24 @@ Their elements are those that BOINC's own db_dump writes.
 """
 import hashlib
 import os
-import re
 from collections.abc import Collection, Iterable, Iterator, Mapping
 from contextlib import ExitStack
 from dataclasses import dataclass
 from pathlib import Path
 from xml.sax.saxutils import escape
 
-from .averages import Averages, Kept
+from bsched_files.atomic import replace_file
+from bsched_files.averages import Kept
+from bsched_files.faults import Fault
+from bsched_files.tables import all_opened
+from bsched_files.texts import credit_number, xml_text
+
+from .averages import Averages
 from .copies import turn
-from .faults import Fault
-from .files import replace_file
 from .members import Host, User, users_of
-from .tables import all_opened
 from .volunteers import Team
 
 TURN_SECONDS = 60.0
-# the characters that XML 1.0 does not allow
-NO_XML = re.compile("[^\t\n\r\x20-\ud7ff\ue000-\ufffd\U00010000-\U0010ffff]")
 
 
 @dataclass(frozen=True, slots=True)
@@ -33,20 +33,10 @@ class Exported:
     hosts: int
 
 
-def xml_text(value: object) -> str:
-    """Returns a value as XML text."""
-    return escape(NO_XML.sub("\ufffd", str(value)))
-
-
 def element(name: str, members: dict[str, object]) -> str:
     """Returns an element with its members, one on a line."""
-    lines = [f"    <{member}>{xml_text(value)}</{member}>" for member, value in members.items()]
+    lines = [f"    <{member}>{escape(xml_text(str(value)))}</{member}>" for member, value in members.items()]
     return "\n".join([f"<{name}>", *lines, f"</{name}>", ""])
-
-
-def credits_text(millicredits: int) -> str:
-    """Returns credit as statements write it."""
-    return f"{millicredits // 1000}.{millicredits % 1000:03}"
 
 
 def user_members(
@@ -59,7 +49,7 @@ def user_members(
         "name": user.name,
         "country": "",
         "create_time": created,
-        "total_credit": credits_text(user.millicredits),
+        "total_credit": credit_number(user.millicredits),
         "expavg_credit": f"{average:.6f}",
         "expavg_time": moment,
         "cpid": cpid,
@@ -82,7 +72,7 @@ class TeamSum:
             "id": self.team.number,
             "name": self.team.name,
             **({} if self.founder is None else {"userid": self.founder}),
-            "total_credit": credits_text(self.millicredits),
+            "total_credit": credit_number(self.millicredits),
             "expavg_credit": f"{self.average:.6f}",
             "expavg_time": moment,
             "nusers": len(self.team.members),
@@ -97,7 +87,7 @@ def host_members(host: Host, kept: Kept, userid: int | None, cpid: str) -> dict[
         **({} if userid is None else {"userid": userid}),
         "create_time": kept.created,
         "rpc_time": kept.called,
-        "total_credit": credits_text(host.millicredits),
+        "total_credit": credit_number(host.millicredits),
         "expavg_credit": f"{kept.average or 0:.6f}",
         "expavg_time": kept.time,
         "p_fpops": host.fpops,
@@ -164,7 +154,7 @@ class Export:
                 "nusers_total": self.count,
                 "nteams_total": len(self.sums),
                 "nhosts_total": len(self.hosts),
-                "total_credit": credits_text(self.millicredits),
+                "total_credit": credit_number(self.millicredits),
             },
         )
 

@@ -3,10 +3,12 @@ that wait."""
 from collections import Counter
 from dataclasses import dataclass
 
-from .tables import Tables
-from .workunits import IS_HELD, decided
+from bsched_files.moments import HOUR
+from bsched_files.tables import Tables
+from bsched_files.workunits import IS_HELD, decided
 
-HOUR, DAY_HOURS = 3600, 24
+
+DAY_HOURS = 24
 MOST_LISTED = 20
 DEADLINES = f"SELECT deadline FROM instance WHERE {IS_HELD} AND deadline >= ?1 AND deadline < ?2"
 CREDIT = """

@@ -4,13 +4,14 @@ The cursor is written after the program has taken the results. So no result is l
 come twice: the program recognizes a result by its name. A workunit with a spoiled file is left out, and comes
 with a later run.
 """
-import subprocess
 from dataclasses import dataclass, field
+
+from bsched_files.atomic import sync
+from bsched_files.faults import Fault
+from bsched_files.programs import run
 
 from .catalogue_file import output_names_of
 from .copies import turn
-from .faults import Fault
-from .files import sync
 from .projects import Project, UnitSettings
 from .results import write_results
 
@@ -39,7 +40,7 @@ def hand_on(project: Project, settings: UnitSettings, names: dict[str, str]) -> 
         with new.open("rb") as lines:
             handed.count = sum(1 for _ in lines)
         if handed.count:
-            run([*settings.results_command, str(new)])
+            hand([*settings.results_command, str(new)])
 
     with turn(folder, TURN_SECONDS, "another `process` is at work"):
         new.unlink(missing_ok=True)  # of a run that failed: its results come again
@@ -59,12 +60,9 @@ def hand_on(project: Project, settings: UnitSettings, names: dict[str, str]) -> 
     return handed
 
 
-def run(command: list[str]) -> None:
+def hand(command: list[str]) -> None:
     """Runs the program. Whatever it prints goes where the tool's own output goes."""
-    try:
-        completed = subprocess.run(command, stdin=subprocess.DEVNULL)
-    except OSError as error:
-        raise Fault(f"{command[0]}: {error.strerror}") from None
+    completed = run(command, is_captured=False)
     if completed.returncode:
         raise Fault(
             f"{command[0]}: status {completed.returncode}: the same results come again at the next run"

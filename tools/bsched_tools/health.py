@@ -1,14 +1,22 @@
 """Whether a project is well: what answers, how old the newest copy is, and what is nearly full."""
 import http.client
-import json
 import shutil
 import socket
 import ssl
-import subprocess
 import time
 from collections.abc import Callable, Iterable, Iterator
 from pathlib import Path
 from urllib.parse import urlsplit
+
+from bsched_files.atomic import keep_file
+from bsched_files.copies import copies_in, moment_of
+from bsched_files.counts import NO_HOST
+from bsched_files.faults import Fault
+from bsched_files.findings import NAME as FINDINGS, Finding, Findings, Level
+from bsched_files.moments import DAY, HOUR, MINUTE
+from bsched_files.programs import run
+from bsched_files.tables import opened
+from bsched_files.timers import elapsed_at
 
 from .amounts import count_text
 from .answers import SECONDS, answer_of, reason_of
@@ -17,19 +25,12 @@ from .comparing import compared
 from .computers import bad_computers
 from .computers import named as named_computers
 from .counts import counted
-from .faults import Fault
-from .files import keep_file
-from .levels import Finding, Level
 from .projects import Project, UnitSettings
 from .stuck import named, stuck_in
-from .tables import copies_in, moment_of, opened
 
-NO_HOST = 2**31 - 1  # no computer has this number: there are at most 100,000
-DAY, HOUR = 86_400, 3_600
 CERTIFICATE_DAYS = 14, 3  # fewer days are a warning, and critical
 FREE_SHARE = 0.1, 0.03  # of a disk: less is a warning, and critical
 USED_SHARE = 0.9, 1.0  # of a limit: more is a warning, and critical
-STAMPS = Path("/var/lib/systemd/timers")
 TICK_MINUTES = 12, 30  # since the last tick: more is a warning, and critical; one is sent each five minutes
 MOST_SPOILED = 5  # files that are named
 COPY_SECONDS = 2 * HOUR  # since the timer of copies was enabled or elapsed last; it elapses each hour
@@ -121,10 +122,10 @@ def tick(project: Project, _settings: UnitSettings) -> Iterator[Finding]:
 
 def last_tick(name: str) -> Finding:
     """Looks when the timer of the tick last sent one, by the file that systemd keeps of the timer."""
-    try:
-        minutes = (time.time() - (STAMPS / f"stamp-{name}.timer").stat().st_mtime) / 60
-    except OSError:
+    last = elapsed_at(name)
+    if last is None:
         return Finding("tick", Level.UNKNOWN, f"systemd does not say whether {name}.timer runs: ask as root")
+    minutes = (time.time() - last) / MINUTE
     level = level_of(minutes, *TICK_MINUTES)
     ends = "" if level is Level.GOOD else f": `systemctl enable --now {name}.timer`"
     return Finding("tick", level, f"the last one was sent {minutes:.0f} minutes ago{ends}")
@@ -134,8 +135,8 @@ def shown_by_systemd(unit: str, key: str) -> str | None:
     """Returns what systemd says about a unit; None if it can't be asked."""
     command = ["systemctl", "show", "--value", f"--property={key}", unit]
     try:
-        completed = subprocess.run(command, capture_output=True, text=True, timeout=SECONDS)
-    except (OSError, subprocess.TimeoutExpired):
+        completed = run(command, SECONDS)
+    except Fault:
         return None
     return completed.stdout.strip() if completed.returncode == 0 else None
 
@@ -157,10 +158,8 @@ def is_copying(unit: str) -> bool:
     state = shown_by_systemd(f"{unit}.timer", "ActiveState")
     if state is not None:
         return state == "active"
-    try:
-        return time.time() - (STAMPS / f"stamp-{unit}.timer").stat().st_mtime < COPY_SECONDS
-    except OSError:
-        return False
+    elapsed = elapsed_at(unit)
+    return elapsed is not None and time.time() - elapsed < COPY_SECONDS
 
 
 def copy(project: Project, settings: UnitSettings) -> Iterator[Finding]:
@@ -277,16 +276,7 @@ def write_findings(project: Project, settings: UnitSettings, found: Iterable[Fin
     """Writes what was found, and how old the copies are, for the operator's board: the bridge may not look at
     them itself."""
     copies = copies_of(project, settings)
-    fields = {
-        "moment": int(time.time()),
-        "findings": [
-            {"check": one.check, "level": one.level.name.lower(), "text": one.text} for one in found
-        ],
-        "copies": {
-            "count": len(copies),
-            "oldest": moment_of(copies[-1]) if copies else None,
-            "newest": moment_of(copies[0]) if copies else None,
-        },
-    }
-    path = project.made(project.work, 0o700) / "findings.json"
-    keep_file(path, json.dumps(fields).encode(), 0o600)
+    oldest, newest = (moment_of(copies[at]) if copies else None for at in (-1, 0))
+    findings = Findings(int(time.time()), list(found), len(copies), oldest, newest)
+    path = project.made(project.work, 0o700) / FINDINGS
+    keep_file(path, findings.text().encode(), 0o600)

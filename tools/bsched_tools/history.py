@@ -8,12 +8,13 @@ from dataclasses import asdict, dataclass, field
 from pathlib import Path
 from typing import Any
 
-from .counts import Counts
-from .files import append_line, replace_file
-from .tables import Tables
-from .workunits import IS_HELD
+from bsched_files.atomic import append_line, replace_file
+from bsched_files.counts import Counts
+from bsched_files.moments import HOUR
+from bsched_files.tables import Tables
+from bsched_files.workunits import IS_HELD
 
-HOUR = 3600
+
 # the bins of turnaround: up to this many hours
 TURNAROUND_HOURS = (1, 6, 24, 72, 168, 336)
 BINS = len(TURNAROUND_HOURS) + 1

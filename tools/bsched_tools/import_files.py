@@ -11,8 +11,8 @@ from dataclasses import dataclass
 from itertools import islice
 from pathlib import Path
 
-from .faults import Fault
-from .settings_file import WORD
+from bsched_files.faults import Fault
+from bsched_files.texts import WORD
 
 MOST_BYTES = 1_048_576  # of an import
 MOST_FIELD = 4 * MOST_BYTES  # a longer field ends the reading with a fault

@@ -9,17 +9,18 @@ import http.client
 import json
 import os
 import re
-import subprocess
 import tempfile
 import time
 from collections.abc import Iterator
 from dataclasses import dataclass
 from typing import Any
 
-from .faults import Fault
+from bsched_files.faults import Fault
+from bsched_files.programs import run
+from bsched_files.texts import csv_text
+
 from .import_files import MOST_BYTES, ImportFile, Row
 from .projects import PROGRAM, Project
-from .texts import csv_text
 
 MOST_BATCH = 262_144  # bytes; a megabyte stops serving for more than a second
 ANSWER_SECONDS = 120.0
@@ -114,17 +115,7 @@ class Sender:
             if owner:  # nobody else may read it: a file of accounts has keys
                 os.fchown(file.fileno(), owner["user"], owner["group"])
             args = ["import", "--tables", str(self.project.tables), "--kind", kind, "--batch", batch.name]
-            try:
-                completed = subprocess.run(
-                    [str(PROGRAM), *args, "--file", file.name],
-                    capture_output=True,
-                    text=True,
-                    timeout=10 * ANSWER_SECONDS,
-                    stdin=subprocess.DEVNULL,
-                    **owner,
-                )
-            except (OSError, subprocess.TimeoutExpired) as error:
-                raise Fault(f"{PROGRAM}: {getattr(error, 'strerror', None) or error}") from None
+            completed = run([str(PROGRAM), *args, "--file", file.name], 10 * ANSWER_SECONDS, rights=owner)
         if not completed.stdout:
             tables = self.project.tables
             raise Fault(

@@ -10,11 +10,12 @@ from collections.abc import Callable, Iterable
 from dataclasses import dataclass
 from pathlib import Path
 
-from .faults import Fault
-from .settings_file import WORD
+from bsched_files.catalogue import MOST_LINE
+from bsched_files.counts import MOST
+from bsched_files.faults import Fault
+from bsched_files.texts import WORD
 
-MOST_LINE = 4096  # bytes of a command line
-MOST_WORKUNITS = 200_000
+MOST_WORKUNITS = MOST["unit"]
 BATCH = re.compile(r"[A-Za-z0-9_][A-Za-z0-9_.-]{0,39}")
 SWEEP = re.compile(r"([A-Za-z][A-Za-z0-9_-]*)=(.+)")
 RANGE = re.compile(r"(-?[0-9]{1,15})\.\.(-?[0-9]{1,15})")

@@ -5,12 +5,14 @@ what the client said about it: the end of the program's standard error, or why t
 """
 from collections.abc import Iterator
 from dataclasses import dataclass
-from datetime import datetime, timezone
 from typing import Any
 
-from .faults import Fault
-from .tables import Tables
-from .workunits import DONE, OPEN, REASONS, SUCCESS, Instance, agree, canonical_of
+from bsched_files.faults import Fault
+from bsched_files.moments import moment_text
+from bsched_files.tables import Tables
+from bsched_files.texts import credit_number
+from bsched_files.workunits import DONE, OPEN, REASONS, SUCCESS, Instance, agree, canonical_of
+
 
 LATE, DROPPED = 1, 2  # lapses
 MOST_LISTED = 50
@@ -57,18 +59,6 @@ class Given:
             text_lines = one.text.splitlines() or ["(nothing)"]
             lines += [f"  {what}: {text_lines[0]}", *(f"    {line}" for line in text_lines[1:])]
         return lines
-
-
-def moment_text(moment: int | None) -> str:
-    """Returns a moment as text for people, in UTC."""
-    if moment is None:
-        return "never"
-    return datetime.fromtimestamp(moment, timezone.utc).strftime("%Y-%m-%d %H:%M:%S")
-
-
-def credit_text(millicredits: int) -> str:
-    """Returns credit as text."""
-    return f"{millicredits // 1000}.{millicredits % 1000:03}"
 
 
 def state_of(one: Instance, lapse: int, waits: str | None, status: int, verdict: bool | None) -> str:
@@ -119,7 +109,7 @@ def workunit_lines(tables: Tables, name: str) -> Iterator[str]:
     yield f"workunit {own} of the application {app}: {outcome}"
     if marked:
         yield f"it keeps to one class of versions: {version_class or 'none yet'}"
-    yield f"needs {quorum} successes, and gives {credit_text(credit)} credit for each valid result"
+    yield f"needs {quorum} successes, and gives {credit_number(credit)} credit for each valid result"
     if best is not None:
         yield f"accepted result: {best.name}"
     for one in given:
@@ -132,7 +122,7 @@ def host_lines(tables: Tables, number: int) -> Iterator[str]:
     if host is None:
         raise Fault(f"{tables.path}: there is no computer {number}")
     user, cpid, fpops, memory, disk, platforms, quota, held, credit = host
-    yield f"computer {number} of {user} ({cpid}): {credit_text(credit)} credit"
+    yield f"computer {number} of {user} ({cpid}): {credit_number(credit)} credit"
     speed = f"{fpops / 1e9:.2f} gigaflops for each processor"
     yield f"{speed}, {memory / 1e9:.1f} GB of memory, {disk / 1e9:.1f} GB of free disk"
     yield f"platforms: {platforms}"

@@ -9,13 +9,15 @@ from contextlib import ExitStack, contextmanager
 from dataclasses import dataclass
 from pathlib import Path
 
+from bsched_files.copies import copies_in, found_copy, moment_of
+from bsched_files.faults import Fault
+from bsched_files.moments import moment_text
+from bsched_files.tables import Tables, opened
+
 from . import projects
 from .copies import work_folder
 from .copying import copy_tables
-from .faults import Fault
-from .jobs import moment_text
 from .projects import NO_MEMBER, Project
-from .tables import Tables, copies_in, found_copy, moment_of, opened
 
 ASK_SECONDS = 15.0
 

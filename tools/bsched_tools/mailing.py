@@ -12,16 +12,17 @@ from dataclasses import asdict, dataclass, field
 from pathlib import Path
 from typing import Any
 
-from .faults import Fault
-from .files import keep_file
-from .jobs import moment_text
-from .levels import Finding, Level, levels_of, worst_of
+from bsched_files.atomic import keep_file
+from bsched_files.faults import Fault
+from bsched_files.findings import Finding, Level, levels_of, worst_of
+from bsched_files.moments import HOUR, moment_text
+
 from .projects import Project
 
 SENDMAIL = Path("/usr/sbin/sendmail")
 SECONDS = 20.0  # for the mailer to take a mail
 FORMAT = 2
-PAUSE_SECONDS, MOST_PAUSE = 300, 6 * 3600  # after a failed try; each further one doubles it
+PAUSE_SECONDS, MOST_PAUSE = 300, 6 * HOUR  # after a failed try; each further one doubles it
 MOST_TRIES = 1000  # that are counted
 MOST_TEXT = 300  # characters of what a mailer says
 Levels = dict[str, str]

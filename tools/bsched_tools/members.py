@@ -3,8 +3,9 @@ from collections.abc import Iterable
 from dataclasses import dataclass, field
 from pathlib import Path
 
-from .faults import Fault
-from .tables import Tables
+from bsched_files.faults import Fault
+from bsched_files.tables import Tables
+
 
 HOSTS = """
 SELECT auth, cpid, fpops, memory, disk, host.credit, min(sent), max(sent),

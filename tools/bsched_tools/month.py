@@ -1,35 +1,21 @@
 """The plots of the last month for the project's page, as SVG files that a browser shows as pictures.
 
-The bridge reads plots.json, which names the files and describes each plot for those who do not see it. It is
-written last, so a bridge that reads it finds the files.
+A text describes each plot for those who do not see it.
 """
-import json
-from collections.abc import Iterator, Mapping, Sequence
-from dataclasses import dataclass
-from datetime import datetime, timezone
+from collections.abc import Iterator, Sequence
 from pathlib import Path
 
+from bsched_files.moments import DAY, date_text
+from bsched_files.plots import COMPUTERS, CREDIT, RESULTS, Plot, write_plots
+
 from . import plots
-from .counts import DAY
-from .files import replace_file
 from .history import Entry
 from .page import clean
 
 DAYS = 31
-FORMAT = 1
 # a picture has no page around it, so it has the colours of text itself
 COLOURS_OF_TEXT = "svg{color:#1a1f25}@media (prefers-color-scheme:dark){svg{color:#e6e9ed}}"
 CALLED, WORKED = "hosts that called in the last day", "hosts with a job of the last day"
-
-
-@dataclass(frozen=True, slots=True)
-class Plot:
-    """A plot: the name of its file, its title, what it says in words, and its SVG."""
-
-    file: str
-    title: str
-    text: str
-    svg: str
 
 
 def last_of_days(entries: Sequence[Entry], moment: int) -> list[Entry]:
@@ -56,11 +42,6 @@ def computers(entry: Entry) -> int:
     return entry.people.get(CALLED, entry.people.get(WORKED, 0))
 
 
-def date_text(moment: int) -> str:
-    """Returns a day as text."""
-    return datetime.fromtimestamp(moment, timezone.utc).strftime("%Y-%m-%d")
-
-
 def standing_alone(svg: str) -> str:
     """Returns a plot of a page as a file of its own."""
     namespace = 'xmlns="http://www.w3.org/2000/svg"'
@@ -81,7 +62,7 @@ def new_plot(name: str, title: str, moments: Sequence[int], values: Sequence[flo
         f"{name}.svg",
         title,
         text,
-        standing_alone(plots.lines(f"month-{name}", text, moments, {what: values})),
+        clean(standing_alone(plots.lines(f"month-{name}", text, moments, {what: values}))).encode(),
     )
 
 
@@ -91,17 +72,11 @@ def plots_of(entries: Sequence[Entry], moment: int) -> Iterator[Plot]:
     if len(days) < 3:
         return
     moments = [entry.moment for entry in days[1:]]
-    yield new_plot("results", "Results a day", moments, results_a_day(days))
-    yield new_plot("computers", "Active computers", moments, [float(computers(one)) for one in days[1:]])
-    yield new_plot("credit", "Credit", moments, [one.millicredits / 1000 for one in days[1:]])
+    yield new_plot("results", RESULTS, moments, results_a_day(days))
+    yield new_plot("computers", COMPUTERS, moments, [float(computers(one)) for one in days[1:]])
+    yield new_plot("credit", CREDIT, moments, [one.millicredits / 1000 for one in days[1:]])
 
 
-def write_plots(folder: Path, entries: Sequence[Entry], moment: int) -> None:
+def write_month(folder: Path, entries: Sequence[Entry], moment: int) -> None:
     """Writes the plots into a folder."""
-    made = list(plots_of(entries, moment))
-    for plot in made:
-        replace_file(folder / plot.file, [clean(plot.svg).encode()])
-    listed: list[Mapping[str, str]] = [
-        {"file": plot.file, "title": plot.title, "text": plot.text} for plot in made
-    ]
-    replace_file(folder / "plots.json", [json.dumps({"format": FORMAT, "plots": listed}).encode()])
+    write_plots(folder, list(plots_of(entries, moment)))

@@ -1,16 +1,20 @@
 """The page with the project's status, as HTML with plots. Each plot has its numbers in a table."""
 import re
 from collections.abc import Iterable, Mapping, Sequence
-from datetime import datetime, timezone
 from html import escape
 from pathlib import Path
 
+from bsched_files.atomic import replace_file
+from bsched_files.copies import COPY_NAME
+from bsched_files.counts import Counts
+from bsched_files.faults import Fault
+from bsched_files.moments import DAY, HOUR, minute_text, time_text
+from bsched_files.tables import Tables, opened
+from bsched_files.texts import credit_number
+
 from . import plots
 from .copies import turn
-from .counts import DAY, Counts, counted
-from .exports import credits_text
-from .faults import Fault
-from .files import replace_file
+from .counts import counted
 from .findings import (
     credit_by_user,
     deadlines_by_hour,
@@ -19,7 +23,6 @@ from .findings import (
     stuck_workunits,
 )
 from .history import TURNAROUND_HOURS, Entry, History
-from .tables import COPY_NAME, Tables, opened
 
 TURN_SECONDS = 60.0
 MOST_POINTS = 500
@@ -45,11 +48,6 @@ td.number, th.number { text-align: right; font-variant-numeric: tabular-nums; ov
   white-space: nowrap } summary { cursor: pointer; color: var(--quiet) } .warn { color: var(--warn) }
 """
 Cell = str | int
-
-
-def moment_text(moment: int) -> str:
-    """Returns a moment as text for people."""
-    return datetime.fromtimestamp(moment, timezone.utc).strftime("%Y-%m-%d %H:%M UTC")
 
 
 def table(header: Sequence[str], rows: Iterable[Sequence[Cell]]) -> str:
@@ -109,7 +107,7 @@ def counts_part(counts: Counts, entries: list[Entry]) -> str:
     ]
     for kind, now, before in kinds:
         rows += [(kind + name, number, change_text(number, before.get(name))) for name, number in now.items()]
-    when = f"since {moment_text(older.moment)}" if older else "within a day"
+    when = f"since {minute_text(older.moment)}" if older else "within a day"
     parts = [table(("what", "number", when), rows)]
     if counts.calls_unknown:
         reason = "no copy that is a day older can be read"
@@ -124,10 +122,10 @@ def history_part(title: str, name: str, entries: list[Entry], series: dict[str, 
     first, last = entries[0], entries[-1]
     moments = [entry.moment for entry in entries]
     changes = (f"{what} from {values[0]:.0f} to {values[-1]:.0f}" for what, values in series.items())
-    text = f"{title} from {moment_text(first.moment)} to {moment_text(last.moment)}: {', '.join(changes)}."
+    text = f"{title} from {minute_text(first.moment)} to {minute_text(last.moment)}: {', '.join(changes)}."
     rows: list[list[Cell]] = []
     for at, moment in enumerate(moments):
-        rows.append([moment_text(moment), *(round(values[at]) for values in series.values())])
+        rows.append([minute_text(moment), *(round(values[at]) for values in series.values())])
     svg = plots.lines(name, text, moments, series)
     return section(title, figure(svg, "", table(("when", *series), rows[::-1])))
 
@@ -175,10 +173,7 @@ def deadlines_part(tables: Tables, late: int) -> str:
     already = f"{late} instances are late already, and lapse at the next tick."
     if not any(numbers):
         return section("Deadlines of the next day", f"<p>No deadline is in the next day. {already}</p>\n")
-    labels = [
-        datetime.fromtimestamp(tables.moment + 3600 * hour, timezone.utc).strftime("%H:%M")
-        for hour in range(len(numbers))
-    ]
+    labels = [time_text(tables.moment + HOUR * hour) for hour in range(len(numbers))]
     text = f"{sum(numbers)} deadlines in the next day, at most {max(numbers)} in an hour."
     svg = plots.columns("deadlines", text, labels, numbers, "hour that begins at (UTC)")
     rows = [(label, number) for label, number in zip(labels, numbers) if number]
@@ -189,7 +184,7 @@ def deadlines_part(tables: Tables, late: int) -> str:
 def credit_part(tables: Tables) -> str:
     """Returns the credit by user."""
     users = credit_by_user(tables)
-    rows = [(name, credits_text(millicredits), hosts) for name, millicredits, hosts in users]
+    rows = [(name, credit_number(millicredits), hosts) for name, millicredits, hosts in users]
     numbers = table(("user", "credit", "hosts"), rows)
     best = [(name, millicredits / 1000) for name, millicredits, _ in users[:10] if millicredits]
     if not best:
@@ -253,7 +248,7 @@ def page(tables: Tables, counts: Counts, entries: list[Entry], name: str) -> str
         f'<meta charset="utf-8">\n<title>{title}</title>\n<style>{STYLE}</style>\n'
         '<meta name="viewport" content="width=device-width, initial-scale=1">\n'
     )
-    when = f"<p>As of {moment_text(tables.moment)}, from a copy of the tables.</p>"
+    when = f"<p>As of {minute_text(tables.moment)}, from a copy of the tables.</p>"
     body = f"<header>\n<h1>{title}</h1>\n{when}\n</header>\n<main>\n{''.join(parts)}</main>\n"
     return f'<!DOCTYPE html>\n<html lang="en">\n<head>\n{head}</head>\n<body>\n{body}</body>\n</html>\n'
 

@@ -11,8 +11,9 @@ from collections.abc import Iterator
 from contextlib import contextmanager, suppress
 from pathlib import Path
 
-from .faults import Fault
-from .files import Copied, copy_bytes
+from bsched_files.atomic import Copied, copy_bytes
+from bsched_files.faults import Fault
+
 from .uploaded import UploadedFile
 
 FILE_MODE, FOLDER_MODE = 0o644, 0o755

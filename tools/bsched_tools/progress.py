@@ -4,20 +4,20 @@ from collections.abc import Iterator
 from dataclasses import dataclass, field
 from pathlib import Path
 
+from bsched_files.copies import copies_in, moment_of
+from bsched_files.faults import Fault
+from bsched_files.moments import DAY, HOUR, moment_text
+from bsched_files.tables import Tables, opened
+from bsched_files.workunits import IS_HELD, OPEN, REASONS
+
 from .amounts import count_text
 from .computers import BadComputer, bad_computers
 from .computers import named as named_computers
-from .counts import DAY
-from .faults import Fault
-from .jobs import moment_text
 from .looks import Look
 from .stuck import Stuck, named, stuck_in
-from .tables import Tables, copies_in, moment_of, opened
 from .texts import main_line
-from .workunits import IS_HELD, OPEN, REASONS
 
 LEAST_SECONDS = 60  # between two copies from which a rate follows
-HOUR = 3600
 MOST_SHOWN = 3
 STATES = f"""
 SELECT unit.name, status, EXISTS (SELECT 1 FROM instance WHERE unit_id = unit.id AND {IS_HELD}),

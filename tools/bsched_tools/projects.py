@@ -1,23 +1,24 @@
 """The folder of a project, as `bsched-project` makes it: ports, keys, and what the project's units do."""
-import difflib
 import os
 import pwd
-import re
 import tomllib
 from dataclasses import dataclass
 from pathlib import Path
 from typing import Any
 
-from .faults import Fault
-from .root_folders import make_below
-from .settings_file import WORD
+from bsched_files.faults import Fault
+from bsched_files.ports import SCHEDULER, read_port
+from bsched_files.project_settings import PROJECTS, BridgeFile, file_of
+from bsched_files.texts import WORD
+from bsched_files.toml_entries import OperatorFile
+from bsched_files.uploads import DATABASE
 
-PROJECTS = Path("/var/lib/bsched")
+from .root_folders import make_below
+
 BACKUPS = Path("/var/backups/bsched")
 WEB = Path("/var/lib/bsched-web")
 PROGRAM = Path("/usr/bin/bsched")
 NO_MEMBER = "only root and members of the group bsched may use this project"
-PORT = re.compile(r"[1-9][0-9]{0,4}")
 UNIT_TABLES = ("copy", "results", "page", "statistics", "health")
 
 
@@ -34,41 +35,6 @@ class UnitSettings:
     is_everybody_named: bool
     mail: str  # who gets mail if the health changes; empty for nobody
     copy_hours: int  # a newest copy that is older is a fault
-
-
-class Table:
-    """A table of a TOML file. Each key is taken once, and a key that is left over is a fault."""
-
-    def __init__(self, path: Path, name: str, fields: Any) -> None:
-        if not isinstance(fields, dict):
-            raise Fault(f"{path}: {name} is not a table [{name}]")
-        self.path, self.name, self.fields, self.known = path, name, fields, set[str]()
-
-    def taken(self, key: str, default: Any, kinds: str) -> Any:
-        """Returns the value of a key, which is of the kind of its default."""
-        self.known.add(key)
-        value = self.fields.get(key, default)
-        if type(value) is not type(default):
-            raise Fault(f"{self.path}: [{self.name}] {key} is {value!r}, and must be {kinds}")
-        return value
-
-    def text(self, key: str, default: str = "") -> str:
-        """Returns a text."""
-        return str(self.taken(key, default, "a text in quotes"))
-
-    def whole(self, key: str, default: int, least: int, most: int) -> int:
-        """Returns a whole number within a range."""
-        value = int(self.taken(key, default, "a whole number"))
-        if not least <= value <= most:
-            raise Fault(f"{self.path}: [{self.name}] {key} is {value}, and must be from {least} to {most}")
-        return value
-
-    def end(self) -> None:
-        """Refuses the keys that nobody took."""
-        for key in sorted(self.fields.keys() - self.known):
-            close = difflib.get_close_matches(key, self.known, 1)
-            advice = f": is {close[0]} meant?" if close else f"; the keys are {', '.join(sorted(self.known))}"
-            raise Fault(f"{self.path}: [{self.name}] {key} is not known{advice}")
 
 
 def toml_of(path: Path) -> dict[str, Any]:
@@ -105,7 +71,7 @@ class Project:
     @property
     def bridge_file(self) -> Path:
         """The settings of the bridge, which a project may lack."""
-        return self.folder / "bridge" / "bridge.toml"
+        return file_of(self.folder)
 
     @property
     def work(self) -> Path:
@@ -121,24 +87,28 @@ class Project:
         return key
 
     @property
+    def bridge(self) -> BridgeFile | None:
+        """The settings of the bridge, or None if there is no bridge."""
+        return BridgeFile(self.bridge_file) if self.bridge_file.exists() else None
+
+    @property
     def title(self) -> str:
         """The name of the project for people: that of its bridge, or that of its folder."""
-        name = toml_of(self.bridge_file).get("name") if self.bridge_file.exists() else None
-        return name if isinstance(name, str) and name.strip() else self.name
+        bridge = self.bridge
+        return (None if bridge is None else bridge.name) or self.name
 
     @property
     def url(self) -> str | None:
         """The master URL, or None if there is no bridge."""
-        url = toml_of(self.bridge_file).get("url") if self.bridge_file.exists() else None
-        return url if isinstance(url, str) else None
+        bridge = self.bridge
+        return None if bridge is None else bridge.url
 
     @property
     def uploads(self) -> Path | None:
         """The bridge's folder of uploads, or None if there is none."""
-        name = toml_of(self.bridge_file).get("uploads") if self.bridge_file.exists() else None
-        folder = name.get("folder") if isinstance(name, dict) else None
-        path = self.bridge_file.parent / folder if isinstance(folder, str) else None
-        return path if path is not None and (path / "uploads.db").exists() else None
+        bridge = self.bridge
+        path = None if bridge is None else bridge.uploads
+        return path if path is not None and (path / DATABASE).exists() else None
 
     @property
     def completing(self) -> str:
@@ -147,7 +117,8 @@ class Project:
 
     def check_uploads(self) -> None:
         """Refuses a project whose bridge has no output files."""
-        if self.bridge_file.exists() and "uploads" not in toml_of(self.bridge_file):
+        bridge = self.bridge
+        if bridge is not None and bridge.uploads is None:
             raise Fault(
                 f"{self.bridge_file}: it has no [uploads], which output files need: {self.completing}"
             )
@@ -155,55 +126,43 @@ class Project:
     @property
     def bridge_state(self) -> Path | None:
         """The state file of the bridge, or None if there is no bridge."""
-        file = toml_of(self.bridge_file).get("state") if self.bridge_file.exists() else None
-        return self.bridge_file.parent / file if isinstance(file, str) else None
+        bridge = self.bridge
+        return None if bridge is None else bridge.state
 
     @property
     def archives(self) -> list[Path]:
         """The earlier files of the project, which its bridge names."""
-        names = toml_of(self.bridge_file).get("archives", []) if self.bridge_file.exists() else []
-        return [self.bridge_file.parent / name for name in names if isinstance(name, str)]
+        bridge = self.bridge
+        return [] if bridge is None else list(bridge.archives)
 
-    def port(self, name: str = "PORT") -> int:
+    def port(self, name: str = SCHEDULER) -> int:
         """Returns a port: PORT is that of the scheduler, BRIDGE_PORT that of the bridge."""
-        path = self.folder / "environment"
-        try:
-            text = path.read_text()
-        except OSError as error:
-            raise Fault(f"{path}: {error.strerror}") from None
-        for line in text.splitlines():
-            key, _, value = line.partition("=")
-            if key.strip() == name and PORT.fullmatch(value.strip()):
-                return int(value)
-        raise Fault(f"{path}: it has no line {name}=NUMBER")
+        return read_port(self.folder, name)
 
     def units(self) -> UnitSettings:
         """Reads `units.toml`. What it does not say has its default."""
         path = self.folder / "units.toml"
-        return self.units_by(path, toml_of(path) if path.exists() else {})
+        return self.units_in(OperatorFile(path)) if path.exists() else self.default_units()
 
-    def units_by(self, path: Path, tables_of_file: dict[str, Any]) -> UnitSettings:
-        """Returns what the tables of `units.toml` say."""
-        copy, results, page, statistics, health = (
-            Table(path, name, tables_of_file.pop(name, {})) for name in UNIT_TABLES
-        )
-        for name in tables_of_file:
-            raise Fault(f"{path}: {name} is not known: the tables are {', '.join(UNIT_TABLES)}")
-        command = results.taken("command", [], "a list of texts")
-        if not all(isinstance(word, str) for word in command):
-            raise Fault(f"{path}: [results] command is not a list of texts")
+    def default_units(self) -> UnitSettings:
+        """Returns what the units do if no file says it."""
+        return self.units_in(OperatorFile(self.folder / "units.toml", text=""))
+
+    def units_in(self, file: OperatorFile) -> UnitSettings:
+        """Returns what a file says."""
+        copy, results, page, statistics, health = (file.part(name) for name in UNIT_TABLES)
         settings = UnitSettings(
             copies=self.folder / copy.text("folder", str(BACKUPS / self.name)),
-            copies_kept=copy.whole("keep", 48, 1, 100_000),
-            is_checked=copy.taken("check", True, "true or false"),
-            results_command=tuple(command),
+            copies_kept=copy.whole("keep", 1, 100_000, 48),
+            is_checked=copy.flag("check", True),
+            results_command=tuple(results.texts("command")),
             page=self.folder / page.text("folder", str(WEB / self.name / "report")),
             statistics=self.folder / statistics.text("folder", str(WEB / self.name / "stats")),
-            is_everybody_named=statistics.taken("everybody", False, "true or false"),
-            mail=health.text("mail"),
-            copy_hours=health.whole("copy_hours", 3, 1, 10_000),
+            is_everybody_named=statistics.flag("everybody"),
+            mail=health.text("mail", ""),
+            copy_hours=health.whole("copy_hours", 1, 10_000, 3),
         )
-        for table in (copy, results, page, statistics, health):
+        for table in (copy, results, page, statistics, health, file):
             table.end()
         return settings
 

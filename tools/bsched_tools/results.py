@@ -9,15 +9,16 @@ from dataclasses import dataclass, field, replace
 from pathlib import Path
 from typing import TextIO
 
+from bsched_files.atomic import replace_file, sync
+from bsched_files.faults import Fault
+from bsched_files.tables import Tables, all_opened
+from bsched_files.workunits import Result, Workunit, decided
+
 from .cursors import Cursor, Given, cursor_at
-from .faults import Fault
-from .files import replace_file, sync
 from .placing import OutputFolder, Spoiled, check_stored
 from .stuck import Stuck, stuck_in
-from .tables import Tables, all_opened
 from .texts import json_text, table_text
 from .uploaded import OutputNames, UploadedFile, Uploads, uploads_in
-from .workunits import Result, Workunit, decided
 
 COLUMNS = (
     "workunit",

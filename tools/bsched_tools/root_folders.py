@@ -4,7 +4,7 @@ from collections.abc import Iterable
 from contextlib import ExitStack
 from pathlib import Path
 
-from .faults import Fault
+from bsched_files.faults import Fault
 
 PARENT_MODE = 0o755
 

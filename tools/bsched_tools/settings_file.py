@@ -5,7 +5,8 @@ from collections.abc import Iterator
 from pathlib import Path
 from typing import Any
 
-WORD = re.compile(r"[A-Za-z0-9_.-]{1,64}")
+from bsched_files.texts import WORD
+
 RANGES = {
     "daily_result_quota": (1, 1_000_000),
     "max_hosts": (1, 100_000),

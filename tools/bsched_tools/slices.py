@@ -8,6 +8,8 @@ from collections.abc import Iterator
 from pathlib import Path
 from typing import Any
 
+from bsched_files.tables import Tables
+
 from .amounts import count_text
 from .looks import check_importing, tables_of, turn_of
 from .projects import Project
@@ -21,7 +23,6 @@ from .submitting import (
     room_of,
     waiting_of,
 )
-from .tables import Tables
 
 
 def sliced_records(project: Project, batch: str | None = None) -> Iterator[tuple[Path, dict[str, Any]]]:

@@ -8,9 +8,10 @@ import time
 from contextlib import closing
 from pathlib import Path
 
-from .faults import Fault
+from bsched_files.faults import Fault
+from bsched_files.tables import check_file, connected, faults_of, schema_fault
+
 from .holders import PROC, descriptors_of
-from .tables import check_file, connected, faults_of, schema_fault
 
 # on a quiet machine (docs/MEASURED.md, "Openings, imports and upgrades")
 ROWS_A_SECOND = 50_000

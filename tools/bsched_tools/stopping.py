@@ -13,7 +13,9 @@ from collections.abc import Iterator
 from contextlib import contextmanager, suppress
 from dataclasses import dataclass
 
-from .faults import Fault, Retry
+from bsched_files.faults import Fault
+
+from .faults import Retry
 
 STOP_SECONDS = 1.0  # a process that does not stand still by then is continued
 STILL_SECONDS = 10.0  # no process stands still for longer

@@ -9,10 +9,12 @@ from collections import defaultdict
 from collections.abc import Iterator
 from dataclasses import dataclass
 
+from bsched_files.tables import Tables
+from bsched_files.texts import shown
+from bsched_files.workunits import IS_HELD
+
 from .amounts import count_text
-from .tables import Tables
-from .texts import main_line, shown
-from .workunits import IS_HELD
+from .texts import main_line
 
 MOST_OWNERS = 100  # a workunit has no more instances, so no more users can have had one
 MOST_NAMED = 3

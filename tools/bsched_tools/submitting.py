@@ -13,21 +13,17 @@ from dataclasses import dataclass
 from pathlib import Path
 from typing import Any
 
+from bsched_files.atomic import copy_bytes, new_file
+from bsched_files.catalogue import FILE_NAME, UPLOAD_NAME, WORKUNIT, App, CatalogueFile
+from bsched_files.counts import MOST
+from bsched_files.faults import Fault
+from bsched_files.moments import DAY, HOUR
+from bsched_files.tables import Tables
+from bsched_files.texts import MILLICREDITS
+
 from .amounts import bytes_text, count_text
 from .bars import Bar
-from .catalogue_file import (
-    FILE_NAME,
-    UPLOAD_NAME,
-    WORKUNIT,
-    App,
-    CatalogueFile,
-    give_to_group,
-    made_for_group,
-    write_file,
-)
-from .counts import MOST
-from .faults import Fault
-from .files import copy_bytes, new_file
+from .catalogue_file import give_to_group, made_for_group, write_file
 from .import_files import KINDS, ImportFile, Row
 from .imports import Batch, Sender, batches_of, refusal_text
 from .inputs import Input, digest_of
@@ -35,7 +31,6 @@ from .looks import check_importing, tables_of
 from .progress import begun, earlier, progress_of, span_text
 from .projects import Project
 from .stuck import stuck_in
-from .tables import Tables
 
 SPEED = 4 * 10**9  # operations a second of one processor of a usual PC, which --hours means
 CREDIT_OF_HOUR = 200 * SPEED / 10**9 / 24  # BOINC's: 200 credits for a day at 10^9 a second
@@ -64,8 +59,13 @@ class Amounts:
         """The columns of an import after the name and the application."""
         quorum, successes = self.quorum, 2 * self.quorum + 2
         total = min(MOST_INSTANCES, max(3 * quorum + 4, self.errors + successes))
-        numbers = [quorum, quorum, self.errors, total, successes, round(self.days * 86400)]
-        numbers += [round(self.hours * 3600 * SPEED), self.memory, self.disk, round(self.credit * 1000)]
+        numbers = [quorum, quorum, self.errors, total, successes, round(self.days * DAY)]
+        numbers += [
+            round(self.hours * HOUR * SPEED),
+            self.memory,
+            self.disk,
+            round(self.credit * MILLICREDITS),
+        ]
         return [str(number) for number in numbers]
 
 
@@ -115,7 +115,7 @@ def app_of(catalogue: CatalogueFile, name: str) -> App:
     """Returns the application with a name."""
     app = catalogue.app(name)
     if app is None:
-        names = ", ".join(sorted(catalogue.app_names())) or "none"
+        names = ", ".join(sorted(app.name for app in catalogue.apps())) or "none"
         raise Fault(f"{catalogue.path}: there is no application {name}; there are: {names}")
     if not catalogue.versions(name):
         raise Fault(f"{catalogue.path}: the application {name} has no version: add one by `bsched-tools app`")
@@ -125,7 +125,7 @@ def app_of(catalogue: CatalogueFile, name: str) -> App:
 def places_of(catalogue: CatalogueFile, app: App, inputs: list[Input]) -> tuple[Path, list[Path]]:
     """Returns the folder of the staged inputs of workunits, and the place of each."""
     is_files = inputs[0].path is not None
-    lines = catalogue.line_folder(app)
+    lines = app.line_folder
     if is_files and len(app.inputs) != 1:
         what = "several input files" if app.inputs else "a command line, and no input file"
         raise Fault(f"{catalogue.path}: a workunit of {app.name} has {what}: see `bsched-tools app --input`")
@@ -144,13 +144,14 @@ def places_of(catalogue: CatalogueFile, app: App, inputs: list[Input]) -> tuple[
 def check_sizes(catalogue: CatalogueFile, plan: Plan) -> None:
     """Refuses inputs that don't fit into the disk that a job may use, and bounds that the client ignores."""
     app, amounts = plan.app, plan.amounts
-    for option, value, most in (("--disk", amounts.disk, app.disk), ("--memory", amounts.memory, app.memory)):
+    limits = (("--disk", amounts.disk, app.bounds.disk), ("--memory", amounts.memory, app.bounds.memory))
+    for option, value, most in limits:
         if value > most:
             what = f"more than {most}, which the catalogue allows for {app.name}"
             raise Fault(f"{option} {value}: it is {what}: raise rsc{option.replace('--', '_')}_bound there")
     if plan.inputs[0].path is None:
         return
-    outputs = sum(file.get("max_nbytes", 0) for file in app.members.get("output_files", []))
+    outputs = sum(file.max_nbytes for file in app.output_files)
     room = amounts.disk - catalogue.version_bytes(app.name) - outputs
     for one in plan.inputs:
         if one.nbytes > room:
@@ -450,8 +451,9 @@ def sum_lines(plan: Plan, left: list[tuple[Input, Path]], missing: list[Batch], 
     yield f"errors     {errors_text(amounts.errors)}"
     yield f"hours      {instances * amounts.hours:,.4g} of a processor, {amounts.hours:g} for each instance"
     yield f"credit     {instances * amounts.credit:,.6g}, {amounts.credit:g} for each result"
-    limit = plan.app.factor * amounts.hours
-    yield f"limit      a job is ended after {plan.app.factor:,} times its hours, {limit:,.4g} on a usual PC"
+    factor = plan.app.bounds.factor
+    limit = factor * amounts.hours
+    yield f"limit      a job is ended after {factor:,} times its hours, {limit:,.4g} on a usual PC"
     size = bytes_text(sum(one.nbytes for one in plan.inputs))
     yield f"inputs     {size}, {len(left):,} of {count:,} to be staged"
     needed = sum(len(batch.rows) for batch in missing)

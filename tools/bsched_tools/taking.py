@@ -8,12 +8,14 @@ from contextlib import ExitStack, suppress
 from dataclasses import dataclass
 from pathlib import Path
 
+from bsched_files.atomic import FICLONE
+from bsched_files.faults import Fault
+
 from . import holders
-from .faults import Fault, Retry
+from .faults import Retry
 from .holders import Identity, OpenFile, identity_of
 from .stopping import process_of, stopped
 
-FICLONE = 0x40049409  # shares the blocks of a file, if the file system can
 PART = 1 << 24
 SEEK_SECONDS = 10.0  # how long to try again when another process is in the way
 # If a file was not written for this long, each later write changes its time. The first number holds if the

@@ -1,32 +1,18 @@
-"""Texts that hosts and volunteers chose, as they are shown: on a terminal, in a spreadsheet, and in JSON.
+"""Texts that hosts and volunteers chose, as they are shown in a line, in a spreadsheet and in JSON.
 
-What can't be printed could move a terminal's cursor, or turn what follows it around. A spreadsheet computes a
-text that begins like a formula.
+A spreadsheet computes a text that begins like a formula.
 """
-import csv
-import io
 import json
 import re
 from collections.abc import Iterable
 
-UNKNOWN = "\ufffd"  # takes the place of a character that can't be printed
+from bsched_files.texts import csv_text, shown
+
 MOST_TEXT = 70  # characters of a line that is cut
 FORMULA = ("=", "+", "-", "@", "\t", "\r")
 TRACEBACK = "Traceback (most recent call last)"
 UPLOAD_FAILURE = re.compile("upload failure: <file_xfer_error>.*?<error_code>([^<\n]+)<", re.DOTALL)
 NUMBER = re.compile(r"[+-]?(\d+\.?\d*|\.\d+)([eE][+-]?\d+)?", re.ASCII)
-
-
-def is_harmless(one: str) -> bool:
-    """Returns whether a character can be printed: no control character, and none that turns text around."""
-    return one.isprintable()
-
-
-def shown(text: str, kept: str = "\t") -> str:
-    """Returns a text for a terminal. Characters that can't be printed are replaced, apart from those kept."""
-    if text.isprintable():
-        return text
-    return "".join(one if is_harmless(one) or one in kept else UNKNOWN for one in text)
 
 
 def main_line(text: str) -> str:
@@ -52,17 +38,6 @@ def cell(value: object) -> str:
     return f"'{text}" if is_formula else text
 
 
-def csv_text(rows: Iterable[Iterable[object]]) -> str:
-    """Returns rows as comma-separated values, exactly. Python quotes a field with a carriage return only if
-    the end of a row has one, and many readers end a row there."""
-    texts = []
-    for row in rows:
-        file = io.StringIO()
-        csv.writer(file, lineterminator="\r\n").writerow(row)
-        texts.append(file.getvalue().removesuffix("\r\n") + "\n")
-    return "".join(texts)
-
-
 def table_text(rows: Iterable[Iterable[object]]) -> str:
     """Returns rows as comma-separated values for a person: on a terminal or in a spreadsheet."""
     return csv_text([cell(value) for value in row] for row in rows)
@@ -73,7 +48,7 @@ def json_text(value: object) -> str:
     text = json.dumps(value, ensure_ascii=False)
     if text.isprintable():
         return text
-    return "".join(one if is_harmless(one) else escaped(one) for one in text)
+    return "".join(one if one.isprintable() else escaped(one) for one in text)
 
 
 def escaped(one: str) -> str:

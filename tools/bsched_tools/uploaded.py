@@ -3,27 +3,20 @@ files").
 
 `uploads.db` there says which files a result has, and `store/` has their contents under their SHA-256.
 """
-import re
 import sqlite3
 from collections.abc import Iterator, Mapping, Set
-from contextlib import closing, contextmanager
+from contextlib import contextmanager
 from dataclasses import dataclass
 from pathlib import Path
-from urllib.parse import quote
 
-from .faults import Fault
-from .workunits import Workunit
+from bsched_files.faults import Fault
+from bsched_files.uploads import DATABASE, FILES_OF_RESULT, UPLOADS, files_in, stored_path
+from bsched_files.workunits import Workunit
+
 
 OutputNames = Mapping[str, Set[str]]  # for each application the names of output files in the catalogue
 
-APPLICATION_ID = 0x62736375  # of uploads.db
 BUSY_SECONDS = 10.0
-FILES = "SELECT open_name, nbytes, sha256 FROM file WHERE result = ?1 ORDER BY place"
-# a line of an output: it names a file even if its row is lost. A volunteer can write such lines, too, so they
-# count only for names that the catalogue has
-LINE = re.compile(
-    r"(?P<name>[A-Za-z0-9_][A-Za-z0-9_.+-]{0,127}) sha256:(?P<sha256>[0-9a-f]{64}) (?P<nbytes>[0-9]{1,18})"
-)
 
 
 @dataclass(frozen=True, slots=True)
@@ -55,14 +48,14 @@ class Uploads:
         if unit.canonical is None:
             return []
         try:
-            rows = self.connection.execute(FILES, (unit.canonical,)).fetchall()
+            rows = self.connection.execute(FILES_OF_RESULT, (unit.canonical,)).fetchall()
         except sqlite3.Error as error:
-            raise Fault(f"{self.folder / 'uploads.db'}: {error}") from None
+            raise Fault(f"{self.folder / DATABASE}: {error}") from None
         if not rows:
+            # such lines count only for names that the catalogue has: a volunteer can write them, too
             known = self.output_names.get(unit.app, frozenset())
-            found = (LINE.fullmatch(line) for line in (unit.output or "").split("\n"))
-            matches = [one for one in found if one is not None and one["name"] in known]
-            named = [(one["name"], int(one["nbytes"]), one["sha256"]) for one in matches]
+            found = ((name, one) for name, one in files_in(unit.output or "") if name in known)
+            named = [(name, one.nbytes, one.sha256) for name, one in found]
             # of two lines with one name the first counts
             first = {row[0]: row for row in reversed(named) if self._path(row[2]).exists()}
             rows = [row for row in named if first.get(row[0]) is row]
@@ -70,20 +63,14 @@ class Uploads:
 
     def _path(self, sha256: str) -> Path:
         """Returns the path of a content."""
-        return (self.folder / "store" / sha256).absolute()
+        return stored_path(self.folder, sha256).absolute()
 
 
 @contextmanager
 def uploads_in(folder: Path, output_names: OutputNames | None = None) -> Iterator[Uploads]:
     """Yields a folder of uploads. Without the names of output files no output names a file."""
-    path = folder / "uploads.db"
+    path = folder / DATABASE
     if not path.is_file():
         raise Fault(f"{folder}: it has no uploads.db, so it is not the folder of a bridge's uploads")
-    try:
-        name = f"file:{quote(str(path.absolute()))}?mode=ro"
-        with closing(sqlite3.connect(name, uri=True, timeout=BUSY_SECONDS)) as connection:
-            if connection.execute("PRAGMA application_id").fetchone()[0] != APPLICATION_ID:
-                raise Fault(f"{path}: it is not a bridge's file of uploads")
-            yield Uploads(folder, connection, output_names or {})
-    except sqlite3.Error as error:
-        raise Fault(f"{path}: {error}") from None
+    with UPLOADS.opened(path, BUSY_SECONDS) as connection:
+        yield Uploads(folder, connection, output_names or {})

@@ -2,12 +2,13 @@
 its pages."""
 import json
 import shutil
-import subprocess
 import sys
 from dataclasses import dataclass, field
 from typing import Any
 
-from .faults import Fault
+from bsched_files.faults import Fault
+from bsched_files.programs import run
+
 from .projects import Project
 
 SECONDS = 60.0
@@ -44,12 +45,7 @@ def command_of_bridge() -> list[str]:
 def ask_bridge(args: list[str]) -> str:
     """Returns what a command of the bridge prints."""
     command = [*command_of_bridge(), *args]
-    try:
-        completed = subprocess.run(
-            command, capture_output=True, text=True, timeout=SECONDS, stdin=subprocess.DEVNULL
-        )
-    except (OSError, subprocess.TimeoutExpired) as error:
-        raise Fault(f"{command[0]}: {getattr(error, 'strerror', None) or error}") from None
+    completed = run(command, SECONDS)
     if completed.returncode:
         raise Fault(f"{command[0]} {args[0]}: {completed.stderr.strip()}")
     return completed.stdout

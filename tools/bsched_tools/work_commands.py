@@ -5,19 +5,20 @@ import sys
 import time
 from collections.abc import Callable, Iterable
 
+from bsched_files.faults import Fault
+from bsched_files.texts import shown
+
 from .amounts import MOST_CREDIT, count_text
 from .apps import LINE_FOLDER, NewApp, add_app, input_member, output_member, read_files
 from .bars import Bar
-from .catalogue_file import CatalogueFile
+from .catalogue_file import ProjectCatalogue
 from .collecting import collect_files, collected_lines
-from .faults import Fault
 from .inputs import Input, check_batch, combinations, lines_in, of_files, of_texts
 from .looks import check_member, looked_at, tables_of, turn_of
 from .progress import earlier, names_in_batch, progress_lines, progress_of, trouble_in
 from .projects import Project, project_of
 from .slices import feed, left_in
 from .submitting import CREDIT_OF_HOUR, Amounts, Plan, app_of, check_sizes, errors_of, places_of, submit_work
-from .texts import shown
 
 Arguments = argparse.Namespace
 WATCH_SECONDS = 10.0
@@ -89,14 +90,14 @@ def credit_of(args: Arguments) -> float:
 
 def plan_of(args: Arguments, project: Project) -> Plan:
     """Returns the batch of work that the command line asks for."""
-    catalogue = CatalogueFile(project)
+    catalogue = ProjectCatalogue(project)
     application = app_of(catalogue, args.app)
     inputs = inputs_asked(args)
     amounts = Amounts(
         args.hours,
         args.days,
-        application.memory if args.memory is None else args.memory,
-        application.disk if args.disk is None else args.disk,
+        application.bounds.memory if args.memory is None else args.memory,
+        application.bounds.disk if args.disk is None else args.disk,
         args.quorum,
         errors_of(project, args.batch, args.quorum) if args.errors is None else args.errors,
         credit_of(args),

@@ -13,6 +13,7 @@ from plain_formats import KINDS
 
 TOOLS = Path(__file__).resolve().parent.parent
 BENCH = TOOLS.parent / "bench"
+PACKAGES = f"{TOOLS}:{TOOLS.parent / 'files'}"
 KEY = "change-this-key"
 SETTINGS = {
     "daily_result_quota": 100,
@@ -90,7 +91,7 @@ class Twin:
 def tools(*args: object, seconds: float = 10 * END) -> tuple[int, str, str]:
     """Runs the tools, and returns their status and what they print."""
     command = [sys.executable, "-m", "bsched_tools", *map(str, args)]
-    own = {"PYTHONPATH": f"{TOOLS}:{TOOLS.parent / 'bridge'}", "PYTHONDONTWRITEBYTECODE": "1"}
+    own = {"PYTHONPATH": f"{PACKAGES}:{TOOLS.parent / 'bridge'}", "PYTHONDONTWRITEBYTECODE": "1"}
     completed = subprocess.run(
         command, capture_output=True, text=True, timeout=seconds, env={**os.environ, **own}
     )

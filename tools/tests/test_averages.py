@@ -4,8 +4,9 @@ from pathlib import Path
 
 import pytest
 
-from bsched_tools.averages import DAY, Averages
-from bsched_tools.faults import Fault
+from bsched_files.faults import Fault
+from bsched_files.moments import DAY
+from bsched_tools.averages import Averages
 from bsched_tools.members import Host, User
 
 
@@ -41,7 +42,7 @@ def test_a_file_of_another_format(tmp_path: Path) -> None:
     Averages(path).write()
     fields = json.loads(path.read_text())
     path.write_text(json.dumps({**fields, "format": fields["format"] + 1}))
-    with pytest.raises(Fault, match="it has no averages"):
+    with pytest.raises(Fault, match="it has format 2, and this program knows 1"):
         Averages(path)
 
 

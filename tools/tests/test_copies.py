@@ -5,6 +5,7 @@ from pathlib import Path
 
 import pytest
 
+from bsched_files.copies import give_to
 from bsched_tools import copies
 from bsched_tools.holders import identity_of
 from bsched_tools.taking import Source, Taken
@@ -69,6 +70,6 @@ def test_a_work_folder_that_somebody_removed_is_no_fault(tmp_path: Path) -> None
 
 
 def test_the_owner_is_given_by_a_descriptor_that_is_closed(project: Path) -> None:
-    copies.give_to(project, project.stat())
+    give_to(project, project.stat())
     own = (os.path.realpath(f"/proc/self/fd/{name}") for name in os.listdir("/proc/self/fd"))
     assert str(project.resolve()) not in own

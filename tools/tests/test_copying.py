@@ -14,11 +14,12 @@ from typing import Any
 
 import plain_tables
 import pytest
-from small_project import END, SETTINGS, TOOLS, Twin, make_tables, rows_of, tools
+from small_project import END, PACKAGES, SETTINGS, Twin, make_tables, rows_of, tools
 
-from bsched_tools import copies as copies_module
-from bsched_tools import copying, holders, stopping, tables, taking
-from bsched_tools.faults import Fault, Retry
+from bsched_files.copies import copy_name, found_copy, give_to
+from bsched_files.faults import Fault
+from bsched_tools import copying, holders, stopping, taking
+from bsched_tools.faults import Retry
 
 
 def identity_of(path: Path) -> holders.Identity:
@@ -180,7 +181,7 @@ def test_times_of_whole_seconds_are_not_trusted_soon(project: Path) -> None:
 def killed_after(seconds: float, project: Path, copies: Path) -> None:
     """Begins a copy, and kills it after this many seconds."""
     command = [sys.executable, "-m", "bsched_tools", "copy", "--tables", str(project), "--to", str(copies)]
-    path = {"PYTHONPATH": str(TOOLS)}
+    path = {"PYTHONPATH": PACKAGES}
     with subprocess.Popen(command, env=path, stdout=subprocess.DEVNULL) as copier:
         time.sleep(seconds)
         copier.kill()
@@ -203,7 +204,7 @@ def test_serving_goes_on_where_the_tool_is_killed_while_it_stands_still(project:
     )
     for end in (signal.SIGKILL, signal.SIGTERM, signal.SIGINT):
         command = [sys.executable, "-c", script]
-        path = {"PYTHONPATH": str(TOOLS)}
+        path = {"PYTHONPATH": PACKAGES}
         with subprocess.Popen(
             command, env=path, stdout=subprocess.PIPE, stderr=subprocess.DEVNULL
         ) as stopper:
@@ -263,7 +264,7 @@ def test_locks_of_open_files(project: Path, copies: Path) -> None:
     log = project.with_name("project.db-wal")
     log.write_bytes(b"")
     command = [sys.executable, "-c", LIKE_THE_PROGRAM, str(project), str(log)]
-    with subprocess.Popen(command, env={"PYTHONPATH": str(TOOLS)}, stdout=subprocess.PIPE) as holder:
+    with subprocess.Popen(command, env={"PYTHONPATH": PACKAGES}, stdout=subprocess.PIPE) as holder:
         try:
             assert holder.stdout is not None and holder.stdout.readline() == b"locked\n"
             found = holders.holder_among(holders.all_open_files(identity_of(project)))
@@ -446,10 +447,10 @@ def test_a_link_in_the_place_of_a_copy_is_not_followed(tmp_path: Path) -> None:
     target.write_text("x")
     link.symlink_to(target)
     with pytest.raises(OSError):
-        copies_module.give_to(link, target.stat())
+        give_to(link, target.stat())
     os.link(target, tmp_path / "hard")
     with pytest.raises(Fault, match="somebody else put this file there"):
-        copies_module.give_to(tmp_path / "hard", target.stat())
+        give_to(tmp_path / "hard", target.stat())
 
 
 def test_a_copy_whose_name_lies_in_the_future_is_named(
@@ -458,10 +459,10 @@ def test_a_copy_whose_name_lies_in_the_future_is_named(
     capsys: pytest.CaptureFixture[str],
 ) -> None:
     first = copying.copy_tables(project, copies).path
-    assert tables.found_copy(copies) == first and capsys.readouterr().err == ""
+    assert found_copy(copies) == first and capsys.readouterr().err == ""
     later = copies / "project-29990101T000000.000Z.db"
     os.rename(first, later)
-    assert tables.found_copy(copies) == later
+    assert found_copy(copies) == later
     assert "its name lies in the future" in capsys.readouterr().err
 
 
@@ -606,6 +607,6 @@ def test_the_command_line(project: Path, copies: Path) -> None:
 
 
 def test_names_of_copies_are_in_the_order_of_time(project: Path) -> None:
-    source = taking.source_of(project)
-    names = [copies_module.copy_name(source, moment) for moment in (0.0, 1.0011, 86400.5, 1.8e9)]
+    stem = taking.source_of(project).path.stem
+    names = [copy_name(stem, moment) for moment in (0.0, 1.0011, 86400.5, 1.8e9)]
     assert names == sorted(names) and names[1] == "project-19700101T000001.001Z.db"

@@ -6,9 +6,9 @@ from pathlib import Path
 import pytest
 from hypothesis import given, strategies as st
 
-from bsched_tools import tables
+from bsched_files import tables
+from bsched_files.faults import Fault
 from bsched_tools.cursors import Cursor, Given, cursor_at, former_mark, numbers_of, ranges_of
-from bsched_tools.faults import Fault
 
 
 @given(st.sets(st.integers(1, 40)))

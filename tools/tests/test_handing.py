@@ -8,7 +8,7 @@ from collections.abc import Iterator
 from pathlib import Path
 
 import pytest
-from small_project import END, TOOLS
+from small_project import END, PACKAGES
 from work_project import WorkProject
 
 from bsched_bridge.upload_tables import UploadTables
@@ -157,7 +157,7 @@ def test_a_cursor_that_root_had_can_be_had_by_the_owner_of_the_folder(tmp_path: 
             user=owner,
             group=owner,
             extra_groups=[],
-            env={"PYTHONPATH": str(TOOLS), "PYTHONDONTWRITEBYTECODE": "1"},
+            env={"PYTHONPATH": PACKAGES, "PYTHONDONTWRITEBYTECODE": "1"},
             timeout=END,
             check=True,
         )

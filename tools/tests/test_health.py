@@ -15,12 +15,13 @@ import pytest
 from made_project import SETTINGS, MadeProject
 from small_project import tools
 
-from bsched_bridge.tool_files import read_findings
+from bsched_files import timers
+from bsched_files import counts
+from bsched_files.copies import moment_of
+from bsched_files.findings import Finding, Level, read_findings
 from bsched_tools import __main__ as main
 from bsched_tools import health
-from bsched_tools.levels import Finding, Level
 from bsched_tools.projects import Project
-from bsched_tools.tables import moment_of
 
 
 class Bridge(BaseHTTPRequestHandler):
@@ -169,7 +170,7 @@ def test_ticks_if_systemd_does_not_answer(
     made: MadeProject, tmp_path: Path, monkeypatch: pytest.MonkeyPatch, minutes: int, level: Level
 ) -> None:
     monkeypatch.setattr(health, "shown_by_systemd", lambda _unit, _key: None)
-    monkeypatch.setattr(health, "STAMPS", tmp_path)
+    monkeypatch.setattr("bsched_files.timers.STAMPS", tmp_path)
     stamp = tmp_path / "stamp-bsched-tick@sums.timer"
     stamp.touch()
     os.utime(stamp, (time.time() - 60 * minutes,) * 2)
@@ -188,8 +189,6 @@ def test_old_copies(made: MadeProject, hours: int, level: Level) -> None:
 
 
 def test_a_table_that_is_nearly_full(made: MadeProject, monkeypatch: pytest.MonkeyPatch) -> None:
-    from bsched_tools import counts
-
     monkeypatch.setitem(counts.MOST, "unit", 22)
     finding = found(made)["limits"]
     assert finding.level is Level.WARNING and finding.text.startswith("20 of 22 workunits are used")
@@ -237,7 +236,7 @@ def test_what_the_bridge_reads(made: MadeProject) -> None:
     kept = read_findings(path)
     assert kept is not None and before <= kept.moment <= time.time()
     levels = {one.check: one.level for one in kept.findings}
-    assert (levels["scheduler"], levels["copy"], levels["limits"]) == ("good", "good", "good")
+    assert {levels[name] for name in ("scheduler", "copy", "limits")} == {Level.GOOD}
     assert next(one.text for one in kept.findings if one.check == "copy").startswith("the newest one is ")
     assert (kept.copies, kept.newest_copy, kept.oldest_copy) == (2, moment_of(copy), 1_767_225_600)
     assert path.stat().st_mode & 0o777 == 0o600
@@ -261,7 +260,7 @@ def test_settings_that_can_not_be_read(made: MadeProject) -> None:
     """They are a critical finding, and the other checks go on."""
     (made.folder / "units.toml").write_text("[copy\n")
     status, output, fault = made.tools("health")
-    assert (status, fault) == (2, "") and "units.toml: it is not TOML" in output.splitlines()[0]
+    assert (status, fault) == (2, "") and "units.toml: is not TOML" in output.splitlines()[0]
     assert "good      scheduler" in output
 
 
@@ -303,7 +302,7 @@ def test_the_advice_if_systemd_does_not_answer(
 ) -> None:
     """The timer of copies elapses each hour, so a file that is older is that of a timer that was stopped."""
     monkeypatch.setattr(health, "shown_by_systemd", lambda _unit, _key: None)
-    monkeypatch.setattr(health, "STAMPS", tmp_path)
+    monkeypatch.setattr(timers, "STAMPS", tmp_path)
     stamp = tmp_path / "stamp-bsched-copy@sums.timer"
     stamp.touch()
     os.utime(stamp, (time.time() - 3600 * hours,) * 2)

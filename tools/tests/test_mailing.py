@@ -8,10 +8,9 @@ from pathlib import Path
 import pytest
 from made_project import MadeProject
 
-from bsched_bridge.tool_files import read_findings
+from bsched_files.findings import Finding, Level, read_findings
 from bsched_tools import __main__ as main
 from bsched_tools import health, mailing
-from bsched_tools.levels import Finding, Level
 from bsched_tools.projects import Project
 
 TO = "op@sums.example"
@@ -126,10 +125,10 @@ def test_the_status_is_that_of_the_worst_finding(
     kept = read_findings(made.folder / "units" / "findings.json")
     assert kept is not None
     shown = [(one.check, one.level) for one in kept.findings]
-    assert shown[0] == (found[0].check, found[0].level.name.lower())
+    assert shown[0] == (found[0].check, found[0].level)
     assert lines[0] == found[0].line and len(lines) == len(shown) == (2 if is_bad else 1)
     if is_bad:
-        assert shown[1] == ("mail", "critical") and lines[1].startswith("critical  mail         /")
+        assert shown[1] == ("mail", Level.CRITICAL) and lines[1].startswith("critical  mail         /")
 
 
 @pytest.mark.parametrize(

@@ -4,9 +4,9 @@ import re
 import xml.etree.ElementTree as ElementTree
 from pathlib import Path
 
-from bsched_tools.counts import DAY
+from bsched_files.moments import DAY
 from bsched_tools.history import Entry
-from bsched_tools.month import last_of_days, results_a_day, write_plots
+from bsched_tools.month import last_of_days, results_a_day, write_month
 
 NOW = 20_000 * DAY + 7200
 
@@ -41,7 +41,7 @@ def test_results_a_day() -> None:
 
 
 def test_the_plots_and_their_words(tmp_path: Path) -> None:
-    write_plots(tmp_path, lived(40), NOW)
+    write_month(tmp_path, lived(40), NOW)
     listed = json.loads((tmp_path / "plots.json").read_text())
     assert [one["file"] for one in listed["plots"]] == ["results.svg", "computers.svg", "credit.svg"]
     texts = [one["text"] for one in listed["plots"]]
@@ -54,19 +54,19 @@ def test_the_plots_and_their_words(tmp_path: Path) -> None:
         assert "prefers-color-scheme" in svg and "<script" not in svg
         assert len(svg) < 524_288 and not re.search("https?://(?!www.w3.org/)", svg)
     before = (tmp_path / "results.svg").read_bytes()
-    write_plots(tmp_path, lived(40), NOW)
+    write_month(tmp_path, lived(40), NOW)
     assert (tmp_path / "results.svg").read_bytes() == before
 
 
 def test_one_day_has_no_plots(tmp_path: Path) -> None:
     lives: list[list[Entry]] = [[], lived(1), lived(2)]
     for entries in lives:
-        write_plots(tmp_path, entries, NOW)
+        write_month(tmp_path, entries, NOW)
         assert json.loads((tmp_path / "plots.json").read_text()) == {"format": 1, "plots": []}
     assert [path.name for path in tmp_path.iterdir()] == ["plots.json"]
 
 
 def test_computers_that_are_not_known_are_those_with_a_job(tmp_path: Path) -> None:
-    write_plots(tmp_path, [entry(NOW - day * DAY, 0, None, 7) for day in range(5, 0, -1)], NOW)
+    write_month(tmp_path, [entry(NOW - day * DAY, 0, None, 7) for day in range(5, 0, -1)], NOW)
     listed = json.loads((tmp_path / "plots.json").read_text())
     assert "first 7, last 7" in listed["plots"][1]["text"]

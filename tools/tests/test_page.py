@@ -13,9 +13,9 @@ from lives import Stored, life_of
 from project import Project
 from small_project import LIMITS, SETTINGS, WORKUNITS, make_tables, request, tools
 
+from bsched_files.faults import Fault
 from bsched_tools import history, page
 from bsched_tools.counts import counted
-from bsched_tools.faults import Fault
 
 Attributes = list[tuple[str, str | None]]
 VOID = {"meta", "br"}

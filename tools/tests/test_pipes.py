@@ -6,7 +6,7 @@ from pathlib import Path
 
 import pytest
 from lives import life_of, stored_life
-from small_project import END, TOOLS, rows_of
+from small_project import END, PACKAGES, rows_of
 
 SIGPIPE_STATUS = 141
 
@@ -36,7 +36,7 @@ def test_nobody_reads_the_output(tables: Path, words: str) -> None:
             stderr=subprocess.PIPE,
             text=True,
             timeout=10 * END,
-            env={**os.environ, "PYTHONPATH": str(TOOLS), "PYTHONDONTWRITEBYTECODE": "1"},
+            env={**os.environ, "PYTHONPATH": PACKAGES, "PYTHONDONTWRITEBYTECODE": "1"},
         )
     finally:
         os.close(writing)

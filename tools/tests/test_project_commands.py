@@ -14,9 +14,9 @@ from bsched_bridge.barring import Barring
 from bsched_bridge.members import Members, first_heard
 from bsched_bridge.state_file import StateFile
 from bsched_bridge.teams import Teams
+from bsched_files.faults import Fault
 from bsched_tools import imports, projects
 from bsched_tools.copies import turn
-from bsched_tools.faults import Fault
 from bsched_tools.import_files import read_import
 
 
@@ -355,14 +355,15 @@ def test_counts_into_a_file(project: MadeProject, tmp_path: Path) -> None:
 @pytest.mark.parametrize(
     "text, fault",
     [
-        ("[copies]\n", "copies is not known: the tables are copy, results, page, statistics, health"),
-        ("[copy]\nkeeps = 3\n", "[copy] keeps is not known: is keep meant?"),
-        ('[copy]\nkeep = "3"\n', "[copy] keep is '3', and must be a whole number"),
-        ("[copy]\nkeep = 0\n", "[copy] keep is 0, and must be from 1 to 100000"),
-        ("copy = 3\n", "copy is not a table [copy]"),
-        ('[results]\ncommand = "x"\n', "[results] command is 'x', and must be a list of texts"),
-        ("[results]\ncommand = [3]\n", "[results] command is not a list of texts"),
-        ("copy\n", "it is not TOML: "),
+        ("[copys]\n", "line 1: copys is not known here: is copy meant?"),
+        ("[copy]\n\n[other]\n", "line 3: other is not known here"),
+        ("[copy]\nkeeps = 3\n", "line 2: keeps is not known here: is keep meant?"),
+        ('[copy]\nkeep = "3"\n', "line 2: keep is not a whole number"),
+        ("[copy]\nkeep = 0\n", "line 2: keep is not within 1 to 100000"),
+        ("copy = 3\n", "line 1: copy is not a table [copy]"),
+        ('[results]\ncommand = "x"\n', "line 2: command is not a list of texts"),
+        ("[results]\ncommand = [3]\n", "line 2: command is not a list of texts"),
+        ("copy\n", "is not TOML: "),
     ],
 )
 def test_faults_of_the_settings_of_units(tmp_path: Path, text: str, fault: str) -> None:

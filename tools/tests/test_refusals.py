@@ -8,7 +8,7 @@ from pathlib import Path
 
 import plain_tables
 import pytest
-from small_project import TOOLS, Twin, make_tables, tools
+from small_project import PACKAGES, Twin, make_tables, tools
 
 COMMANDS: dict[str, list[str]] = {
     "results": [],
@@ -127,7 +127,7 @@ def test_a_full_disk(project: Path, small_disk: Path, raw_args: list[str], wante
 @pytest.mark.parametrize("command", ["results", "counts"])
 def test_a_full_output(project: Path, command: str) -> None:
     full_command = [sys.executable, "-m", "bsched_tools", command, "--tables", str(project)]
-    path = {"PYTHONPATH": str(TOOLS)}
+    path = {"PYTHONPATH": PACKAGES}
     with open("/dev/full", "w") as full:
         completed = subprocess.run(full_command, stdout=full, stderr=subprocess.PIPE, text=True, env=path)
     assert (completed.returncode, completed.stderr) == (

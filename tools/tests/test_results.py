@@ -12,10 +12,12 @@ from lives import Stored, decided_by, life_of, stored_life
 from small_project import TOOLS, WORKUNITS, made_anew, tools
 from small_project import rows_of as stored_rows
 
-from bsched_tools import results, tables, texts, workunits
+from bsched_files import tables, workunits
+from bsched_files.faults import Fault
+from bsched_files.tables import opened
+from bsched_files.texts import csv_text
+from bsched_tools import results
 from bsched_tools.cursors import Cursor, cursor_at, former_mark
-from bsched_tools.faults import Fault
-from bsched_tools.tables import opened
 
 NOW, NEXT = "1970-01-01T00:16:40Z", "\n"
 REASONS = {"errors": "errors", "success": "successes", "total": "total"}
@@ -374,7 +376,7 @@ def test_the_command_line(tmp_path: Path) -> None:
 def test_a_field_with_a_carriage_return_is_quoted() -> None:
     """Many readers end a row there."""
     rows: list[list[object]] = [["w1", "5\r6"], ["w2", "5\r\n6"], ["w3", 'a "b", c'], ["", 7]]
-    text = texts.csv_text(rows)
+    text = csv_text(rows)
     assert text == 'w1,"5\r6"\nw2,"5\r\n6"\nw3,"a ""b"", c"\n,7\n'
     read = list(csv.reader(io.StringIO(text, newline="")))
     assert read == [[str(value) for value in row] for row in rows]

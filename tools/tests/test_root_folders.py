@@ -5,7 +5,7 @@ from pathlib import Path
 
 import pytest
 
-from bsched_tools.faults import Fault
+from bsched_files.faults import Fault
 from bsched_tools.root_folders import make_below
 
 pytestmark = pytest.mark.skipif(os.geteuid() != 0, reason="only root gives folders to somebody else")

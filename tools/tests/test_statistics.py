@@ -12,8 +12,10 @@ import pytest
 from lives import Stored, life_of, stored_life
 from small_project import SETTINGS, made_anew, make_tables, tools
 
-from bsched_tools import averages, exports, files
-from bsched_tools.faults import Fault
+from bsched_files import atomic as files
+from bsched_files.averages import average_after
+from bsched_files.faults import Fault
+from bsched_tools import exports
 from bsched_tools.members import agreed_in
 from bsched_tools.volunteers import Team
 
@@ -41,14 +43,14 @@ def folder(tmp_path: Path) -> Path:
 
 def test_averages_as_worked_out() -> None:
     """10 credits on the first day, 5 a day later, then none for 7 days."""
-    first = averages.average_after(None, 0.5, 10)
-    second = averages.average_after(first, 1, 5)
-    third = averages.average_after(averages.average_after(first, 7, 0), 0, 0)
+    first = average_after(None, 0.5, 10)
+    second = average_after(first, 1, 5)
+    third = average_after(average_after(first, 7, 0), 0, 0)
     assert (first, round(second, 9)) == (10, 9.528618321)
     assert third == 5
-    assert round(averages.average_after(second, 7, 0), 9) == 4.764309161
-    assert averages.average_after(None, 4, 10) == 2.5
-    assert averages.average_after(10, 7, -3) == 5
+    assert round(average_after(second, 7, 0), 9) == 4.764309161
+    assert average_after(None, 4, 10) == 2.5
+    assert average_after(10, 7, -3) == 5
 
 
 def test_the_files_of_a_life(tmp_path: Path, folder: Path) -> None:
@@ -188,7 +190,7 @@ def test_no_half_file(tmp_path: Path, folder: Path, monkeypatch: pytest.MonkeyPa
     def full(_descriptor: int) -> None:
         raise OSError(28, "No space left on device")
 
-    monkeypatch.setattr("bsched_tools.files.os.fsync", full)
+    monkeypatch.setattr("bsched_files.atomic.os.fsync", full)
     with pytest.raises(Fault, match="stats-averages.json: No space left on device"):
         exports.export([path], folder, frozenset())
     assert {one.name: one.read_bytes() for one in folder.iterdir()} == before
@@ -224,7 +226,7 @@ def test_what_is_kept(tmp_path: Path, folder: Path) -> None:
     other = json.dumps({"format": 1, "salt": "", "users": {}, "hosts": [1]})
     for text in ("", "{}", json.dumps({"format": 2}), other):
         kept.write_text(text)
-        with pytest.raises(Fault, match="it has no averages"):
+        with pytest.raises(Fault, match="move it away, or restore a copy"):
             exports.export([path], folder, None)
 
 

@@ -1,4 +1,5 @@
 """Tests which workunits are stuck, and which computers have many bad results."""
+import json
 from collections.abc import Callable, Iterator
 from pathlib import Path
 from typing import Any
@@ -8,11 +9,11 @@ import pytest
 from lives import life_of, stored_life
 from small_project import WORKUNITS, make_tables, request
 
+from bsched_files.tables import opened
 from bsched_tools.computers import bad_computers
 from bsched_tools.computers import named as named_computers
 from bsched_tools.counts import as_json, as_lines, as_metrics, counted
 from bsched_tools.stuck import Stuck, named, stuck_in
-from bsched_tools.tables import opened
 
 NOW = 1_000_000
 FURTHER = "it waits for a computer of a further user"
@@ -162,7 +163,7 @@ def test_counts_have_the_stuck_ones(life: Life) -> None:
     life.work("large", memory=10**10)
     life.call(1)
     counts = counted([life.copy()])
-    assert counts.as_fields()["open_workunits"] == {"out": 0, "waiting": 2, "stuck": 1}
+    assert json.loads(counts.text())["open_workunits"] == {"out": 0, "waiting": 2, "stuck": 1}
     assert "bsched_stuck_workunits 1" in list(as_metrics(counts))
     assert any(line.split() == "workunits stuck, of the open ones 1".split() for line in as_lines(counts))
     assert '"stuck": 1' in next(iter(as_json(counts)))

@@ -7,7 +7,8 @@ import pytest
 from hypothesis import given
 from hypothesis import strategies as st
 
-from bsched_tools.texts import FORMULA, cell, csv_text, json_text, main_line, shown, table_text
+from bsched_files.texts import csv_text, shown
+from bsched_tools.texts import FORMULA, cell, json_text, main_line, table_text
 
 HOSTILE = [
     "\x00",

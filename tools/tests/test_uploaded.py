@@ -15,13 +15,14 @@ from small_project import tools
 from test_results import lines_of, rows_of
 
 from bsched_bridge.upload_tables import UploadTables
-from bsched_tools import files, uploaded
-from bsched_tools.faults import Fault
+from bsched_files import atomic as files
+from bsched_files.faults import Fault
+from bsched_files.workunits import Workunit
+from bsched_tools import uploaded
 from bsched_tools.placing import OutputFolder, folder_name
 from bsched_tools.projects import Project
 from bsched_tools.results import write_results
 from bsched_tools.uploaded import UploadedFile
-from bsched_tools.workunits import Workunit
 
 
 def content(folder: Path, data: bytes) -> str:
@@ -150,7 +151,7 @@ def test_blocks_are_shared_where_the_file_system_can(
         cloned.append(os.pwrite(target, data, 0))
         return 0
 
-    monkeypatch.setattr("bsched_tools.files.fcntl.ioctl", clone)
+    monkeypatch.setattr("bsched_files.atomic.fcntl.ioctl", clone)
     target = tmp_path / "files"
     target.mkdir()
     spoil(uploads, next(iter((uploads / "store").iterdir())))
@@ -349,7 +350,9 @@ def test_a_project_has_the_uploads_of_its_bridge(uploads: Path, tmp_path: Path) 
         (f'[uploads]\nfolder = "{uploads}"\n', uploads),
         ('[uploads]\nfolder = "../../uploads"\n', project.folder / "bridge" / ".." / ".." / "uploads"),
         ('[uploads]\nfolder = "none"\n', None),
-        ('uploads = "x"\n', None),
     ):
         project.bridge_file.write_text(text)
         assert project.uploads == folder
+    project.bridge_file.write_text('uploads = "x"\n')
+    with pytest.raises(Fault, match="line 1: uploads is not a table"):
+        assert project.uploads

@@ -9,6 +9,7 @@ import signal
 import socket
 import sqlite3
 import sys
+import tomllib
 from collections.abc import Callable, Iterator
 from datetime import datetime, timedelta, timezone
 from pathlib import Path
@@ -21,10 +22,11 @@ from small_project import TOOLS, rows_of, tools
 from work_project import CATALOGUE, PLATFORM, WorkProject
 
 from bsched_bridge.code_signing import file_md5, read_private_key, signature_text, write_new_keys
-from bsched_tools import __main__, apps, catalogue_file, counts, looks, projects, submitting
+from bsched_files import counts
+from bsched_files.faults import Fault
+from bsched_tools import __main__, apps, catalogue_file, looks, projects, submitting
 from bsched_tools.bars import Bar
-from bsched_tools.catalogue_file import CatalogueFile
-from bsched_tools.faults import Fault
+from bsched_tools.catalogue_file import ProjectCatalogue
 from bsched_tools.import_files import KINDS, ImportFile, Row
 from bsched_tools.imports import Sender, import_file
 
@@ -82,7 +84,7 @@ def test_an_application_is_added(bare: WorkProject) -> None:
     line = f"count: version 1 for {PLATFORM} is added: {NAME}\n"
     assert bare.app(*words) == (0, line, "")
     assert bare.catalogue.read_text().startswith(CATALOGUE)
-    catalogue = CatalogueFile(projects.Project(bare.folder))
+    catalogue = ProjectCatalogue(projects.Project(bare.folder))
     app = catalogue.app("count")
     assert app is not None and app.members == {
         "name": "count",
@@ -94,7 +96,7 @@ def test_an_application_is_added(bare: WorkProject) -> None:
         ],
         "rsc_memory_bound": 2 * 10**8,
     }
-    (version,) = catalogue.versions("count")
+    (version,) = tomllib.loads(bare.catalogue.read_text())["version"]
     file = {"name": NAME, "signature": f"{NAME}.signature", "main_program": True}
     assert version == {"app": "count", "platform": PLATFORM, "version_num": 1, "files": [file]}
     bare.end()
@@ -123,7 +125,7 @@ def test_further_files(bare: WorkProject, tmp_path: Path) -> None:
     data.write_text("1\n")
     words = "--file", helper, "--file", f"{data}:data", "--command-line", "./helper"
     assert bare.app(*words)[0] == 0
-    (version,) = CatalogueFile(projects.Project(bare.folder)).versions("count")
+    (version,) = tomllib.loads(bare.catalogue.read_text())["version"]
     front = f"count_1_{PLATFORM}"
     assert version["files"][1:] == [
         {
@@ -752,7 +754,7 @@ def test_a_stop_of_app_at_each_step(
 
         return stepped
 
-    monkeypatch.setenv("PYTHONPATH", str(TOOLS.parent / "bridge"))
+    monkeypatch.setenv("PYTHONPATH", f"{TOOLS.parent / 'bridge'}:{TOOLS.parent / 'files'}")
     checked = catalogue_file.check_by_bridge
     monkeypatch.setattr(catalogue_file, "check_by_bridge", lambda *_: None)
     monkeypatch.setattr(apps.Addition, "undo", lambda _addition: None)  # a kill undoes nothing
@@ -775,7 +777,7 @@ def test_a_stop_of_app_at_each_step(
         assert f"a{number}: version 1 for {PLATFORM} is added" in run_here(capsys, *words)[1]
     assert stopped > 7
     checked(projects.Project(bare.folder), bare.catalogue, bare.catalogue)
-    versions = CatalogueFile(projects.Project(bare.folder)).members["version"]
+    versions = tomllib.loads(bare.catalogue.read_text())["version"]
     names = [f"a{number}" for number in range(stopped + 1)]
     assert [(one["app"], one["version_num"]) for one in versions] == [(name, 1) for name in names]
     bare.end()
@@ -946,7 +948,7 @@ def test_a_batch_of_a_former_release_is_completed(work: WorkProject) -> None:
 
 def test_the_limit_of_a_jobs_time(bare: WorkProject) -> None:
     assert bare.app("--output", "out:1M", "--limit", "25")[0] == 0
-    app = CatalogueFile(projects.Project(bare.folder)).app("count")
+    app = ProjectCatalogue(projects.Project(bare.folder)).app("count")
     assert app is not None and app.members["fpops_bound_factor"] == 25
     bare.make_inputs(1)
     output = bare.submit("--hours", "2", bare.inputs, "--dry-run")[1]
@@ -958,7 +960,7 @@ def test_jobs_that_are_reported_at_once(bare: WorkProject) -> None:
     """Who does not ask for it gets no entry. An application that is there is not changed by the option."""
     assert bare.app("--report-immediately")[0] == 0
     assert bare.app(name="later")[0] == 0
-    catalogue = CatalogueFile(projects.Project(bare.folder))
+    catalogue = ProjectCatalogue(projects.Project(bare.folder))
     apps = [catalogue.app(name) for name in ("count", "later")]
     assert [app and app.members.get("report_immediately") for app in apps] == [True, None]
     assert bare.app()[0] == 0

@@ -3,6 +3,7 @@ import fcntl
 import gzip
 import hashlib
 import os
+import stat
 from collections.abc import Iterable
 from contextlib import suppress
 from dataclasses import dataclass
@@ -71,9 +72,15 @@ def new_file(path: Path, mode: int) -> BinaryIO:
     return open(os.open(path, os.O_WRONLY | os.O_CREAT | os.O_EXCL, mode), "wb")
 
 
-def replace_file(path: Path, parts: Iterable[bytes], packed_at: int | None = None, mode: int = 0o644) -> None:
+def replace_file(
+    path: Path,
+    parts: Iterable[bytes],
+    packed_at: int | None = None,
+    mode: int = 0o644,
+    owner: os.stat_result | None = None,
+) -> None:
     """Writes a file and puts it in its place, by one rename. If packed_at is given, it is compressed, with
-    that moment in it."""
+    that moment in it. If the owner of another file is given, it gets that owner, its group and its mode."""
     new = path.with_name(f".{path.name}.new")
     try:
         with new_file(new, mode) as file:
@@ -82,6 +89,8 @@ def replace_file(path: Path, parts: Iterable[bytes], packed_at: int | None = Non
             else:
                 with gzip.GzipFile(filename="", mode="wb", fileobj=file, mtime=packed_at) as packed:
                     packed.writelines(parts)
+            if owner is not None:
+                give(file.fileno(), owner)
             file.flush()
             os.fsync(file.fileno())
         os.replace(new, path)
@@ -92,6 +101,18 @@ def replace_file(path: Path, parts: Iterable[bytes], packed_at: int | None = Non
         if isinstance(error, OSError):
             raise Fault(f"{path}: {error.strerror}") from None
         raise
+
+
+def give(descriptor: int, owner: os.stat_result) -> None:
+    """Gives a file the owner, the group and the mode of another one, as far as this process may."""
+    with suppress(PermissionError):
+        os.fchown(descriptor, owner.st_uid, owner.st_gid)
+    os.fchmod(descriptor, stat.S_IMODE(owner.st_mode) & 0o777)
+
+
+def rewrite_file(path: Path, data: bytes) -> None:
+    """Replaces a file that is there. The new one has its owner and its mode."""
+    replace_file(path, [data], mode=0o600, owner=path.stat())
 
 
 def keep_file(path: Path, data: bytes, mode: int) -> None:

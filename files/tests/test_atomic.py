@@ -5,8 +5,8 @@ from pathlib import Path
 
 import pytest
 
-from bsched_tools.faults import Fault
-from bsched_tools.files import replace_file
+from bsched_files.atomic import replace_file, rewrite_file
+from bsched_files.faults import Fault
 
 
 class Ended(BaseException):
@@ -51,3 +51,13 @@ def test_a_folder_that_has_its_name(tmp_path: Path) -> None:
     (tmp_path / ".results.csv.new").mkdir()
     with pytest.raises(Fault, match="results.csv: Is a directory"):
         replace_file(tmp_path / "results.csv", [b"new"])
+
+
+def test_a_file_that_is_rewritten_keeps_its_mode(tmp_path: Path) -> None:
+    path = tmp_path / "settings"
+    path.write_text("former")
+    path.chmod(0o604)
+    rewrite_file(path, b"new")
+    assert path.read_text() == "new" and path.stat().st_mode & 0o7777 == 0o604
+    with pytest.raises(OSError):
+        rewrite_file(tmp_path / "none", b"new")

@@ -1,17 +1,27 @@
-"""The settings of a bridge, a TOML file."""
+"""The settings of a project's bridge, `bridge.toml` (`bridge/README.md`, "Settings").
+
+`read_settings` reads all of them. A program that needs only some reads them by `BridgeFile`, which looks at
+no other member.
+"""
 import ipaddress
 import re
+from collections.abc import Callable, Iterable
 from dataclasses import dataclass
 from pathlib import Path
 from urllib.parse import urlsplit
 
-from .operator_files import Entry, OperatorFile
+from .moments import DAY
+from .toml_entries import Entry, OperatorFile
 
-PROJECTS = Path("/var/lib/bsched")
+PROJECTS = Path("/var/lib/bsched")  # of bsched-project
+FOLDER, FILE_NAME = "bridge", "bridge.toml"  # in the folder of a project
 FIELD_NAME = re.compile("[A-Za-z][A-Za-z0-9-]{0,63}")
 ACCOUNT_SHARE = 10  # an account has this part of most_bytes at most, unless the settings say otherwise
 LEAST_KEPT_DAYS = 7  # a client whose reply was lost reports a result again within this time
 MOST_CONTACT = 200  # characters
+RESULT_BYTES = 10**9  # most_result_bytes if the settings do not say it
+MOST_HEAD = 8192  # bytes of an upload before those of its file
+NO_UPLOADS = 16 * 1024 * 1024  # bytes of an upload that the web server passes on to a bridge that takes none
 PICTURE_KINDS = {
     ".png": "image/png",
     ".jpg": "image/jpeg",
@@ -115,6 +125,19 @@ def address(file: Entry, member: str) -> Address:
     return Address(host, int(port))
 
 
+def project_name(file: Entry) -> str:
+    """Reads the name of the project."""
+    name = file.text("name")
+    if not name.strip() or not name.isprintable():
+        file.fault("name is empty, or has a character that can't be printed", "name")
+    return name
+
+
+def most_result_bytes(uploads: Entry) -> int:
+    """Reads how many bytes the output files of one result may have."""
+    return uploads.whole("most_result_bytes", 1, 10**18, RESULT_BYTES)
+
+
 def master_url(file: Entry) -> str:
     """Reads the master URL. It must have the form that clients give it: a scheme, a host in small letters,
     and a slash at the end.
@@ -187,7 +210,7 @@ def read_uploads(file: OperatorFile, has_key: bool) -> UploadSettings | None:
     uploads = UploadSettings(
         folder=file.path.parent / entry.text("folder"),
         free_bytes=entry.whole("free_bytes", 0, 10**18, 5 * 10**9),
-        most_result_bytes=entry.whole("most_result_bytes", 1, 10**18, 10**9),
+        most_result_bytes=most_result_bytes(entry),
         most_bytes=most_bytes,
         most_account_bytes=entry.whole(
             "most_account_bytes", 1, 10**18, max(1, most_bytes // ACCOUNT_SHARE)
@@ -224,7 +247,7 @@ def read_picture(file: Entry) -> tuple[Path | None, str]:
     text = file.text("picture_text", "").strip()
     if len(text) > MOST_CONTACT or not text.isprintable():
         file.fault(f"picture_text is not one line of at most {MOST_CONTACT} characters", "picture_text")
-    if "picture" not in file.members:
+    if not file.has("picture"):
         return None, text
     path = file.existing("picture")
     if path.suffix.lower() not in PICTURE_KINDS:
@@ -249,17 +272,22 @@ def archive_paths(file: Entry) -> tuple[Path, ...]:
 def project_of(path: Path) -> str | None:
     """Returns the name of the project of bsched-project whose bridge has a file of settings, or None."""
     folder = path.resolve().parent
-    return folder.parent.name if folder == PROJECTS / folder.parent.name / "bridge" else None
+    return folder.parent.name if folder == PROJECTS / folder.parent.name / FOLDER else None
+
+
+def file_of(folder: Path) -> Path:
+    """Returns the settings of the bridge in the folder of a project."""
+    return folder / FOLDER / FILE_NAME
 
 
 def read_settings(path: Path) -> Settings:
     """Reads the settings from a file. Paths in it are relative to its folder."""
     file = OperatorFile(path)
     url = master_url(file)
-    key = file.word("operator_key") if "operator_key" in file.members else None
+    key = file.word("operator_key") if file.has("operator_key") else None
     picture, picture_text = read_picture(file)
     settings = Settings(
-        name=file.text("name"),
+        name=project_name(file),
         url=url,
         listen=address(file, "listen"),
         scheduler=address(file, "scheduler"),
@@ -268,22 +296,89 @@ def read_settings(path: Path) -> Settings:
         operator_key=key,
         threads=file.whole("threads", 1, 64, 8),
         answer_seconds=file.whole("answer_seconds", 1, 120, 15),
-        retry_delay=file.whole("retry_delay", 1, 86400, 60),
+        retry_delay=file.whole("retry_delay", 1, DAY, 60),
         welcome=file.short_text("welcome"),
         contact=read_contact(file),
-        counts=path.parent / file.text("counts") if "counts" in file.members else None,
-        averages=path.parent / file.text("averages") if "averages" in file.members else None,
+        counts=path.parent / file.text("counts") if file.has("counts") else None,
+        averages=path.parent / file.text("averages") if file.has("averages") else None,
         host_rules=read_host_rules(file),
         accounts=read_accounts(file, url, key is not None),
         archives=archive_paths(file),
         uploads=read_uploads(file, key is not None),
         picture=picture,
         picture_text=picture_text,
-        plots=path.parent / file.text("plots") if "plots" in file.members else None,
-        health=path.parent / file.text("health") if "health" in file.members else None,
+        plots=path.parent / file.text("plots") if file.has("plots") else None,
+        health=path.parent / file.text("health") if file.has("health") else None,
         project=project_of(path),
     )
-    if not settings.name.strip() or not settings.name.isprintable():
-        file.fault("name is empty, or has a character that can't be printed", "name")
     file.end()
     return settings
+
+
+class BridgeFile:
+    """Single settings of a bridge, each read when it is asked for."""
+
+    def __init__(self, path: Path) -> None:
+        self.file = OperatorFile(path)
+
+    @property
+    def name(self) -> str | None:
+        """The name of the project for volunteers."""
+        return project_name(self.file) if self.file.has("name") else None
+
+    @property
+    def url(self) -> str:
+        """The master URL."""
+        return master_url(self.file)
+
+    @property
+    def catalogue(self) -> Path:
+        """The catalogue."""
+        return self.file.existing("catalogue")
+
+    @property
+    def state(self) -> Path | None:
+        """The state file."""
+        return self.file.path.parent / self.file.text("state") if self.file.has("state") else None
+
+    @property
+    def archives(self) -> tuple[Path, ...]:
+        """The earlier files of the project."""
+        return archive_paths(self.file)
+
+    @property
+    def uploads(self) -> Path | None:
+        """The folder of uploads, or None if the bridge takes none."""
+        entry = self.file.table("uploads")
+        return None if entry is None else self.file.path.parent / entry.text("folder")
+
+    @property
+    def most_result_bytes(self) -> int:
+        """The bytes of the output files of one result; 0 if the bridge takes no uploads."""
+        entry = self.file.table("uploads")
+        return 0 if entry is None else most_result_bytes(entry)
+
+    @property
+    def most_upload(self) -> int:
+        """The bytes of an upload that the web server passes on."""
+        most = self.most_result_bytes
+        return most_upload(most) if most else NO_UPLOADS
+
+
+def most_upload(result_bytes: int) -> int:
+    """Returns how many bytes the largest upload has, whatever the catalogue says later."""
+    return MOST_HEAD + result_bytes
+
+
+# what `bsched-bridge --print` prints, for scripts of the shell
+PRINTED: dict[str, Callable[[BridgeFile], object]] = {
+    "url": lambda file: file.url,
+    "most_result_bytes": lambda file: file.most_result_bytes,
+    "most_upload": lambda file: file.most_upload,
+}
+
+
+def printed(path: Path, names: Iterable[str]) -> list[str]:
+    """Returns some settings of a bridge as texts."""
+    file = BridgeFile(path)
+    return [str(PRINTED[name](file)) for name in names]

@@ -1,28 +1,22 @@
-"""The tables in a copy, opened read-only. `docs/STORED.md` has their columns."""
+"""The tables of bsched in a copy, opened read-only. `docs/STORED.md` has their columns."""
 import hashlib
 import json
 import os
-import re
 import sqlite3
-import sys
-import time
 from collections.abc import Iterable, Iterator, Mapping
 from contextlib import ExitStack, closing, contextmanager
 from dataclasses import dataclass, field
-from datetime import datetime, timezone
 from pathlib import Path
 from typing import Any
 from urllib.parse import quote
 
+from .copies import found_copy, log_of, moment_of
 from .faults import Fault
+
 from .schemas import FIRST_SCHEMA, SCHEMA, SECOND_SCHEMA, SCHEMA_NUMBER, Shape, shape_of, shape_of_text
 
 HEAD = b"SQLite format 3\0"
-# the name that `copy` gives a copy: the name of the tables, and the moment of the copy in UTC
-COPY_NAME = re.compile(r"(?P<stem>.+)-(?P<moment>\d{8}T\d{6}\.\d{3}Z)\.db")
-MOMENT = "%Y%m%dT%H%M%S.%fZ"
 BUSY_SECONDS = 1.0
-CLOCK_SECONDS = 60  # clocks of two machines may differ by so much
 TAKE_ANOTHER = ": take another copy"
 EMPTY = "it has no tables: a log (-wal) that has them is missing, or nothing was stored yet"
 FIRST_HOST = "SELECT auth, cpid FROM host JOIN account ON account.id = account_id WHERE host.id = 1"
@@ -75,41 +69,6 @@ def faults_of(path: Path) -> Iterator[None]:
         raise Fault(f"{path}: {message}") from None
 
 
-def moment_of(path: Path) -> int:
-    """Returns the moment of a copy: that in its name, else the time of the last write to the file."""
-    match = COPY_NAME.fullmatch(path.name)
-    if match is None:
-        return int(path.stat().st_mtime)
-    return int(datetime.strptime(match["moment"], MOMENT).replace(tzinfo=timezone.utc).timestamp())
-
-
-def copies_in(folder: Path, stem: str | None = None) -> list[Path]:
-    """Returns the copies in a folder, the newest first. If a name is given, only copies of the tables with
-    that name."""
-    named = [(match, path) for path in folder.iterdir() if (match := COPY_NAME.fullmatch(path.name))]
-    chosen = [(match["moment"], path) for match, path in named if stem in (None, match["stem"])]
-    return [path for _, path in sorted(chosen, reverse=True)]
-
-
-def found_copy(path: Path) -> Path:
-    """Returns the file that a path means. A folder means its newest copy."""
-    if not path.is_dir():
-        return path
-    copies = copies_in(path)
-    if not copies:
-        raise Fault(f"{path}: there is no copy in this folder: make one with `bsched-tools copy --to {path}`")
-    stems = {match["stem"] for copy in copies if (match := COPY_NAME.fullmatch(copy.name))}
-    if len(stems) > 1:
-        raise Fault(f"{path}: there are copies of several projects in this folder: name one of the files")
-    if moment_of(copies[0]) > time.time() + CLOCK_SECONDS:
-        print(
-            f"bsched-tools: {copies[0]}: its name lies in the future, so no newer copy is read: remove it if "
-            "the clock was ahead",
-            file=sys.stderr,
-        )
-    return copies[0]
-
-
 def check_file(path: Path) -> None:
     """Checks the bytes of a file: it must be a whole SQLite database."""
     try:
@@ -127,11 +86,6 @@ def check_file(path: Path) -> None:
     whole = pages * (65536 if page == 1 else page)
     if not has_log and is_counted and size < whole:
         raise Fault(f"{path}: it is cut off: it has {size} of {whole} bytes{TAKE_ANOTHER}")
-
-
-def log_of(path: Path) -> Path:
-    """Returns the name of a file's log."""
-    return path.with_name(f"{path.name}-wal")
 
 
 def journal_fault(path: Path) -> str | None:

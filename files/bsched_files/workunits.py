@@ -6,6 +6,7 @@ from itertools import groupby
 from typing import Any
 
 from .faults import Fault
+
 from .tables import Tables
 
 WHOLE_NUMBER = re.compile("0|-?[1-9][0-9]{0,17}")

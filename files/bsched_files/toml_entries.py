@@ -1,4 +1,7 @@
-"""TOML files that an operator writes. Each fault is reported with its line."""
+"""TOML files that an operator writes: each member is taken once, and one that is left over is a fault.
+
+Each fault is reported with its line.
+"""
 import difflib
 import math
 import re
@@ -8,7 +11,8 @@ from bisect import bisect_right
 from pathlib import Path
 from typing import Any, NoReturn, cast
 
-from .words import is_word
+from .faults import Fault
+from .texts import is_word
 
 LEAST_LIKENESS = 0.75  # of two names, if one may be meant as the other
 MOST_TEXT = 65_536  # characters of a file whose text is shown on a page
@@ -31,7 +35,7 @@ def mark_of(path: Path) -> Mark | None:
     return status.st_mtime_ns, status.st_size, status.st_ino
 
 
-class OperatorFault(Exception):
+class OperatorFault(Fault):
     """Raised for a fault in a file that an operator wrote."""
 
     def __init__(self, path: Path, line: int | None, what: str) -> None:
@@ -48,6 +52,7 @@ class Entry:
         self, path: Path, members: dict[str, Any], lines: list[str], first: int, last: int, marks: Marks
     ) -> None:
         self.path, self.members, self.untaken = path, members, set(members)
+        self._known = set[str]()  # the members that were asked for
         self._lines, self._first, self._last = lines, first, last
         self.marks = marks  # of the file, and of files that it names
 
@@ -70,13 +75,23 @@ class Entry:
 
     def taken(self, member: str, kind: type, kind_name: str, default: Any = ...) -> Any:
         """Returns the value of a member, which must be of a kind. Without a default the member must exist."""
-        self.untaken.discard(member)
+        self.note_taken(member)
         value = self.members.get(member, default)
         if value is ...:
             self.fault_missing(member)
         if value is not default and type(value) is not kind:
             self.fault(f"{member} is not {kind_name}", member)
         return value
+
+    def note_taken(self, member: str) -> None:
+        """Notes that a member is known here."""
+        self.untaken.discard(member)
+        self._known.add(member)
+
+    def has(self, member: str) -> bool:
+        """Returns whether there is a member, which need not be there."""
+        self._known.add(member)
+        return member in self.members
 
     def fault_missing(self, member: str) -> NoReturn:
         """Raises the fault of a member that is missing. If another one has nearly its name, it is named."""
@@ -124,6 +139,13 @@ class Entry:
                 self.fault(f"{member}: {item!r} is not 1 to 64 letters, digits, '_', '-' and '.'", member)
         return frozenset(value)
 
+    def texts(self, member: str) -> list[str]:
+        """Returns a list of texts, which may be absent."""
+        value = self.taken(member, list, "a list of texts", [])
+        if not all(isinstance(item, str) for item in value):
+            self.fault(f"{member} is not a list of texts", member)
+        return cast(list[str], value)
+
     def entries(self, member: str, default: Any = ...) -> list["Entry"]:
         """Returns the tables of an array that is in one member."""
         value = self.taken(member, list, "an array", default)
@@ -142,7 +164,7 @@ class Entry:
 
     def short_text(self, member: str) -> str | None:
         """Returns the text of the file that a member names, for pages, or None if the member is absent."""
-        if member not in self.members:
+        if not self.has(member):
             return None
         path = self.existing(member)
         try:
@@ -156,20 +178,23 @@ class Entry:
         return text
 
     def end(self) -> None:
-        """Refuses any further members."""
+        """Refuses any further members. If one has nearly the name of a known one, that is named."""
         if self.untaken:
             member = min(self.untaken, key=self.line)
-            self.fault(f"{member} is not known here", member)
+            close = difflib.get_close_matches(member, sorted(self._known), 1, LEAST_LIKENESS)
+            advice = f": is {close[0]} meant?" if close else ""
+            self.fault(f"{member} is not known here{advice}", member)
 
 
 class OperatorFile(Entry):
-    """The whole file. The members before the first table are its own."""
+    """The whole file. The members before the first table are its own. If a text is given, the file is not
+    read."""
 
-    def __init__(self, path: Path, marks: Marks | None = None) -> None:
+    def __init__(self, path: Path, marks: Marks | None = None, text: str | None = None) -> None:
         marks = {} if marks is None else marks
         marks[path] = mark_of(path)
         try:
-            text = path.read_text(encoding="utf-8")
+            text = path.read_text(encoding="utf-8") if text is None else text
             members = tomllib.loads(text)
         except OSError as error:
             raise OperatorFault(path, None, error.strerror or "can't be read") from None
@@ -191,7 +216,7 @@ class OperatorFile(Entry):
 
     def table(self, name: str) -> Entry | None:
         """Returns the table under the header `[name]`, if there is one."""
-        self.untaken.discard(name)
+        self.note_taken(name)
         if name not in self.members:
             return None
         members = self.members[name]
@@ -202,9 +227,13 @@ class OperatorFile(Entry):
         last = min([*following, len(self._lines) + 1]) - 1
         return Entry(self.path, members, self._lines, first, last, self.marks)
 
+    def part(self, name: str) -> Entry:
+        """Returns the table under the header `[name]`. If there is none, it has no members."""
+        return self.table(name) or Entry(self.path, {}, self._lines, 1, 1, self.marks)
+
     def tables(self, name: str) -> list[Entry]:
         """Returns the tables under the headers `[[name]]`, each with its lines."""
-        self.untaken.discard(name)
+        self.note_taken(name)
         found = self.members.get(name, [])
         if not isinstance(found, list) or not all(isinstance(item, dict) for item in found):
             self.fault(f"{name} is not an array of tables [[{name}]]", name)
