@@ -15,8 +15,7 @@ import pytest
 from made_project import SETTINGS, MadeProject
 from small_project import tools
 
-from bsched_files import timers
-from bsched_files import counts
+from bsched_files import counts, timers
 from bsched_files.copies import moment_of
 from bsched_files.findings import Finding, Level, read_findings
 from bsched_tools import __main__ as main
