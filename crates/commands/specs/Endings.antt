@@ -1,8 +1,11 @@
 -- Promise. How an order ends: its exit status, and what its answer says of it. (This project's own: docs/PROFILE.md, "The program".)
-use Rattle.std.specs.Prelude.{◌≡◌, ℕ, Result, Ok, Err, OnOk}
+use Rattle.std.specs.Prelude.{◌≡◌, ℕ, List, [], ◌∷◌, ◌++◌, Result, Ok, Err, OnOk}
 use Rattle.http.specs.StatusCode.{IsInClass}
+use Rattle.http_responses.specs.Answers.{response_of}
 use Rattle.http_responses.specs.declared.answer.Answer.{Answer}
 use Rattle.http_responses.specs.declared.answer.Answer.TheVariants as answer
+use Rattle.http_responses.specs.declared.media.Media.{Media}
+use Rattle.http_responses.specs.declared.media.Media.TheVariants.{Json, Csv}
 use Rattle.http_responses.specs.declared.response.Response.{Response}
 use Rattle.commands.specs.declared.ending.Ending.{Ending}
 use Rattle.commands.specs.declared.ending.Ending.TheVariants.{Done, Refused}
@@ -32,6 +35,17 @@ abbrev pub EndsBy : Answer → Result Ending Failure → Type 0
 EndsBy got (Ok Done) = (response : Response) × (got ≡ answer.Response response) × IsInClass 200 response.status
 EndsBy got (Ok Refused) = (response : Response) × (got ≡ answer.Response response) × (¬ IsInClass 200 response.status)
 EndsBy got (Err why) = Unit {0}
+
+-- ---- what an order prints
+
+-- A body of JSON is a line when it is printed. CSV ends with a line feed of its own.
+abbrev pub line_end_after : Media → List ℕ
+line_end_after Json = 10 ∷ []
+line_end_after Csv = []
+
+-- what is printed of an answer
+abbrev pub printed_answer : Answer → List ℕ
+printed_answer got = (response_of got).body ++ line_end_after (response_of got).media
 
 -- ---- what is left
 

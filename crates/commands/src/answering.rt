@@ -12,15 +12,14 @@ ghost use Rattle.commands.specs.Wire.{AreServed};
 use crate::connections::Connections;
 use crate::ending::{Ending, Failure};
 use crate::files::Files;
+use crate::printing::print_answer;
 use crate::serving::serve_connections;
 use http_requests::{import_request, statement_request, tick_request};
-use http_responses::Media;
 use sched_book::Moment;
 use sched_book::limits::MOST_IMPORT_BYTES;
 use sched_server::{Answer, Service};
 use std::alloc::Global;
 use std::io;
-use std::io::Write;
 use stores::Store;
 use texts::Memory;
 
@@ -171,20 +170,10 @@ fn answer<S: Store>(
 fn outcome_of(rt: &HostRuntime, answer: &Answer) -> Result<Ending, Failure>
     ensures { EndsBy answer.now result }
 {
-    print(rt, answer)?;
+    print_answer(&mut io::writer(rt), answer)?;
     match answer {
         Answer::Unavailable => Err(Failure::Unavailable),
         Answer::Response(response) if response.status.is_success() => Ok(Ending::Done),
         Answer::Response(_) => Ok(Ending::Refused),
     }
-}
-
-/// Prints a body, and a line feed if it does not end with one.
-fn print(rt: &HostRuntime, answer: &Answer) -> io::Result<()> {
-    let mut writer = io::writer(rt);
-    writer.write_all(answer.body().as_bytes())?;
-    if let Media::Json = answer.media() {
-        writer.write_all(b"\n")?;
-    }
-    writer.flush()
 }

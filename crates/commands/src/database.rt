@@ -16,6 +16,7 @@ use crate::answering::{Task, perform_by};
 use crate::connections::Connections;
 use crate::ending::{Ending, Failure, Performed};
 use crate::files::Files;
+use crate::printing::{print_created, print_schema};
 use sched_book::Settings;
 use sched_server::Service;
 use sched_server::laws::{former_worlds_are_unclassed, new_stores_stand};
@@ -23,7 +24,6 @@ use sched_tables::laws::upgraded_can_be_opened;
 use sched_tables::{Tables, upgrade};
 use sqlite::{Alter, Connection};
 use std::io;
-use std::io::Write;
 use stores::Store;
 use table_pasts::laws::{
     new_databases_stand, opened_tables_stand, stopped_tables_stand, stopped_upgrades_stand,
@@ -71,7 +71,7 @@ fn create<S: Alter + Drop>(
     stopped_tables_stand::<S>();
     match Tables::make(rt.alloc(), conn, settings) {
         Ok(tables) => {
-            let ended = print_created(rt);
+            let ended = say_created(rt);
             let store = tables.into_connection().into_store();
             Performed::leaving(ended, store)
         }
@@ -79,8 +79,8 @@ fn create<S: Alter + Drop>(
     }
 }
 
-fn print_created(rt: &HostRuntime) -> Result<Ending, Failure> {
-    writeln!(io::writer(rt), "created")?;
+fn say_created(rt: &HostRuntime) -> Result<Ending, Failure> {
+    print_created(&mut io::writer(rt))?;
     Ok(Ending::Done)
 }
 
@@ -104,13 +104,13 @@ fn upgraded<S: Alter>(rt: &HostRuntime, conn: &mut Connection<S>) -> Result<Endi
         (λ trees. IsTrue (state S.Store conn.old).is_open × (db : _) × IsLeftBehindWorld (state S.Store conn.old).now db × (trees ≡ db.trees)) }
 {
     match upgrade(rt.alloc(), conn) {
-        Ok(schema) => print_schema(rt, schema),
+        Ok(schema) => say_schema(rt, schema),
         Err(fault) => Err(Failure::from(fault)),
     }
 }
 
-fn print_schema(rt: &HostRuntime, schema: u32) -> Result<Ending, Failure> {
-    writeln!(io::writer(rt), "schema {schema}")?;
+fn say_schema(rt: &HostRuntime, schema: u32) -> Result<Ending, Failure> {
+    print_schema(&mut io::writer(rt), schema)?;
     Ok(Ending::Done)
 }
 

@@ -15,6 +15,7 @@ mod files;
 pub mod laws;
 mod new_file;
 mod orders;
+mod printing;
 mod replaying;
 mod serving;
 mod watched;
