@@ -15,6 +15,7 @@ exchange         one request and its answer: resends, whose host a client is, wh
 hosts            the hosts that the bridge knows, and the numbers that their clients were told
 host_search      which host has a result, by bsched's statements
 held_back        which hosts get fewer jobs, after errors
+vain_calls       which accounts call too often for nothing
 call_numbers     the numbers of calls, and the calls without an answer
 calls            the JSON text of a call
 archives         the credit from earlier files of the project, which is added to replies
@@ -75,6 +76,7 @@ scheduler_probe  whether bsched answers
 overview         all that is known at one moment
 metrics          the same for Prometheus
 board            the same as a page, with forms
+operator_state   what `bsched-tools health` asks for (operator_key: who gets it)
 
 Requests and accounts keep their rows in the state_file, in SQLite. downloads sends files. The other modules
 are settings, host_rules (settings that are read again), limits, operator_files (TOML with the lines of its

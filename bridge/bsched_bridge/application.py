@@ -27,7 +27,7 @@ from .current_catalogue import CatalogueFaults, CatalogueReader
 from .digest_queue import DigestQueue
 from .directory import Directory
 from .downloads import Downloads
-from .exchange import Exchange, Resending
+from .exchange import Exchange, PutOff, Resending
 from .handed_out import HandedOut
 from .host_rules import HostRuleReader
 from .host_search import HostSearch
@@ -38,6 +38,8 @@ from .limits import Places
 from .measurements import Measurements
 from .members import Members
 from .metrics import Metrics
+from .operator_key import OperatorKey
+from .operator_state import OperatorState
 from .overview import Overviews
 from .pages import Pages
 from .passwords import Passwords
@@ -59,6 +61,7 @@ from .upload_tokens import UploadTokens
 from .uploads import CHECK_PATH as UPLOAD_CHECK_PATH
 from .uploads import PATH as UPLOAD_PATH
 from .uploads import Uploads
+from .vain_calls import VainCalls
 from .volunteer_pages import VolunteerPages
 
 KEPT_THREADS = 2  # for pages and files, which need nothing of bsched
@@ -130,13 +133,15 @@ class Application:
         self.writer = ReplyWriter(
             current(), settings.name, settings.url, tokens, has_accounts=self.accounts is not None
         )
+        self.vain = VainCalls(lambda: self.rules().vain_seconds, settings.retry_delay)
         self.requests = SchedulerMessages(
             self.exchange,
             current,
             self.writer,
             recent,
             self.places,
-            LargeCalls(settings.state.parent, self.exchange.refusal_of),
+            LargeCalls(settings.state.parent, self._refusal_of),
+            self.vain,
             measured.calls,
         )
         self.statements = Statements(
@@ -150,6 +155,10 @@ class Application:
         )
         routes = [*self._routes(), *self._account_routes(), *self._operator_routes()]
         self.routes = Routes(settings.path, routes)
+
+    def _refusal_of(self, authenticator: str) -> PutOff | None:
+        """Returns what a client reads whose call is refused before it is read, or None."""
+        return self.vain.refusal_of(authenticator) or self.exchange.refusal_of(authenticator)
 
     @property
     def catalogue(self) -> Catalogue:
@@ -217,10 +226,13 @@ class Application:
         )
         routes = [Route("operator/metrics", self._for_operator(Metrics(overviews).answer))]
         if key is not None:
+            operator = OperatorKey(key)
             board = Board(
-                settings, key, self.templates, overviews, self.directory, self.statements, self.rules
+                settings, operator, self.templates, overviews, self.directory, self.statements, self.rules
             )
             routes.append(Route("operator/board", self._for_operator(board.answer), FORMS))
+            state = OperatorState(overviews, operator)
+            routes.append(Route("operator/state", self._for_operator(state.answer)))
         return routes
 
     def _for_operator(self, handler: Handler) -> Handler:
@@ -286,6 +298,18 @@ def served(path: str) -> Application:
     """Returns the application of a settings file, for a WSGI server that takes the name of a function to
     call.
     """
+    log_own_lines()
     application = new_application(Path(path))
     application.templates.compile()
     return application
+
+
+def log_own_lines() -> None:
+    """Has the bridge's lines logged that are no faults, too: what the operator edited, and that it counts. A
+    server that sets up no log for them, such as gunicorn, would leave these out.
+    """
+    package = logging.getLogger(__package__)
+    if not package.handlers:
+        package.addHandler(logging.StreamHandler())
+    package.setLevel(logging.INFO)
+    package.propagate = False

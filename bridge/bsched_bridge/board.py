@@ -3,7 +3,6 @@
 There is no cookie: each form sends the operator's key, so another web page can't act with its visitors'
 boards. A form does only what the bridge may do anyhow. For the rest the page says the command.
 """
-import hmac
 import re
 from collections import Counter
 from collections.abc import Callable, Iterator
@@ -13,14 +12,16 @@ from werkzeug.exceptions import BadRequest, ServiceUnavailable
 from werkzeug.wrappers import Request, Response
 
 from bsched_files.counts import Limit
+from bsched_files.findings import PUT_OFF_SECONDS
 from bsched_files.moments import DAY, HOUR, MINUTE, moment_text
 from bsched_files.project_settings import HostRules, Settings
 from bsched_files.timers import Timer
 
 from .directory import Computer, Directory
 from .http_messages import form_of, refuse_other_sites
-from .limits import NoPlace, Places, RecentCounts
+from .limits import NoPlace, Places
 from .measurements import BOUNDS, End, Tally
+from .operator_key import OperatorKey
 from .operator_orders import OrderFault, bar_account, state_of, unbar_account
 from .overview import Overview, Overviews
 from .statements import Result, Statements
@@ -28,10 +29,8 @@ from .templates import Templates
 from .texts import bytes_text
 from .words import shown_key
 
-MOST_WRONG_KEYS, WRONG_SECONDS = 10, 60.0
 MOST_HOSTS = 20  # with the most errors
 MINUTES, HOUR_MINUTES = 5, 60  # the minutes of the two spans for which calls are shown
-PUT_OFF_SECONDS = HOUR  # within which a report that was put off is worth a warning
 HEALTH_SECONDS = 30 * 60  # after which the findings of bsched-tools health are too old
 NUMBER = re.compile("[1-9][0-9]{0,9}")  # a hostid
 ACTIONS = {"bar": bar_account, "unbar": unbar_account}
@@ -47,6 +46,7 @@ WHAT_ENDS_MEAN = {
     End.TOO_MANY_HOSTS: "the account has as many computers as it may have",
     End.HOSTS_FULL: "the project has as many computers as it may have",
     End.UNKNOWN_RESULTS: "no known computer has the reported results",
+    End.TOO_OFTEN: "the account called in vain too often",
     End.COUNT_ENDED: "the computer has used its last number",
     End.BAD_MEMBER: "the scheduler can't read what the computer says of itself",
     End.BAD_JSON: "the scheduler can't read the call",
@@ -139,7 +139,7 @@ class Board:
     def __init__(
         self,
         settings: Settings,
-        operator_key: str,
+        operator_key: OperatorKey,
         templates: Templates,
         overviews: Overviews,
         directory: Directory,
@@ -149,7 +149,6 @@ class Board:
         self.settings, self.templates, self.overviews = settings, templates, overviews
         self.directory, self.statements, self.rules = directory, statements, rules
         self._key, self._places = operator_key, Places(1)
-        self._wrong = RecentCounts(MOST_WRONG_KEYS, WRONG_SECONDS)
 
     def answer(self, message: Request) -> Response:
         """Asks for the key, or does what a form says and shows the board."""
@@ -159,7 +158,7 @@ class Board:
         fields = form_of(message)
         try:
             with self._places.taken():
-                fault = self._key_fault(fields.get("key", "").strip())
+                fault = self._key.fault(fields.get("key", "").strip())
                 return self._entrance(fault, 403) if fault else self._board(self._done(fields))
         except NoPlace:
             raise ServiceUnavailable from None
@@ -167,17 +166,6 @@ class Board:
     def _entrance(self, fault: str = "", status: int = 200) -> Response:
         """Returns the page that asks for the key."""
         return self.templates.page("board_entrance.html", is_kept=False, http_status=status, fault=fault)
-
-    def _key_fault(self, key: str) -> str:
-        """Returns what is wrong with a key, or nothing if it is the operator's. After too many wrong ones
-        none is compared for a while.
-        """
-        if not self._wrong.take("key"):
-            return "Too many wrong keys. Try again in a minute."
-        if not hmac.compare_digest(key.encode(), self._key.encode()):
-            return "This is not the operator's key."
-        self._wrong.give_back("key")
-        return ""
 
     # ---- What forms do
 
@@ -223,7 +211,7 @@ class Board:
         return self.templates.page(
             "board.html",
             is_kept=False,
-            key=self._key,
+            key=self._key.text,
             done=done,
             overview=overview,
             parts=list(self._parts(overview)),

@@ -21,6 +21,7 @@ from bsched_files.texts import MOST_OUTPUT, cut_to_bytes
 
 from .digest_programs import BadFiles, CannotRun, DigestFault, DigestProgram, compared_files, digest_of
 from .handed_out import HandedJob, HandedOut, Outcome
+from .limits import UsedSeconds
 from .measurements import WhyPutOff
 from .upload_store import UploadStore
 
@@ -31,7 +32,6 @@ FAILURE_PAUSES = (600.0, 3600.0)
 MOST_FAILED = 10_000  # results whose failures are counted
 REST_SECONDS = 60.0  # in which no program is tried if none can run here
 MINUTES = 60  # for which the seconds of programs are counted
-MOST_ACCOUNTS = 10_000  # whose seconds are counted
 BAD_FILES_STATUS = 1  # the exit status of a result whose files a digest program refuses
 
 log = logging.getLogger(__name__)
@@ -70,30 +70,6 @@ class Failures:
     text: str  # of the last one
 
 
-class UsedSeconds:
-    """How many seconds the programs of each account took in the last hour, by minutes."""
-
-    def __init__(self, clock: Callable[[], float]) -> None:
-        self._clock = clock
-        self._accounts: OrderedDict[str, deque[tuple[int, float]]] = OrderedDict()
-
-    def add(self, account: str, seconds: float) -> None:
-        """Adds seconds that a program took."""
-        minute = int(self._clock() // MINUTE)
-        minutes = self._accounts.setdefault(account, deque(maxlen=MINUTES + 1))
-        self._accounts.move_to_end(account)
-        if minutes and minutes[-1][0] == minute:
-            seconds += minutes.pop()[1]
-        minutes.append((minute, seconds))
-        if len(self._accounts) > MOST_ACCOUNTS:
-            self._accounts.popitem(last=False)
-
-    def of(self, account: str) -> float:
-        """Returns the seconds of an account."""
-        first = int(self._clock() // MINUTE) - MINUTES
-        return sum(seconds for minute, seconds in self._accounts.get(account, ()) if minute > first)
-
-
 def mark_of(program: DigestProgram) -> Mark:
     """Returns the mark of a program."""
     try:
@@ -115,7 +91,7 @@ class DigestQueue:
     ) -> None:
         self.store, self.jobs, self.most_seconds, self._clock = store, jobs, most_seconds, clock
         self._lock = threading.Lock()
-        self._used = UsedSeconds(clock)
+        self._used = UsedSeconds(clock, MINUTE, MINUTES)
         self._waiting: OrderedDict[str, deque[Task]] = OrderedDict()  # by accounts, whose turn is next first
         self._running: Counter[str] = Counter()  # programs of each account
         self._asked: set[str] = set()  # results that wait or whose program runs

@@ -36,6 +36,7 @@ from .host_search import HostSearch, TooManySearches
 from .hosts import FIRST_KEY, Hosts, Key
 from .key_locks import Busy, KeyLocks
 from .languages import Text, gettext_noop, ngettext_lazy
+from .limits import RecentCounts
 from .measurements import End, Reports
 from .report_checks import ReportChecks
 from .scheduler import Job, NoAnswer, Refusal, Reply, Scheduler
@@ -43,6 +44,7 @@ from .words import shown_key
 
 COUNT_ATTEMPTS = 3  # calls of one request, if bsched's count is ahead or it has lost the account
 MOST_CPIDS = 20_000  # host_cpids that hosts may have besides their own, of which the bridge knows
+LOG_SECONDS = 60.0  # between two lines of the log about refused hosts of one account
 END_SECONDS = 60.0  # for the message that is being sent at the end
 
 log = logging.getLogger(__name__)
@@ -201,6 +203,7 @@ class Exchange:
         self.counted, self.held_back = counted or Reports(), held_back or HeldBack()
         self._locks = KeyLocks(wait_seconds=2 * scheduler.answer_seconds)
         self._cpids = KnownPairs(MOST_CPIDS)
+        self._logged = RecentCounts(1, LOG_SECONDS)  # accounts whose hosts were refused lately
 
     def answer(self, request: ClientRequest) -> Answered | PutOff:
         """Returns the reply to a request, with the jobs that were in hand. If the request is put off, returns
@@ -210,12 +213,7 @@ class Exchange:
         reason = self.barring.reason(request.authenticator) if known is None else known.barred
         refused = self._refused(request.authenticator, reason)
         if refused is not None:
-            log.warning(
-                "host %s of account %s is refused: %s",
-                request.host_cpid,
-                shown_key(request.authenticator),
-                "deleted" if refused is DELETED else "barred",
-            )
+            self._log_refused(request, "deleted" if refused is DELETED else "barred")
             return refused
         try:
             if known is not None and request.rpc_seqno >= known.client_seqno:
@@ -249,6 +247,14 @@ class Exchange:
             return None if self.scheduler.has_account(authenticator) else put_off_by(Refusal("bad_account"))
         except NoAnswer:
             return PutOff(NO_ANSWER, self.retry_delay, is_down=True, end=End.NO_ANSWER)
+
+    def _log_refused(self, host: ClientRequest | Key, why: str) -> None:
+        """Logs that a host is refused: one line in a minute for an account, whose hosts may call without an
+        end.
+        """
+        if self._logged.take(host.authenticator):
+            text = "host %s of account %s is refused: %s"
+            log.warning(text, host.host_cpid, shown_key(host.authenticator), why)
 
     def _refused(self, authenticator: str, reason: Barred | None) -> PutOff | None:
         """Returns what a client of a barred or a deleted account reads, or None for other accounts."""
@@ -590,12 +596,7 @@ class Exchange:
         try:
             return self._open_counted(key, text, last, client)
         except TooManyHosts as many:
-            log.warning(
-                "host %s of account %s is refused: the account has %d hosts",
-                key.host_cpid,
-                shown_key(key.authenticator),
-                many.count,
-            )
+            self._log_refused(key, f"the account has {many.count} hosts")
             return too_many_hosts(many.count)
 
     def _open_counted(self, key: Key, text: Callable[[int], bytes], last: int, client: ClientState) -> bytes:

@@ -1,6 +1,6 @@
 """The jobs that went out, with their output files, and what bsched gets of their reports."""
 import sqlite3
-from collections.abc import Iterable
+from collections.abc import Iterable, Sequence
 from dataclasses import dataclass
 from typing import cast
 
@@ -92,9 +92,16 @@ class HandedOut:
             key.authenticator,
             key.host_cpid,
         )
-        return sum(
-            cast(int, count) * sum(file.max_nbytes for file in of_text(str(files))) for count, files in rows
+        return sum_of_most(rows)
+
+    def coming_nbytes(self, now: int) -> int:
+        """Returns how many bytes the files of all jobs may have that are out and may still be in time."""
+        rows = self.tables.rows(
+            "SELECT count(*), files FROM job JOIN listing ON listing.id = listing "
+            "WHERE stored_at IS NULL AND ended_at IS NULL AND deadline >= ? GROUP BY listing",
+            now,
         )
+        return sum_of_most(rows)
 
     def set_outcome(self, result: str, outcome: Outcome) -> None:
         """Notes what a digest program said of a report, whose files are stored."""
@@ -118,6 +125,13 @@ class HandedOut:
         deadline, is_stored = cast(int, row[4]), row[5] is not None
         key, is_ended = Key(authenticator, host_cpid), row[8] is not None
         return HandedJob(result, key, app, of_text(files), deadline, is_stored, outcome, is_ended)
+
+
+def sum_of_most(rows: Iterable[Sequence[object]]) -> int:
+    """Returns how many bytes the files of jobs may have. A row has how many jobs share a list of files."""
+    return sum(
+        cast(int, count) * sum(file.max_nbytes for file in of_text(str(files))) for count, files in rows
+    )
 
 
 def listing_of(connection: sqlite3.Connection, job: HandedJob) -> int:

@@ -4,14 +4,15 @@ of its client, before the call takes a place of the bridge.
 Anybody can send such a call. So the bridge first reads its front, which has the account key. Nothing of a
 body is on the disk before the account is known to exist. Then the body comes into a file without a name, in
 the folder of the state file. Of an account only a few bodies come at once. Nor is the XML of a call of middle
-size read before its account is known.
+size read before its account is known. While many calls of accounts come that somebody made up, this counts
+for calls of all sizes: to read one, and to store it until bsched refuses it, takes longer than to ask.
 """
 import logging
 import re
 import tempfile
 import threading
 import time
-from collections import Counter
+from collections import Counter, deque
 from collections.abc import Callable, Iterator
 from contextlib import contextmanager
 from functools import partial
@@ -31,6 +32,7 @@ FRONT, FRONT_SECONDS = 65_536, 5.0  # BOINC's client begins with the account key
 LEAST_RATE, MORE_SECONDS = 16_384, 30.0  # bytes a second of a body, and the seconds that it has besides
 MOST_OF_ACCOUNT, MOST_AT_ONCE = 2, 16  # bodies that come at once
 BLOCK = 65_536
+MANY_STRANGERS, STRANGERS_SECONDS = 20, 60.0
 KEY = re.compile(rb"<authenticator>[ \t\r\n]{0,64}([A-Za-z0-9_.-]{1,64})[ \t\r\n]{0,64}</authenticator>")
 
 log = logging.getLogger(__name__)
@@ -85,23 +87,41 @@ class Coming:
         raise word_fault("authenticator")
 
 
+class Strangers:
+    """The latest calls of accounts that do not exist, or of which nobody knows whether they do."""
+
+    def __init__(self) -> None:
+        self._moments = deque[float](maxlen=MANY_STRANGERS)
+
+    def add(self) -> None:
+        """Counts a call."""
+        self._moments.append(time.monotonic())
+
+    def are_many(self) -> bool:
+        """Returns whether many such calls came within the last minute."""
+        moments = list(self._moments)
+        return len(moments) == MANY_STRANGERS and time.monotonic() < moments[0] + STRANGERS_SECONDS
+
+
 class LargeCalls:
     """Receives the bodies of large calls."""
 
     def __init__(self, folder: Path, refusal_of: Callable[[str], PutOff | None]) -> None:
         self.folder, self.refusal_of = folder, refusal_of
         self._lock, self._coming = threading.Lock(), Counter[str]()
+        self.strangers = Strangers()
 
     def checked(self, blocks: Iterator[bytes], length: int) -> Iterator[bytes]:
         """Yields the blocks of a body that is there. Before the first one it raises Refused or RequestFault,
-        unless the account of the call exists, or the call is small.
+        unless the account of the call exists, or the call is small and few accounts are made up.
         """
-        if length > SMALL:
+        if length > SMALL or self.strangers.are_many():
             first = next(blocks)
             found = KEY.search(first)
-            if found is None:
+            if found is not None:
+                self._check(found[1].decode())
+            elif length > SMALL:
                 raise word_fault("authenticator")
-            self._check(found[1].decode())
             yield first
         yield from blocks
 

@@ -1,14 +1,17 @@
-"""How many do something at once, how often somebody did it lately, and for whom a message counts."""
+"""How many do something at once, how often and for how long somebody did it lately, and for whom a message
+counts.
+"""
 import ipaddress
 import threading
 import time
-from collections import OrderedDict
+from collections import OrderedDict, deque
 from collections.abc import Callable, Hashable, Iterator
 from contextlib import ExitStack, contextmanager
 
 from .key_locks import KeyLocks
 
 MOST_KEYS = 100_000
+MOST_ACCOUNTS = 10_000  # whose seconds are counted
 # how many times the limit of a client a network of 56 and of 48 bits has; one customer can have all of it
 SITE = 48
 WIDER = {56: 4, SITE: 10}
@@ -108,6 +111,30 @@ class RecentCounts:
                 times.pop()
                 if not times:
                     del self._times[key]
+
+
+class UsedSeconds:
+    """How many seconds something took for each account, within so many of the latest parts of time."""
+
+    def __init__(self, clock: Callable[[], float], part_seconds: int, parts: int) -> None:
+        self._clock, self.part_seconds, self.parts = clock, part_seconds, parts
+        self._accounts: OrderedDict[str, deque[tuple[int, float]]] = OrderedDict()
+
+    def add(self, account: str, seconds: float) -> None:
+        """Adds seconds that something took."""
+        part = int(self._clock() // self.part_seconds)
+        parts = self._accounts.setdefault(account, deque(maxlen=self.parts + 1))
+        self._accounts.move_to_end(account)
+        if parts and parts[-1][0] == part:
+            seconds += parts.pop()[1]
+        parts.append((part, seconds))
+        if len(self._accounts) > MOST_ACCOUNTS:
+            self._accounts.popitem(last=False)
+
+    def of(self, account: str) -> float:
+        """Returns the seconds of an account."""
+        first = int(self._clock() // self.part_seconds) - self.parts
+        return sum(seconds for part, seconds in self._accounts.get(account, ()) if part > first)
 
 
 class NetworkCounts(RecentCounts):

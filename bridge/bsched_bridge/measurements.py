@@ -41,6 +41,7 @@ class End(StrEnum):
     TOO_MANY_HOSTS = "too_many_hosts"  # of the account
     HOSTS_FULL = "hosts_full"  # bsched takes no more
     UNKNOWN_RESULTS = "unknown_results"  # no known host has what it reports
+    TOO_OFTEN = "too_often"  # the calls of the account in vain took long
     COUNT_ENDED = "count_ended"
     BAD_MEMBER = "bad_member"
     BAD_JSON = "bad_json"

@@ -103,6 +103,12 @@ def read_refusal(status: int, body: object) -> Refusal:
     return Refusal(error, {name: value for name, value in body.items() if name != "error"})
 
 
+class Share(threading.local):
+    """How many seconds of bsched the messages of a thread took."""
+
+    seconds = 0.0
+
+
 class Scheduler:
     """Sends messages to bsched. Each message has a connection of its own, as bsched requires.
 
@@ -122,6 +128,14 @@ class Scheduler:
         self._hung_until: float | None = None  # a moment of the monotonic clock; None after an answer
         self._is_probed = False  # whether the message that shows whether bsched answers again is on its way
         self._began: dict[int, float] = {}  # when each message was sent that waits for its answer
+        self._share = Share()
+
+    @property
+    def seconds_of_thread(self) -> float:
+        """How many seconds of bsched the messages of this thread took so far. bsched answers one message
+        after the other. So of the time that a message waits with others it took one part of as many.
+        """
+        return self._share.seconds
 
     @property
     def is_slow(self) -> bool:
@@ -131,9 +145,9 @@ class Scheduler:
         is_old = oldest is not None and time.monotonic() - oldest > SLOW_SECONDS
         return is_old or self.silent_since is not None
 
-    def _begin_to_wait(self) -> tuple[int, bool]:
-        """Counts a message that waits for its answer. Returns its number, and whether it shows whether bsched
-        answers again. Raises Hung if no message is to be sent now.
+    def _begin_to_wait(self) -> tuple[int, bool, int]:
+        """Counts a message that waits for its answer. Returns its number, whether it shows whether bsched
+        answers again, and how many messages wait now. Raises Hung if no message is to be sent now.
         """
         with self._lock:
             now, is_probe = time.monotonic(), self._hung_until is not None
@@ -142,13 +156,15 @@ class Scheduler:
             self._is_probed = is_probe
             number = max(self._began, default=0) + 1
             self._began[number] = now
-        return number, is_probe
+            waiting = len(self._began)
+        return number, is_probe, waiting
 
-    def _end_to_wait(self, number: int, is_probe: bool) -> None:
-        """Counts a message no more."""
+    def _end_to_wait(self, number: int, is_probe: bool, waiting: int) -> None:
+        """Counts a message no more, and which part of bsched's time it took."""
         with self._lock:
-            del self._began[number]
+            began = self._began.pop(number)
             self._is_probed = self._is_probed and not is_probe
+        self._share.seconds += (time.monotonic() - began) / waiting
 
     def message(
         self, method: str, path: str, body: bytes | None = None, fields: dict[str, str] | None = None
@@ -157,13 +173,13 @@ class Scheduler:
         has none.
         """
         try:
-            number, is_probe = self._begin_to_wait()
+            number, is_probe, waiting = self._begin_to_wait()
             try:
                 if not self._is_checked:
                     self._check_key()
                 status, answer = self._exchange(method, path, body, fields or {})
             finally:
-                self._end_to_wait(number, is_probe)
+                self._end_to_wait(number, is_probe, waiting)
             if len(answer) > MOST_ANSWER:
                 self._refuse_too_long(method, path)
             if status >= 500:

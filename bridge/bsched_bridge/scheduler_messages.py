@@ -2,6 +2,7 @@
 import time
 from collections.abc import Callable, Iterable, Iterator
 from contextlib import ExitStack
+from itertools import chain
 
 from werkzeug.exceptions import HTTPException
 from wsgiref.types import WSGIEnvironment
@@ -11,15 +12,16 @@ from bsched_files.moments import HOUR
 from .catalogue import Catalogue
 from .client_replies import ReplyWriter
 from .client_requests import MOST_BYTES, ClientRequest, read_request
-from .exchange import TOO_BUSY, Exchange, PutOff
+from .exchange import TOO_BUSY, Answered, Exchange, PutOff
 from .http_messages import XmlAnswer, blocks_of, length_of
 from .key_locks import Busy, KeyLocks
 from .languages import asked_language, gettext_lazy
-from .large_calls import LargeCalls, Refused, comes_slowly
+from .large_calls import KEY, LargeCalls, Refused, comes_slowly
 from .limits import NoPlace, Places
 from .measurements import Calls, End
 from .recent_credit import Recent, RecentCredit
 from .request_parts import RequestFault
+from .vain_calls import Seconds, VainCalls, is_vain
 
 # Reading the XML of a request takes many times its bytes. A large one waits for its turn before it is read.
 LARGE_BYTES, LARGE_SECONDS = 256 * 1024, 5.0
@@ -55,10 +57,12 @@ class SchedulerMessages:
         recent: RecentCredit,
         places: Places,
         large: LargeCalls,
+        vain: VainCalls,
         calls: Calls | None = None,
     ) -> None:
         self.exchange, self.catalogue, self.writer = exchange, catalogue, writer
-        self.recent, self.places, self.large, self.calls = recent, places, large, calls or Calls()
+        self.recent, self.places, self.large, self.vain = recent, places, large, vain
+        self.calls = calls or Calls()
         self.reader = RequestReader()
 
     def answer(self, environ: WSGIEnvironment) -> XmlAnswer:
@@ -80,6 +84,8 @@ class SchedulerMessages:
         """
         length, language = length_of(environ, MOST_BYTES), asked_language(environ)
         blocks: Iterator[bytes] = iter(())
+        authenticator, seconds = None, Seconds(self.exchange.scheduler)
+        answered: Answered | PutOff
         with ExitStack() as stack:
             try:
                 if comes_slowly(stream := environ["wsgi.input"], length):
@@ -88,7 +94,12 @@ class SchedulerMessages:
                     blocks = blocks_of(environ, length)
                     checked = self.large.checked(blocks, length)
                 with self.places.taken(0.0 if self.exchange.scheduler.is_slow else PLACE_SECONDS):
+                    checked, authenticator = with_key(checked)
+                    self._check_vain(authenticator)
                     asked = self.reader.read(checked, length)
+                    if asked.authenticator != authenticator:
+                        authenticator = asked.authenticator
+                        self._check_vain(authenticator)
                     catalogue = self.catalogue()
                     request = catalogue.by_resource(asked)
                     answered = self.exchange.answer(request)
@@ -101,6 +112,10 @@ class SchedulerMessages:
                 answered = PutOff(TOO_BUSY, self.exchange.retry_delay, end=End.TOO_BUSY)
             for _ in blocks:
                 pass
+        if isinstance(answered, PutOff) and answered.end in (End.BAD_ACCOUNT, End.NO_ANSWER):
+            self.large.strangers.add()
+        if authenticator is not None and is_vain(answered):
+            self.vain.record(authenticator, seconds.so_far())
         if isinstance(answered, PutOff):
             return self.writer.put_off(answered, language), answered.end
         reply = answered.reply
@@ -111,6 +126,12 @@ class SchedulerMessages:
         body = writer.reply(request, reply, answered.hostid, answered.notice, recent, language)
         return body, End.ANSWERED
 
+    def _check_vain(self, authenticator: str | None) -> None:
+        """Raises Refused if the calls of an account are put off."""
+        refused = None if authenticator is None else self.vain.refusal_of(authenticator)
+        if refused is not None:
+            raise Refused(refused)
+
     def _recent(self, authenticator: str, scheduler_hostid: int) -> Recent | None:
         """Returns the recent average credit that a reply has; None if the operator has no file of it."""
         if self.recent.path is None:
@@ -119,3 +140,10 @@ class SchedulerMessages:
         credits = self.recent.of_each((authenticator, cpid) for cpid in cpids.values())
         own = dict(zip(cpids, credits)).get(scheduler_hostid, 0.0)
         return Recent(sum(credits, 0.0), own)
+
+
+def with_key(blocks: Iterator[bytes]) -> tuple[Iterator[bytes], str | None]:
+    """Returns the blocks of a request, and the account key that is written in the first one, if any."""
+    first = next(blocks, b"")
+    found = KEY.search(first)
+    return chain([first], blocks), None if found is None else found[1].decode()

@@ -214,7 +214,7 @@ class Uploads:
             log.warning("an upload is refused for good: %s", fault)
             return answer_of(NEVER, language.gettext("The project refuses this file."))
         except NotNow as fault:
-            log.info("an upload is put off: %s", fault)
+            log.debug("an upload is put off: %s", fault)  # strangers could write many; the room logs its own
         except NoPlace:
             log.warning("an upload is put off: %s", "as many as possible are being received")
         except (OSError, sqlite3.Error) as fault:

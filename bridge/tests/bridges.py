@@ -59,7 +59,7 @@ def new_project(folder: Path, key: Any) -> Path:
 
 
 class Bridge:
-    """A bridge that can be stopped and started again."""
+    """A bridge that can be stopped and started again. A test may send many calls in vain."""
 
     def __init__(self, folder: Path, twin: Twin) -> None:
         self.folder, self.twin = folder, twin
@@ -82,6 +82,7 @@ class Bridge:
             self.store,
             catalogues.faults,
         )
+        self.application.vain.most_seconds = lambda: 10**6
         self.application.statements.wait_seconds = 60  # tests look at what a page shows after the reading
         self.hosts, self.numbers = self.application.exchange.hosts, self.application.exchange.numbers
         self.members: Any = self.application.members

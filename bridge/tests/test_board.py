@@ -13,7 +13,6 @@ from numbering import NEW_HOSTID
 from test_pages import Page, page_of
 from twin import Twin
 
-from bsched_bridge import board as board_module
 from bsched_bridge.board import Board, age_text, seconds_text
 from bsched_bridge.hosts import MOST_NUMBER
 from bsched_bridge.limits import RecentCounts
@@ -93,7 +92,9 @@ def test_the_key(bridge: Bridge) -> None:
 
 def test_few_wrong_keys_are_compared(bridge: Bridge, monkeypatch: pytest.MonkeyPatch) -> None:
     now = [0.0]
-    monkeypatch.setattr(board_module, "RecentCounts", partial(RecentCounts, clock=lambda: now[0]))
+    monkeypatch.setattr(
+        "bsched_bridge.operator_key.RecentCounts", partial(RecentCounts, clock=lambda: now[0])
+    )
     bridge.restart()
     for _ in range(20):
         board(bridge)  # right ones are not counted

@@ -8,11 +8,12 @@ from typing import Any
 import pytest
 from joining import wait_until
 
-from bsched_bridge import digest_queue
+from bsched_bridge import digest_queue, limits
 from bsched_bridge.digest_programs import DigestFault, DigestProgram
-from bsched_bridge.digest_queue import DigestQueue, UsedSeconds
+from bsched_bridge.digest_queue import DigestQueue
 from bsched_bridge.handed_out import HandedJob, Outcome
 from bsched_bridge.hosts import Key
+from bsched_bridge.limits import UsedSeconds
 from bsched_bridge.measurements import WhyPutOff
 from bsched_files.catalogue import OutputFile
 from bsched_files.uploads import StoredOutput
@@ -225,7 +226,7 @@ def test_an_outcome_is_not_that_of_other_files(stored: Stored, runs: Runs) -> No
 
 def test_what_is_counted_is_limited(stored: Stored, runs: Runs, monkeypatch: pytest.MonkeyPatch) -> None:
     monkeypatch.setattr(digest_queue, "MOST_FAILED", 2)
-    monkeypatch.setattr(digest_queue, "MOST_ACCOUNTS", 2)
+    monkeypatch.setattr(limits, "MOST_ACCOUNTS", 2)
     made, runs.fault = queue(stored, runs), "no memory"
     for number in range(5):
         made.ask(job(f"a{number}", f"u{number}"), PROGRAM)
@@ -235,7 +236,7 @@ def test_what_is_counted_is_limited(stored: Stored, runs: Runs, monkeypatch: pyt
 
 def test_seconds_are_counted_for_an_hour() -> None:
     clock = Clock()
-    used = UsedSeconds(clock)
+    used = UsedSeconds(clock, 60, 60)
     for _ in range(200):
         used.add("ann", 0.5)
         clock.now += 60

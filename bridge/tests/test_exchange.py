@@ -413,6 +413,7 @@ def test_calls_of_accounts_that_somebody_made_up_take_no_disk(
 def test_calls_of_unknown_accounts_are_limited(
     bridge: Bridge, twin: Twin, monkeypatch: pytest.MonkeyPatch
 ) -> None:
+    monkeypatch.setattr("bsched_bridge.large_calls.MANY_STRANGERS", 1000)  # else calls are looked at before
     twin.faults = ["unheard"] * 10_000
     for number in range(MOST_OF_STRANGERS + 5):
         bridge.application.scheduler.silent_since = None  # as if another message had an answer meanwhile

@@ -114,6 +114,21 @@ def test_no_log_has_an_address(project: Path, twin: Twin) -> None:
     assert re.search("gunicorn (could not handle|refused) a message", log), log
 
 
+def test_the_log_says_when_an_edit_counts(project: Path, twin: Twin) -> None:
+    """Lines about what the operator edited are no faults, and are logged all the same."""
+    catalogue = project / "catalogue.toml"
+    good = catalogue.read_text()
+    with served(project, twin) as (port, process):
+        for text in (f"{good}[[app]]\nname = 3\n", f'{good}[[app]]\nname = "more"\n'):
+            catalogue.write_text(text)
+            exchanged(port, f"GET /p/get_project_config.php {HEAD}\r\n")
+        process.terminate()
+        log, _ = process.communicate(timeout=60)
+    fault, counts = "the catalogue stays as it was: ", "the catalogue was read again: 2 applications, "
+    assert [line.startswith(fault) for line in log.splitlines() if "the catalogue" in line] == [True, False]
+    assert counts in log, log
+
+
 # ---- Several clients, a slow one, and the end
 
 

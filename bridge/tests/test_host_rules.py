@@ -147,3 +147,20 @@ def test_no_answer_about_a_host(small: Bridge, twin: Twin) -> None:
         called(small, number)
     twin.close()
     assert "gives no answer" in called(small, 9)
+
+
+def test_refused_hosts_have_one_line_in_a_minute(
+    project: Path, bridge: Bridge, caplog: pytest.LogCaptureFixture
+) -> None:
+    """A barred account, or one with too many hosts, can call without an end: it must not fill the log."""
+    settings(project, 'most_hosts = 1\nbarred = ["bob-key"]')
+    bridge.restart()
+    bridge.call(request())
+    for number in range(5):
+        bridge.call(request(cpid=f"more{number}"))
+        bridge.call(request(key="bob-key", cpid=f"b{number}"))
+    lines = [record.message for record in caplog.records if " is refused: " in record.message]
+    assert lines == [
+        "host more0 of account ann.. is refused: the account has 1 hosts",
+        "host b0 of account bob.. is refused: barred",
+    ]

@@ -139,6 +139,11 @@ class Project:
 
     def start(self) -> None:
         """Makes the tables, and starts all programs."""
+        self.make_tables()
+        self.start_programs()
+
+    def make_tables(self) -> None:
+        """Makes the tables with what is imported first, and the keys for code signing."""
         self.scheduler.order("create", "--settings", "settings.toml", "--tables", "project.db")
         for kind in project.IMPORTS:
             words = ["--tables", "project.db", "--kind", kind, "--batch", "first", "--file", f"{kind}.csv"]
@@ -146,16 +151,24 @@ class Project:
         self.bridge.order("keygen")
         signature = self.bridge.order("sign", "files/sum_1", "--key", "code_sign_private")
         (self.folder / "sum_1.signature").write_text(signature)
+
+    def start_programs(self) -> None:
+        """Starts all programs, and waits until the bridge answers."""
         for program in (self.scheduler, self.gunicorn, self.nginx):
             program.start()
-        for _ in range(300):
-            try:
-                self.call("first")  # gunicorn listens before the bridge has read its files
-                break
-            except (OSError, TrialFault):
-                time.sleep(0.1)
+        self.wait_for_bridge()
         if self.has_files:
             self.tokens = UploadTokens((self.folder / "uploads" / "secret").read_bytes())
+
+    def wait_for_bridge(self) -> None:
+        """Waits until the bridge answers. gunicorn listens before the bridge has read its files."""
+        for _ in range(300):
+            try:
+                self.call("first")
+                return
+            except (OSError, TrialFault):
+                time.sleep(0.1)
+        raise TrialFault("the bridge does not answer")
 
     def end(self) -> None:
         """Ends all programs."""

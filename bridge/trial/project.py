@@ -55,7 +55,7 @@ def make(folder: Path, url: str, bridge_port: int, scheduler_port: int) -> None:
     shutil.copy(BRIDGE / "example" / "files" / "sum_1", folder / "files")
     (folder / "files" / "numbers.txt").write_text("".join(f"{number}\n" for number in NUMBERS))
     (folder / "bridge.toml").write_text(
-        f'name = "Trial"\nurl = "{url}"\nlisten = "127.0.0.1:{bridge_port}"\n'
+        f'vain_seconds = 1000\nname = "Trial"\nurl = "{url}"\nlisten = "127.0.0.1:{bridge_port}"\n'
         f'scheduler = "127.0.0.1:{scheduler_port}"\noperator_key = "{OPERATOR_KEY}"\nhold_back = false\n'
         'catalogue = "catalogue.toml"\nstate = "bridge.db"\nretry_delay = 2\n'
         "\n[accounts]\nmost_a_day = 100\nmost_from_address = 10\n"

@@ -10,6 +10,7 @@ from collections.abc import Callable
 from pathlib import Path
 
 from . import project
+from .needs import missing
 from .programs import Bridge, Client, Program, Scheduler, TrialFault
 from .proxy import Message, Proxy
 
@@ -18,13 +19,6 @@ URL = f"http://127.0.0.1:{CLIENTS_PORT}/"
 STEP_SECONDS = 60  # how long a client may take for one step
 MOST_SECONDS, END_SECONDS = 1800, 60  # for the steps of a trial, and for its end
 NEEDED = {"boinc": "boinc-client", "boinccmd": "boinc-client", "unshare": "util-linux", "ip": "iproute2"}
-MODULES = {
-    "waitress": "python3-waitress",
-    "defusedxml": "python3-defusedxml",
-    "cryptography": "python3-cryptography",
-    "werkzeug": "python3-werkzeug",
-    "jinja2": "python3-jinja2",
-}
 INSIDE, KEEP = "--inside", "--keep"
 began = time.monotonic()
 
@@ -114,17 +108,6 @@ class Run:
     def run(self) -> None:
         """Runs all steps."""
         raise NotImplementedError
-
-
-def missing(needed: dict[str, str], modules: dict[str, str] = MODULES) -> list[str]:
-    """Returns the Debian packages that are missing, of those with commands and modules of Python."""
-    lacks = {package for word, package in needed.items() if shutil.which(word) is None}
-    for module, package in modules.items():
-        if subprocess.run(
-            [sys.executable, "-c", f"import {module}"], capture_output=True, timeout=60
-        ).returncode:
-            lacks.add(package)
-    return sorted(lacks)
 
 
 def too_long(_number: int, _frame: object) -> None:

@@ -73,6 +73,7 @@ class HostRules:
     most_hosts: int  # of one account
     barred: frozenset[str]  # keys of accounts
     holds_back: bool = True  # whether computers that report errors get fewer jobs
+    vain_seconds: int = 2  # of a processor in a minute, for the calls in vain of one account
 
 
 @dataclass(frozen=True, slots=True)
@@ -226,7 +227,10 @@ def read_uploads(file: OperatorFile, has_key: bool) -> UploadSettings | None:
 def read_host_rules(file: OperatorFile) -> HostRules:
     """Reads the members that are read again while the bridge runs."""
     return HostRules(
-        file.whole("most_hosts", 1, 100_000, 20), file.words("barred"), file.flag("hold_back", True)
+        file.whole("most_hosts", 1, 100_000, 20),
+        file.words("barred"),
+        file.flag("hold_back", True),
+        file.whole("vain_seconds", 1, 1000, 2),
     )
 
 
@@ -326,6 +330,11 @@ class BridgeFile:
     def url(self) -> str:
         """The master URL."""
         return master_url(self.file)
+
+    @property
+    def has_operator_key(self) -> bool:
+        """Whether the bridge has the operator's key."""
+        return self.file.has("operator_key")
 
     @property
     def catalogue(self) -> Path:

@@ -80,8 +80,8 @@ class SecondWeek:
         self.check_outputs()
         self.check_bad_input()
         self.check_computers()
-        for name in CLIENTS:
-            self.machine.run(f"cd {WORK}/{name} && boinccmd --host 127.0.0.1:{CLIENTS[name]} --quit || true")
+        self.check_spoiled_output()
+        self.stop_clients()
 
     # ---- The project
 
@@ -129,8 +129,22 @@ class SecondWeek:
         self.machine.run(f"mkdir {folder}")
         self.write(f"{folder}/global_prefs_override.xml", PREFERENCES)
         options = f"{OPTIONS} {CLIENTS[name]} --attach_project {URL} {name.lower()}-second-week"
+        self.run_client(name, options)
+
+    def resume_client(self, name: str) -> None:
+        """Starts a client again that was stopped."""
+        self.run_client(name, f"{OPTIONS} {CLIENTS[name]}")
+
+    def run_client(self, name: str, options: str) -> None:
+        """Runs a client in its folder. What it logs is added to its log."""
+        folder = f"{WORK}/{name}"
         begun = f"(cd {folder} && exec setsid boinc --dir {folder} {options})"
-        self.machine.run(f"{begun} > {folder}.log 2>&1 < /dev/null & sleep 1")
+        self.machine.run(f"{begun} >> {folder}.log 2>&1 < /dev/null & sleep 1")
+
+    def stop_clients(self) -> None:
+        """Stops all clients."""
+        for name in CLIENTS:
+            self.machine.run(f"cd {WORK}/{name} && boinccmd --host 127.0.0.1:{CLIENTS[name]} --quit || true")
 
     def replace_program(self, name: str, text: str) -> None:
         """Writes another program in the place of the one that a client downloaded, with as many bytes."""
@@ -241,3 +255,29 @@ class SecondWeek:
         if more > MOST_HELD_BACK:
             raise TrialFault(f"second week: the broken computer got {more} more jobs:\n{jobs}")
         self.seen(f"second week: of {ALL - FIRST - SECOND} further jobs the broken computer got {more}")
+
+    def check_spoiled_output(self) -> None:
+        """An output that root changes in the project's store is named and left out by `collect`, and `health`
+        names it. A later result with the same content makes it good.
+        """
+        third = list(self.inputs)[FIRST + SECOND :]
+        name = next(name for name in third if not self.inputs[name].can_hold)
+        spoiled = self.machine.run(f"grep -lx UNSAT {FOLDER}/bridge/uploads/store/*").strip()
+        self.machine.run(f"chmod u+w {spoiled} && echo more >> {spoiled} && rm -r {OUTPUTS}/third_*")
+        self.machine.run(f"rm -f {FOLDER}/units/compared.json")  # else it is read within a day
+        collect = f"bsched-tools collect --project {PROJECT} --to {OUTPUTS}"
+        health = f"bsched-tools health --project {PROJECT}"
+        for command, status in ((collect, 1), (health, 2)):
+            done = self.machine.finished(command, 120)
+            if done.returncode != status or spoiled not in done.stdout:
+                raise TrialFault(f"second week: {command}: status {done.returncode}\n{done.stdout}")
+        line = next(line for line in done.stdout.splitlines() if spoiled in line)
+        self.seen(f"second week: {line}")
+        self.submit("fourth", [name])
+        self.wait_for("fourth", "done     1 of 1")
+        self.machine.run(collect, 120)
+        for folder in (f"{OUTPUTS}/fourth_{name}", f"{OUTPUTS}/third_{name}"):
+            answer = self.machine.run(f"cat {folder}/out")
+            if answer != "UNSAT\n":
+                raise TrialFault(f"second week: {folder} has {answer!r}")
+        self.seen("second week: the same content from other computers makes it good, and collect brings all")

@@ -2,8 +2,25 @@
 import re
 import shlex
 import time
+from collections.abc import Callable
+from typing import TypeVar
 
 from .debian import Machine, TrialFault
+
+
+Found = TypeVar("Found")
+
+
+def wait_until(look: Callable[[], Found], seconds: float) -> Found:
+    """Looks again and again until that is no fault, and returns what it found."""
+    until = time.monotonic() + seconds
+    while True:
+        try:
+            return look()
+        except TrialFault:
+            if time.monotonic() > until:
+                raise
+        time.sleep(1)
 
 
 class Units:

@@ -14,6 +14,7 @@ from bsched_tools import projects
 
 TOP = Path(__file__).resolve().parent.parent.parent
 VERSION = (TOP / "VERSION").read_text().strip()
+DEBIAN_CHANGELOG = (TOP / "debian" / "changelog").read_text()
 COMMANDS = ["create", "serve", "import", "tick", "statement", "upgrade", "replay"]
 
 
@@ -27,9 +28,21 @@ def words_of(line: str) -> str:
 
 
 def test_each_place_has_the_version() -> None:
+    """A version that is open has its changes under [Unreleased], and each other one has a section."""
     assert re.fullmatch(r"\d+\.\d+\.\d+", VERSION)
-    assert (TOP / "debian" / "changelog").read_text().startswith(f"bsched ({VERSION}) ")
-    assert f"\n## [{VERSION}] - " in (TOP / "CHANGELOG.md").read_text()
+    first, *older = re.findall(r"^bsched \((.+)\) (\w+);", DEBIAN_CHANGELOG, re.MULTILINE)
+    assert first[0] == VERSION and {suite for _, suite in older} == {"bookworm"}
+    sections = re.findall(r"^## \[(.+?)\]", (TOP / "CHANGELOG.md").read_text(), re.MULTILINE)
+    released = [first, *older] if first[1] == "bookworm" else older
+    assert first[1] in ("bookworm", "UNRELEASED")
+    assert sections == ["Unreleased", *(version for version, _ in released)]
+
+
+@pytest.mark.skipif(shutil.which("dpkg-parsechangelog") is None, reason="dpkg-dev is not installed")
+def test_debian_reads_the_changelog() -> None:
+    command = ["dpkg-parsechangelog", "--all", "--file", str(TOP / "debian" / "changelog")]
+    completed = subprocess.run(command, capture_output=True, text=True, timeout=600, check=True)
+    assert completed.stderr == "" and f"Version: {VERSION}\n" in completed.stdout
 
 
 def test_the_copyright_has_the_text_of_each_licence() -> None:
@@ -238,6 +251,10 @@ def change(clone: Clone, name: str, text: str) -> None:
             lambda clone: change(clone, "CHANGELOG.md", "## [Unreleased]\n\n- More.\n\n## [1.0.0] - 2026\n"),
             "CHANGELOG.md has changes under [Unreleased]",
         ),
+        (
+            lambda clone: change(clone, "debian/changelog", "bsched (1.0.0) UNRELEASED; urgency=medium\n"),
+            "version 1.0.0 is open: debian/changelog has UNRELEASED",
+        ),
         (lambda clone: clone.program.write_text("other"), "is not the program of this commit"),
         (lambda clone: change(clone, "crates/bsched/main.rt", "two\n"), "is not the program of this commit"),
         (
@@ -289,6 +306,20 @@ def test_a_version_that_another_commit_has_is_refused(clone: Clone) -> None:
 def test_a_version_that_differs_is_refused_in_a_trial_too(clone: Clone) -> None:
     change(clone, "VERSION", "1.0.1\n")
     assert "have different versions" in clone.build() and "have different versions" in clone.build("--trial")
+
+
+def test_a_version_needs_its_section(clone: Clone) -> None:
+    """An open one has its changes under [Unreleased]."""
+    log = "# Changelog\n\n## [Unreleased]\n\n- More.\n\n## [1.0.0] - 2026-11-28\n"
+    change(clone, "CHANGELOG.md", log)
+    change(clone, "VERSION", "1.1.0\n")
+    change(clone, "debian/changelog", "bsched (1.1.0) bookworm; urgency=medium\n")
+    for refusal in (clone.build(), clone.build("--trial")):
+        assert "CHANGELOG.md has no section [1.1.0] for version 1.1.0" in refusal
+    change(clone, "debian/changelog", "bsched (1.1.0) UNRELEASED; urgency=medium\n")
+    assert GOOD.fullmatch(clone.build("--trial"))
+    change(clone, "CHANGELOG.md", "# Changelog\n\n## [1.0.0] - 2026-11-28\n")
+    assert "CHANGELOG.md has no section [Unreleased] for version 1.1.0" in clone.build("--trial")
 
 
 def test_no_program_of_sources_that_are_not_committed(clone: Clone) -> None:

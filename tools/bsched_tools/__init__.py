@@ -31,6 +31,7 @@ slices                batches that are imported a slice at a time
 progress, collecting  how far the work is, and its outputs in a folder
 bars                  progress bars on a terminal
 levels, health        findings and their levels: what answers, and what is old or nearly full
+answers, bridge_state what answers over HTTP, and what the bridge says of its catalogue and of uploads
 comparing             whether the bridge's files are what they should be, a part in each run
 mailing               mail about what changed in them
 command_line          the arguments of the command line (work_options, work_commands: of those that make work)

@@ -19,6 +19,8 @@ from bsched_files.tables import opened
 from bsched_files.timers import elapsed_at
 
 from .amounts import count_text
+from .answers import SECONDS, answer_of, reason_of
+from .bridge_state import catalogue
 from .comparing import compared
 from .computers import bad_computers
 from .computers import named as named_computers
@@ -26,38 +28,16 @@ from .counts import counted
 from .projects import Project, UnitSettings
 from .stuck import named, stuck_in
 
-SECONDS = 20.0  # for an answer
 CERTIFICATE_DAYS = 14, 3  # fewer days are a warning, and critical
 FREE_SHARE = 0.1, 0.03  # of a disk: less is a warning, and critical
 USED_SHARE = 0.9, 1.0  # of a limit: more is a warning, and critical
 TICK_MINUTES = 12, 30  # since the last tick: more is a warning, and critical; one is sent each five minutes
 MOST_SPOILED = 5  # files that are named
+COPY_SECONDS = 2 * HOUR  # since the timer of copies was enabled or elapsed last; it elapses each hour
 COPIES_LATE = 8  # times the hours of the settings: an older copy is critical
 
 
 Check = Callable[[Project, UnitSettings], Iterator[Finding]]
-
-
-def answer_of(url: str, fields: dict[str, str] | None = None) -> tuple[int, bytes]:
-    """Returns the status and the body of the answer to a GET."""
-    parts = urlsplit(url)
-    kind = http.client.HTTPSConnection if parts.scheme == "https" else http.client.HTTPConnection
-    connection = kind(parts.hostname or "", parts.port, timeout=SECONDS)
-    try:
-        connection.request("GET", parts.path or "/", headers=fields or {})
-        response = connection.getresponse()
-        return response.status, response.read(1_000_000)
-    finally:
-        connection.close()
-
-
-def reason_of(error: Exception) -> str:
-    """Returns why a connection failed."""
-    if isinstance(error, ssl.SSLCertVerificationError):
-        return f"its certificate is not valid: {error.verify_message}"
-    if isinstance(error, OSError) and error.strerror:
-        return error.strerror
-    return str(error) or type(error).__name__
 
 
 def scheduler(project: Project, _settings: UnitSettings) -> Iterator[Finding]:
@@ -171,11 +151,22 @@ def newest_copy(project: Project, settings: UnitSettings) -> Path | None:
     return next(iter(copies_of(project, settings)), None)
 
 
+def is_copying(unit: str) -> bool:
+    """Returns whether the timer of copies waits. If systemd does not answer, a file of systemd says when the
+    timer was enabled or elapsed last.
+    """
+    state = shown_by_systemd(f"{unit}.timer", "ActiveState")
+    if state is not None:
+        return state == "active"
+    last = elapsed_at(unit)
+    return last is not None and time.time() - last < COPY_SECONDS
+
+
 def copy(project: Project, settings: UnitSettings) -> Iterator[Finding]:
     """Looks at the age of the newest copy."""
     unit = f"bsched-copy@{project.name}"
     advice = f"`systemctl enable --now {unit}.timer`"
-    if shown_by_systemd(f"{unit}.timer", "ActiveState") == "active":
+    if is_copying(unit):
         advice = f"`systemctl start {unit}` makes one now"
     newest = newest_copy(project, settings)
     if newest is None:
@@ -245,7 +236,18 @@ def level_of(value: float, warning: float, critical: float) -> Level:
     return Level.CRITICAL if value >= critical else Level.WARNING if value >= warning else Level.GOOD
 
 
-CHECKS: tuple[Check, ...] = (scheduler, bridge, certificate, tick, copy, limits, work, spoiled, disk)
+CHECKS: tuple[Check, ...] = (
+    scheduler,
+    bridge,
+    certificate,
+    catalogue,
+    tick,
+    copy,
+    limits,
+    work,
+    spoiled,
+    disk,
+)
 
 
 def findings_of(project: Project, settings: UnitSettings) -> list[Finding]:
@@ -255,8 +257,16 @@ def findings_of(project: Project, settings: UnitSettings) -> list[Finding]:
         try:
             found += check(project, settings)
         except (Fault, OSError) as fault:
-            found.append(Finding(check.__name__, Level.UNKNOWN, str(fault)))
+            found.append(Finding(check.__name__, Level.UNKNOWN, text_of(fault)))
     return found
+
+
+def text_of(fault: Exception) -> str:
+    """Returns why a check failed, in words for an operator."""
+    if not isinstance(fault, OSError) or fault.filename is None:
+        return str(fault)
+    advice = ": ask as root" if isinstance(fault, PermissionError) else ""
+    return f"{fault.filename}: {fault.strerror}{advice}"
 
 
 # ---- For the bridge

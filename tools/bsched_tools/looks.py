@@ -17,10 +17,9 @@ from bsched_files.tables import Tables, opened
 from . import projects
 from .copies import work_folder
 from .copying import copy_tables
-from .projects import Project
+from .projects import NO_MEMBER, Project
 
 ASK_SECONDS = 15.0
-NO_MEMBER = "only root and members of the group bsched may use this project"
 
 
 @dataclass(frozen=True, slots=True)

@@ -18,6 +18,7 @@ from .root_folders import make_below
 BACKUPS = Path("/var/backups/bsched")
 WEB = Path("/var/lib/bsched-web")
 PROGRAM = Path("/usr/bin/bsched")
+NO_MEMBER = "only root and members of the group bsched may use this project"
 UNIT_TABLES = ("copy", "results", "page", "statistics", "health")
 
 
@@ -211,7 +212,11 @@ class Project:
 def project_of(name: str) -> Project:
     """Returns the project with a name, or in a folder if the name has a slash."""
     folder = Path(os.path.abspath(name)) if "/" in name else PROJECTS / name
-    if not (folder / "settings.toml").is_file():
+    try:
+        is_project = (folder / "settings.toml").is_file()
+    except PermissionError:
+        raise Fault(f"{folder}: {NO_MEMBER}") from None
+    if not is_project:
         made = sorted(path.parent.name for path in PROJECTS.glob("*/settings.toml"))
         there = f"; there are {', '.join(made)}" if made else ""
         raise Fault(f"{folder}: it is no project of bsched-project{there}")

@@ -14,7 +14,7 @@ from .bars import Bar
 from .catalogue_file import ProjectCatalogue
 from .collecting import collect_files, collected_lines
 from .inputs import Input, check_batch, combinations, lines_in, of_files, of_texts
-from .looks import NO_MEMBER, check_member, looked_at, tables_of, turn_of
+from .looks import check_member, looked_at, tables_of, turn_of
 from .progress import earlier, names_in_batch, progress_lines, progress_of, trouble_in
 from .projects import Project, project_of
 from .slices import feed, left_in
@@ -29,10 +29,7 @@ Printer = Callable[[Iterable[str]], None]
 
 def member_project(args: Arguments) -> Project:
     """Returns the project of the command line, for its members alone."""
-    try:
-        project = project_of(args.project)
-    except PermissionError as error:
-        raise Fault(f"{error.filename}: {NO_MEMBER}") from None
+    project = project_of(args.project)
     check_member(project)
     return project
 

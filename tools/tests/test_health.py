@@ -202,6 +202,20 @@ def test_a_disk_that_is_nearly_full(made: MadeProject, monkeypatch: pytest.Monke
     assert finding.level is Level.CRITICAL and "2.0 GB of 100.0 GB" in finding.text
 
 
+def test_a_user_who_may_not_see_the_copies(made: MadeProject, monkeypatch: pytest.MonkeyPatch) -> None:
+    """Members of the group get what they may see, and for the rest a line that says who may."""
+
+    def refused(*_args: object) -> None:
+        raise PermissionError(13, "Permission denied", "/var/backups/bsched/sums")
+
+    monkeypatch.setattr(health, "copies_in", refused)
+    findings = found(made)
+    for check in ("copy", "limits", "work"):
+        assert findings[check].level is Level.UNKNOWN
+        assert findings[check].text == "/var/backups/bsched/sums: Permission denied: ask as root"
+    assert findings["scheduler"].level is Level.GOOD
+
+
 def test_the_command(made: MadeProject) -> None:
     made.end()
     status, output, fault = made.tools("health")
@@ -279,3 +293,18 @@ def test_the_advice_fits_what_is_active(
     for copy in (made.folder / "copies").iterdir():
         copy.unlink()
     assert found(made)["copy"].text == f"there is none in {made.folder / 'copies'}: {advice}"
+
+
+@pytest.mark.parametrize("hours, command", [(1, "start bsched-copy@sums`"), (3, "enable --now bsched-copy@")])
+def test_the_advice_if_systemd_does_not_answer(
+    made: MadeProject, tmp_path: Path, monkeypatch: pytest.MonkeyPatch, hours: int, command: str
+) -> None:
+    """The timer of copies elapses each hour, so a file that is older is that of a timer that was stopped."""
+    monkeypatch.setattr(health, "shown_by_systemd", lambda _unit, _key: None)
+    monkeypatch.setattr("bsched_files.timers.STAMPS", tmp_path)
+    stamp = tmp_path / "stamp-bsched-copy@sums.timer"
+    stamp.touch()
+    os.utime(stamp, (time.time() - 3600 * hours,) * 2)
+    for copy in (made.folder / "copies").iterdir():
+        copy.unlink()
+    assert f"`systemctl {command}" in found(made)["copy"].text

@@ -629,7 +629,12 @@ def test_who_may_use_a_project(tmp_path: Path, monkeypatch: pytest.MonkeyPatch) 
 
 
 @pytest.mark.skipif(os.geteuid() != 0, reason="only root can become another user")
-def test_a_stranger(bare: WorkProject, capsys: pytest.CaptureFixture[str]) -> None:
+@pytest.mark.parametrize(
+    "command, refused", [("progress", 1), ("health", 3), ("results", 1), ("counts", 1), ("job w1", 1)]
+)
+def test_a_stranger(
+    bare: WorkProject, capsys: pytest.CaptureFixture[str], command: str, refused: int
+) -> None:
     """A user who may not look into the folder gets one clear line."""
     bare.folder.chmod(0o750)
     for parent in list(bare.folder.parents)[:3]:
@@ -639,8 +644,9 @@ def test_a_stranger(bare: WorkProject, capsys: pytest.CaptureFixture[str]) -> No
         os.setgroups([])
         os.setgid(65534)
         os.setuid(65534)
-        status, output, fault = run_here(capsys, "progress", "--project", f"{bare.folder}/")
-        os._exit(0 if status == 1 and "only root and members of the group bsched" in fault else 1)
+        name, *words = command.split()
+        status, output, fault = run_here(capsys, name, "--project", f"{bare.folder}/", *words)
+        os._exit(0 if status == refused and "only root and members of the group bsched" in fault else 1)
     assert os.waitpid(child, 0)[1] == 0
 
 

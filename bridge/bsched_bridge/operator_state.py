@@ -1,0 +1,58 @@
+"""What the bridge says of itself to `bsched-tools health`, as JSON: the catalogue, the digest programs, and
+the room for uploads.
+
+Only a program on this machine that has the operator's key gets it, since faults name files of the project.
+"""
+import json
+
+from werkzeug.exceptions import ServiceUnavailable
+from werkzeug.wrappers import Request, Response
+
+from .http_messages import NO_STORE, TEXT, answer
+from .limits import NoPlace, Places
+from .operator_key import OperatorKey
+from .overview import Overview, Overviews
+
+JSON = "application/json"
+KEY_FIELD = "X-Operator-Key"
+
+
+class OperatorState:
+    """Answers the tools. One message at a time is answered."""
+
+    def __init__(self, overviews: Overviews, operator_key: OperatorKey) -> None:
+        self.overviews, self._key, self._places = overviews, operator_key, Places(1)
+
+    def answer(self, message: Request) -> Response:
+        """Returns the state."""
+        try:
+            with self._places.taken():
+                fault = self._key.fault(message.headers.get(KEY_FIELD, ""))
+                if fault:
+                    return answer(TEXT, f"{fault}\n".encode(), NO_STORE, 403)
+                state = self._state(self.overviews.read())
+                return answer(JSON, json.dumps(state).encode(), NO_STORE)
+        except NoPlace:
+            raise ServiceUnavailable from None
+
+    def _state(self, overview: Overview) -> dict[str, object]:
+        """Returns the members of the JSON."""
+        fault = self.overviews.measurements.put_offs.latest_fault()
+        return {
+            "catalogue": {"edit": overview.faults.edit, "digests": overview.faults.digests},
+            "put_off": None if fault is None else {"moment": int(fault[0]), "text": fault[1]},
+            "uploads": self._uploads(overview),
+        }
+
+    def _uploads(self, overview: Overview) -> dict[str, int] | None:
+        """Returns the room for uploads, or None without `[uploads]`."""
+        store = self.overviews.store
+        if store is None or overview.uploads is None:
+            return None
+        return {
+            "used": overview.uploads.room.used,
+            "most_bytes": overview.uploads.room.most,
+            "disk_free": overview.disks["uploads"].free,
+            "free_bytes": store.settings.free_bytes,
+            "coming": store.room.jobs.coming_nbytes(int(overview.moment)),
+        }
