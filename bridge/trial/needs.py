@@ -9,6 +9,7 @@ MODULES = {
     "cryptography": "python3-cryptography",
     "werkzeug": "python3-werkzeug",
     "jinja2": "python3-jinja2",
+    "tomlkit": "python3-tomlkit",
 }
 
 

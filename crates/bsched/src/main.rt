@@ -9,7 +9,7 @@
 mod tests;
 
 use command_line::{Order, OrderFault, order_of};
-use commands::{Failure, SystemFiles, perform};
+use commands::{Failure, SystemConnections, SystemFiles, perform};
 use sqlite::Unknown;
 use std::io::Write;
 use std::process::ExitCode;
@@ -48,7 +48,8 @@ fn ordered(rt: &HostRuntime, order: Result<Order, OrderFault>) -> io::Result<Exi
 
 /// Carries out an order. What the tables' file holds is not known: the contract of [`perform`] holds for anything.
 fn carried_out(rt: &HostRuntime, order: &Order) -> io::Result<ExitCode> {
-    let performed = perform(rt, order, &SystemFiles, Unknown);
+    let mut connections = SystemConnections::new(rt);
+    let performed = perform(rt, order, &SystemFiles, &mut connections, Unknown);
     match performed.ended {
         Ok(outcome) => Ok(ExitCode::from(outcome.status())),
         Err(failure) => failed(rt, failure),

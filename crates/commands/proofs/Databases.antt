@@ -16,16 +16,18 @@ use Rattle.stores.specs.Acting.{Parts}
 use Rattle.stores.specs.Eras.{era_of_classes, this_era, new_upgrade_points}
 use Rattle.stores.specs.Held.{IsNew}
 use Rattle.sched_server.specs.Arrivals.{Came, StandsIn}
-use Rattle.sched_server.specs.Laws.{FormerWorldsAreUnclassed, NewStoresStand}
+use Rattle.sched_server.specs.Laws.{AllStay, FormerWorldsAreUnclassed, NewStoresStand}
 use Rattle.sched_tables.specs.Commits.{Imports}
 use Rattle.sched_tables.specs.Held.{IsHonest}
 use Rattle.sched_tables.specs.Laws.{AreUtf8At, AreCallsUtf8, UpgradedCanBeOpened}
 use Rattle.sched_tables.specs.Making.{IsRestOfMaking}
 use Rattle.sched_tables.specs.Reopening.{CanBeOpened, Reopens}
 use Rattle.sched_tables.specs.Upgrading.{held_with}
-use Rattle.sched_tables.specs.Views.{state_of, held_of, AreKept}
+use Rattle.sched_tables.specs.Stops.{MayBeFound}
+use Rattle.sched_tables.specs.Views.{state_of, held_in, held_of, AreKept}
+use Rattle.stores.specs.Held as stores
 use Rattle.sched_tables.specs.declared.tables.Tables.{Tables}
-use Rattle.table_meaning.specs.Schema.{no_schema, newest}
+use Rattle.table_meaning.specs.Schema.{no_schema, newest, schema_at}
 use Rattle.table_meaning.specs.Schemas.{IsSchema}
 use Rattle.table_meaning.specs.Upgrades.{FitsSchema, HoldWorldAt, IsLeftBehindWorld, UpgradesWorld}
 use Rattle.table_meaning.specs.Worlds.{SlotCalls, HoldWorld}
@@ -33,7 +35,7 @@ use Rattle.table_meaning.proofs.SchemaTables.{same_number}
 use Rattle.table_pasts.specs.Stops.{NewDatabasesStand, OpensAndStands, StandSince, StandsOverAStop, StoppedTablesStand, OpenedTablesStand, AreOpenedFrom, StoppedUpgradesStand}
 use Rattle.table_rows.specs.Refusing.{IsRestOf}
 use Rattle.table_rows.proofs.Reopening.{one_database}
-use Rattle.commands.specs.Databases.{CouldBeOpenedAt, HasDatabase, IsGivenBack, HoldsOverAStop, KeepsDatabase, KeepsOrMakes, MakesTables, ServesStore, ServesTables, StandAsEnded, UpgradesTables}
+use Rattle.commands.specs.Databases.{CouldBeOpenedAt, HasDatabase, IsGivenBack, HoldsOverAStop, KeepsDatabase, KeepsOrMakes, MakesTables, ServesStore, ServesTables, StandAsEnded, StandsLater, UpgradesTables}
 use Rattle.commands.specs.declared.ending.Ending.{Ending}
 use Rattle.commands.specs.declared.ending.Failure.{Failure}
 
@@ -97,17 +99,40 @@ module _ {S : Type 0} (g : Ghosts S) where
         → ((t : Tables S) → parts.clean t → HasCleanDisk (state_of g t))
         → ((t : Tables S) → Reopens (state_of g t) → parts.reopens t)
         → ((t : Tables S) → parts.reopens t → Reopens (state_of g t))
-        → (came : List Came) (old : State) (t u : Tables S) (conn : Held S) (s : S)
+        → ((t : Tables S) (h : stores.Held) → MayBeFound (state_of g t) h → parts.may_leave t h)
+        → ((t : Tables S) → (parts.holds t).world ≡ (held_of g t).world)
+        → (key : List ℕ) (came : List Came) (old : State) (t u : Tables S) (conn : Held S) (s : S)
         → AreOpenedFrom g old.committed t → (HasCleanDisk (state_of g t) → HasCleanDisk old) → Reopens (state_of g t)
-        → ServesStore parts came t u → WereGivenBack u conn s → ServesTables g came old s
-    serves_tables opened_stand honest_clean is_clean was_tables_clean can_reopen reopens_so came old t u conn s opened clean_before reopens serves were = record {
+        → ServesStore parts key came t u → WereGivenBack u conn s → ServesTables g key came old s
+    serves_tables opened_stand honest_clean is_clean was_tables_clean can_reopen reopens_so found holds_so key came old t u conn s opened clean_before reopens serves were = record {
       back = were.back;
       was_clean = λ clean. clean_before (was_tables_clean t (serves.was_clean (is_clean u (were.clean (was_clean conn s were.quiet clean)))));
-      stands = λ key points before st.
-          tables_over_a_stop u conn s key points (came ++ before) were
-          (λ clean.
-          stopped u key points (came ++ before) (reopens_so u (serves.reopens (λ honest. are_kept t (opened.kept (honest_clean t honest))) (can_reopen t reopens)))
-          (serves.stands key points before (opened_stand old.committed t opened key points before st) (is_clean u clean)));
+      keyed = λ operator points before st clean some.
+          serves.keyed operator points before (opened_stand old.committed t opened operator points before st) (is_clean u (were.clean (was_clean conn s were.quiet clean))) some;
+      newest_was = λ clean.
+          let there = was_tables_clean t (serves.was_clean (is_clean u (were.clean (was_clean conn s were.quiet clean)))) in
+          sym (ap (λ (d : Database). d.schema) (opened.same there)) ∙ (opened.kept there).0.holds.known.schema;
+      stands = λ operator points before st.
+          over_a_stop conn s (StandsLater (held_in old.committed.trees).world operator points (came ++ before)) were.back were.quiet
+          (λ clean db sound may.
+          let here = were.clean clean in
+          let there = was_tables_clean t (serves.was_clean (is_clean u here)) in
+          let first = opened_stand old.committed t opened operator points before st in
+          let stands = stopped u operator points (came ++ before) (reopens_so u (serves.reopens (λ honest. are_kept t (opened.kept (honest_clean t honest))) (can_reopen t reopens)))
+          (serves.stands operator points before first (is_clean u here)) here db sound (were.left db.trees may) in
+          let read : MayBeFound (state_of g u) (held_in db.trees) = record {
+            trees = db.trees;
+            clean = here;
+            left = were.left db.trees may;
+            read = stands.opens.rows;
+            calls_are = λ host. refl;
+            batches_are = λ kind batch. refl;
+          } in
+          let same : (parts.holds t).world ≡ (held_in old.committed.trees).world = holds_so t ∙ ap (λ (d : Database). (held_in d.trees).world) (opened.same there) in record {
+            stands = stands;
+            stays = subst (λ w. AllStay w (held_in db.trees).world) same
+                (serves.stays operator points before first (is_honest t (opened.honest there)) (held_in db.trees) (found u (held_in db.trees) read));
+          });
     }
 
   -- ---- tables that could not be made or opened
@@ -188,6 +213,20 @@ module _ {S : Type 0} (g : Ghosts S) where
         ))
         (is_open here) (upgrades here)
 
+  -- tables of the newest schema have no later one
+  upgrade_stays : IsSettled → (old conn : Held S) (s : S)
+      → Survives (state g old) (state g conn) (λ trees. IsTrue (state g old).is_open × (db : Database) × IsLeftBehindWorld (state g old).now db × (trees ≡ db.trees))
+      → IsQuiet g.view g.faults g.recovers g.is_shielded conn.store s → Opens (state g old) → (state g old).committed.schema ≡ schema_at newest
+      → HoldsOverAStop g (λ db. db ≡ (state g old).committed) s
+  upgrade_stays settled old conn s survives quiet opens is_newest clean trees may =
+      elim (survives.crash (was_clean conn s quiet clean) trees (quiet.outcomes trees may)) [
+        | inl earlier ↦ ((state g old).committed, sym (settled old.store trees opens.is_open earlier), refl)
+        | inr ahead ↦
+            let left = subst (λ db. IsLeftBehindWorld db ahead.1) opens.clean ahead.2 in
+            let same : left.0 ≡ newest = same_number left.0 newest left.2 (omega arith, omega arith) (sym left.5 ∙ is_newest) in
+            absurd (omega (arith, same, left.3, left.4))
+      ]
+
   pub upgrades_tables : StoppedUpgradesStand → FormerWorldsAreUnclassed → UpgradedCanBeOpened → IsSettled → (ended : Result Ending Failure) (old conn : Held S) (s : S)
       → (HasCleanDisk (state g conn) → OnOk ended (IsTrue (state g conn).is_open))
       → (HasCleanDisk (state g conn) → OnOk ended (UpgradesWorld (state g old).now (state g conn).committed))
@@ -200,4 +239,5 @@ module _ {S : Type 0} (g : Ghosts S) where
         upgrade_stands stand unclassed can settled ended old conn s is_open upgrades survives quiet back opens clean n is w calls batches key points before held st;
     opens = λ opens n is w calls batches key points before held st could.
         on_ok_later _ _ ended (λ clean. upgrade_opens stand unclassed can settled ended old conn s is_open upgrades survives quiet back opens clean n is w calls batches key points before held st could);
+    stays = λ opens is_newest. upgrade_stays settled old conn s survives quiet opens is_newest;
   }

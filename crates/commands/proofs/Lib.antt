@@ -3,3 +3,4 @@ mod Messages
 mod Stores
 mod Databases
 mod InFiles
+mod Runs

@@ -1,5 +1,5 @@
 -- Promise. From a file to a file: what an order leaves of the files of its database agrees with the messages that came. (This project's own.)
-use Rattle.std.specs.Prelude.{◌≡◌, ℕ, ◌-◌, ◌≤◌, List, ◌++◌, Option, Some, None, Result, OnOk, length}
+use Rattle.std.specs.Prelude.{◌≡◌, ℕ, ◌-◌, List, ◌++◌, Option, Some, None, Result, OnOk}
 use Rattle.office_files.specs.SettingsTexts.{HasSettings}
 use Rattle.sqlite.specs.Effect.{Database, IsDatabase}
 use Rattle.sqlite.specs.Files.{HoldsDatabase}
@@ -16,19 +16,19 @@ use Rattle.sched_book.specs.Limits.{AreSettingsInLimits}
 use Rattle.sched_book.specs.declared.settings.Settings.{Settings}
 use Rattle.sched_book.specs.declared.world.World.{World}
 use Rattle.sched_server.specs.Arrivals.{Came, StandsFor, StandsIn}
+use Rattle.sched_server.specs.Serving.{HasResponse}
 use Rattle.sched_tables.specs.Commits.{Imports}
 use Rattle.sched_tables.specs.Reopening.{CanBeOpened}
 use Rattle.sched_tables.specs.Upgrading.{held_with}
 use Rattle.sched_tables.specs.Views.{held_in}
-use Rattle.table_meaning.specs.Schema.{no_schema}
+use Rattle.table_meaning.specs.Schema.{no_schema, newest, schema_at}
 use Rattle.table_meaning.specs.Schemas.{IsSchema}
 use Rattle.table_meaning.specs.Upgrades.{HoldWorldAt}
 use Rattle.table_meaning.specs.Worlds.{SlotCalls}
-use Rattle.table_pasts.specs.Stops.{OpensAndStands}
-use Rattle.commands.specs.Databases.{AgreesWithNone, CouldBeOpenedAt, HasDatabase, StandAsEnded}
+use Rattle.commands.specs.Databases.{AgreesWithNone, CouldBeOpenedAt, HasDatabase, StandAsEnded, StandsLater}
 use Rattle.commands.specs.Endings.{LeavesBy}
 use Rattle.commands.specs.Leftovers.{LeavesAsHeld}
-use Rattle.commands.specs.Messages.{AreOf, IsOne, IsImport, IsTick, IsStatement}
+use Rattle.commands.specs.Messages.{AreOf, MayCome, ServedSo}
 use Rattle.commands.specs.declared.database.Action.{Action}
 use Rattle.commands.specs.declared.database.Action.TheVariants as action
 use Rattle.commands.specs.declared.ending.Failure.{Failure}
@@ -41,9 +41,9 @@ use Rattle.commands.specs.declared.files.Files as files
 abbrev pub FilesHold : (Database → Type 0) → Image → Type 0
 FilesHold P image = ∥ ((db : Database) × HoldsDatabase image db.trees × P db) ∥₁
 
--- the rows of a database agree with the arrivals, with these upgrade points and this key of the operator
-abbrev pub RowsStand : List ℕ → List ℕ → List Came → Database → Type 0
-RowsStand key upgrade_points before db = IsDatabase db × StandsFor key (held_in db.trees) upgrade_points before
+-- the rows of a database hold this world, and agree with the arrivals, with these upgrade points and this key of the operator
+abbrev pub RowsStand : World → List ℕ → List ℕ → List Came → Database → Type 0
+RowsStand w key upgrade_points before db = StandsFor key (held_in db.trees) upgrade_points before × ((held_in db.trees).world ≡ w)
 
 -- if the files held a database, it was empty
 abbrev pub HeldNone : Image → Type 0
@@ -73,18 +73,24 @@ module _ {D : Type 0} {g : disk.Ghosts D} where
   -- ---- tables that handle messages
 
   -- Messages were handled, the newest first. Suppose that what the files held before agreed with some arrivals. Then what a stop at any moment
-  -- leaves of them can be opened, and agrees with these messages in front of those arrivals, or with these and one message in doubt.
-  abbrev pub ServesFiles : (List Came → Type 0) → Image → FileStore D g → Type 0
-  ServesFiles Are before it =
-      (came : List Came) × Are came
-      × ((key upgrade_points : List ℕ) (earlier : List Came) → FilesHold (RowsStand key upgrade_points earlier) before
-      → LeavesInFiles (OpensAndStands key upgrade_points (came ++ earlier)) it)
+  -- leaves of them can be opened, and agrees with these messages in front of those arrivals, or with these and one message in doubt. Everything
+  -- that lasts over messages stays. If one of
+  -- these messages got a response, the key that the order used is the operator's. A database that the files held was of the newest schema.
+  pub record ServesFiles (Are : List ℕ → List Came → Type 0) (before : Image) (it : FileStore D g) : Type 0 where
+    pub key : List ℕ
+    pub came : List Came
+    pub are : Are key came
+    pub stands : (w : World) (operator upgrade_points : List ℕ) (earlier : List Came) → FilesHold (RowsStand w operator upgrade_points earlier) before
+        → LeavesInFiles (StandsLater w operator upgrade_points (came ++ earlier)) it
+    pub keyed : (w : World) (operator upgrade_points : List ℕ) (earlier : List Came) → FilesHold (RowsStand w operator upgrade_points earlier) before
+        → IsClean (view it) → HasResponse came → key ≡ operator
+    pub newest_was : (db : Database) → IsDatabase db → HoldsDatabase before db.trees → IsClean (view it) → db.schema ≡ schema_at newest
 
   -- ---- upgraded tables
 
   -- Suppose that the files held tables of some schema, which agreed with some arrivals. Then what a stop at any moment leaves of them are those
   -- tables, or tables of a later schema that hold the same. They agree with the same arrivals. If the order ended well, they are of the newest
-  -- schema, and can be opened if the former ones could be.
+  -- schema, and can be opened if the former ones could be. Tables of the newest schema stay as they were.
   pub record UpgradesFiles (ended : Result Ending Failure) (before : Image) (it : FileStore D g) : Type 0 where
     pub stands : (n : ℕ) → IsSchema n → (w : World) (calls : SlotCalls) (batches : Imports) (key upgrade_points : List ℕ) (earlier : List Came)
         → FilesHold (λ db. IsDatabase db × HoldWorldAt n db w calls batches) before → StandsIn (n - 1) key (held_with w calls batches) upgrade_points earlier
@@ -92,29 +98,24 @@ module _ {D : Type 0} {g : disk.Ghosts D} where
     pub opens : (n : ℕ) → IsSchema n → (w : World) (calls : SlotCalls) (batches : Imports) (key upgrade_points : List ℕ) (earlier : List Came)
         → FilesHold (λ db. IsDatabase db × HoldWorldAt n db w calls batches × CouldBeOpenedAt n w calls batches db.trees) before
         → StandsIn (n - 1) key (held_with w calls batches) upgrade_points earlier → OnOk ended (LeavesInFiles CanBeOpened it)
+    pub stays : (db : Database) → IsDatabase db → HoldsDatabase before db.trees → db.schema ≡ schema_at newest → LeavesInFiles (λ found. found ≡ db) it
 
   -- ---- orders
 
   -- what an order that ended so leaves of the files that held these contents
-  abbrev pub LeavesFiles : {F : Type 0} → files.Ghosts F → Order → Result Ending Failure → Image → Left (FileStore D g) (Leftover D g) → Type 0
-  LeavesFiles f (order.Create settings tables) ended before last =
+  abbrev pub LeavesFiles : {F : Type 0} → files.Ghosts F → ServedSo → Order → Result Ending Failure → Image → Left (FileStore D g) (Leftover D g) → Type 0
+  LeavesFiles f served (order.Create settings tables) ended before last =
       (s : Settings) × SaysSettings f settings s × LeavesBy (MakesNone s before) (MakesFiles s before) ended last
-  LeavesFiles f (order.Upgrade tables) ended before last = LeavesBy (LeavesAsHeld (λ _. ⊥) before) (UpgradesFiles ended before) ended last
-  LeavesFiles f (order.Serve tables port count) ended before last =
-      LeavesBy (LeavesAsHeld (λ _. ⊥) before) (ServesFiles (λ came. length came ≤ count) before) ended last
-  LeavesFiles f (order.Import tables kind batch file) ended before last =
-      LeavesBy (LeavesAsHeld (λ _. ⊥) before) (ServesFiles (IsOne ended 0 (IsImport f kind batch file)) before) ended last
-  LeavesFiles f (order.Tick tables at) ended before last = LeavesBy (LeavesAsHeld (λ _. ⊥) before) (ServesFiles (IsOne ended at IsTick) before) ended last
-  LeavesFiles f (order.Statement tables host) ended before last =
-      LeavesBy (LeavesAsHeld (λ _. ⊥) before) (ServesFiles (IsOne ended 0 (IsStatement host)) before) ended last
-  LeavesFiles f (order.Replay settings) ended before last = ⊥
+  LeavesFiles f served (order.Upgrade tables) ended before last = LeavesBy (LeavesAsHeld (λ _. ⊥) before) (UpgradesFiles ended before) ended last
+  LeavesFiles f served (order.Replay settings) ended before last = ⊥
+  LeavesFiles f served o ended before last = LeavesBy (LeavesAsHeld (λ _. ⊥) before) (ServesFiles (λ key. MayCome f served key o ended) before) ended last
 
   -- the same of an action
-  abbrev pub KeepsFiles : {F : Type 0} → files.Ghosts F → Action → Result Ending Failure → Image → Left (FileStore D g) (Leftover D g) → Type 0
-  KeepsFiles f (action.Create settings) ended before last =
+  abbrev pub KeepsFiles : {F : Type 0} → files.Ghosts F → ServedSo → Action → Result Ending Failure → Image → Left (FileStore D g) (Leftover D g) → Type 0
+  KeepsFiles f served (action.Create settings) ended before last =
       AreSettingsInLimits settings.now → LeavesBy (MakesNone settings.now before) (MakesFiles settings.now before) ended last
-  KeepsFiles f action.Upgrade ended before last = LeavesBy (LeavesAsHeld (λ _. ⊥) before) (UpgradesFiles ended before) ended last
-  KeepsFiles f (action.Handle task) ended before last = LeavesBy (LeavesAsHeld (λ _. ⊥) before) (ServesFiles (AreOf f task ended) before) ended last
+  KeepsFiles f served action.Upgrade ended before last = LeavesBy (LeavesAsHeld (λ _. ⊥) before) (UpgradesFiles ended before) ended last
+  KeepsFiles f served (action.Handle task) ended before last = LeavesBy (LeavesAsHeld (λ _. ⊥) before) (ServesFiles (λ key. AreOf f served key task ended) before) ended last
 
 -- what is left of a store over files, as what is left of the files
 abbrev pub in_files : {D : Type 0} {g : disk.Ghosts D} → Left (FileStore D g) (FileStore D g) → Left (FileStore D g) (Leftover D g)

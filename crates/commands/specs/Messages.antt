@@ -1,5 +1,7 @@
 -- Promise. The messages that an order makes itself, and how many it may handle. (This project's own.)
-use Rattle.std.specs.Prelude.{◌≡◌, ◌≤◌, ℕ, List, [], ◌∷◌, Result, OnOk, length, decimal}
+use Rattle.std.specs.Prelude.{◌≡◌, ℕ, List, [], ◌∷◌, Result, OnOk, decimal}
+use Rattle.command_line.specs.declared.order.Order.{Order}
+use Rattle.command_line.specs.declared.order.Order.TheVariants as order
 use Rattle.http_requests.specs.Requests.{import_request, tick_request, statement_request}
 use Rattle.sched_server.specs.Arrivals.{Came}
 use Rattle.commands.specs.Endings.{EndsBy}
@@ -22,21 +24,33 @@ IsOne ended now Is [] = OnOk ended ⊥
 IsOne ended now Is (c ∷ []) = (c.arrival.now ≡ now) × Is c.arrival.bytes × EndsBy c.answer ended
 IsOne ended now Is (c ∷ d ∷ came) = ⊥
 
--- the bytes import what a file says under this kind and name, with some operator's key
-abbrev pub IsImport : {F : Type 0} → files.Ghosts F → List ℕ → List ℕ → List ℕ → List ℕ → Type 0
-IsImport g kind batch file bytes = (key : List ℕ) × (text : List ℕ) × g.says file text × (bytes ≡ import_request key kind batch text)
+-- with this key of an operator, the bytes import what a file says under this kind and name
+abbrev pub IsImport : {F : Type 0} → files.Ghosts F → List ℕ → List ℕ → List ℕ → List ℕ → List ℕ → Type 0
+IsImport g key kind batch file bytes = (text : List ℕ) × g.says file text × (bytes ≡ import_request key kind batch text)
 
--- the bytes are those of a tick
-abbrev pub IsTick : List ℕ → Type 0
-IsTick bytes = (key : List ℕ) × (bytes ≡ tick_request key)
+-- the bytes are those of a tick with this key
+abbrev pub IsTick : List ℕ → List ℕ → Type 0
+IsTick key bytes = bytes ≡ tick_request key
 
--- the bytes ask for the statement of this host
-abbrev pub IsStatement : ℕ → List ℕ → Type 0
-IsStatement host bytes = (key : List ℕ) × (bytes ≡ statement_request key (decimal host))
+-- with this key the bytes ask for the statement of this host
+abbrev pub IsStatement : List ℕ → ℕ → List ℕ → Type 0
+IsStatement key host bytes = bytes ≡ statement_request key (decimal host)
 
--- These may be all messages of a task that ended so: at most one of each connection, or the one that the task makes.
-abbrev pub AreOf : {F : Type 0} → files.Ghosts F → Task → Result Ending Failure → List Came → Type 0
-AreOf g (task.Serve port count) ended came = length came ≤ count
-AreOf g (task.Import kind batch file) ended came = IsOne ended 0 (IsImport g kind.now batch.now file.now) came
-AreOf g (task.Tick at) ended came = IsOne ended at IsTick came
-AreOf g (task.Statement host) ended came = IsOne ended 0 (IsStatement host) came
+-- what may come over so many connections to a port, if serving them ended so
+abbrev pub ServedSo : Type 1
+ServedSo = ℕ → ℕ → Result Ending Failure → List Came → Type 0
+
+-- These may be all messages of a task that ended so: those of its connections, or the one that the task makes with this key.
+abbrev pub AreOf : {F : Type 0} → files.Ghosts F → ServedSo → List ℕ → Task → Result Ending Failure → List Came → Type 0
+AreOf g served key (task.Serve port count) ended came = served port count ended came
+AreOf g served key (task.Import kind batch file) ended came = IsOne ended 0 (IsImport g key kind.now batch.now file.now) came
+AreOf g served key (task.Tick at) ended came = IsOne ended at (IsTick key) came
+AreOf g served key (task.Statement host) ended came = IsOne ended 0 (IsStatement key host) came
+
+-- The same of an order with tables, whose messages are those of its connections, or the one that it makes with this key. Another order has none.
+abbrev pub MayCome : {F : Type 0} → files.Ghosts F → ServedSo → List ℕ → Order → Result Ending Failure → List Came → Type 0
+MayCome g served key (order.Serve tables port count) ended came = served port count ended came
+MayCome g served key (order.Import tables kind batch file) ended came = IsOne ended 0 (IsImport g key kind batch file) came
+MayCome g served key (order.Tick tables at) ended came = IsOne ended at (IsTick key) came
+MayCome g served key (order.Statement tables host) ended came = IsOne ended 0 (IsStatement key host) came
+MayCome g served key o ended came = came ≡ []

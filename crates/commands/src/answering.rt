@@ -1,15 +1,18 @@
 //! What a service over the tables of a file is to do, and the messages that this takes.
 
-ghost use Rattle.std.specs.Prelude.{◌≡◌, ◌≤◌, ◌∷◌, [], List, length, decimal, IfOk};
+ghost use Rattle.std.specs.Prelude.{◌≡◌, ◌∷◌, [], List, decimal, IfOk};
 ghost use Rattle.std.specs.String.{string_bytes};
 ghost use Rattle.sched_server.specs.Arrivals.{Came};
 ghost use Rattle.sched_server.specs.Serving.{ServesInTurn};
+ghost use Rattle.sched_server.specs.Views.{operator_key_of};
 ghost use Rattle.commands.specs.Endings.{EndsBy};
 ghost use Rattle.commands.specs.Messages.{AreOf, IsImport, IsTick, IsStatement, IsOne, HasArrived};
+ghost use Rattle.commands.specs.Wire.{AreServed};
 
+use crate::connections::Connections;
 use crate::ending::{Ending, Failure};
 use crate::files::Files;
-use crate::serving::serve_on;
+use crate::serving::serve_connections;
 use http_requests::{import_request, statement_request, tick_request};
 use http_responses::Media;
 use sched_book::Moment;
@@ -18,7 +21,6 @@ use sched_server::{Answer, Service};
 use std::alloc::Global;
 use std::io;
 use std::io::Write;
-use std::net::TcpListener;
 use stores::Store;
 use texts::Memory;
 
@@ -43,16 +45,19 @@ pub(crate) enum Task<'a> {
 }
 
 /// Does a task. The service handles the messages of the task, or some first part of them.
-pub(crate) fn perform_by<F: Files, S: Store>(
+pub(crate) fn perform_by<F: Files, C: Connections, S: Store>(
     rt: &HostRuntime,
     files: &F,
+    connections: &mut C,
     service: &mut Service<S>,
     task: &Task<'_>,
 ) -> Result<Ending, Failure>
-    ensures { (came : List Came) × AreOf F.Files task.now result came × ServesInTurn S.Store came service.old service.new }
+    ensures { (came : List Came)
+        × AreOf F.Files (AreServed C.Connections C.Reader.Source C.Writer.Sink connections.old connections.new) (operator_key_of service.old) task.now result came
+        × ServesInTurn S.Store came service.old service.new }
 {
     match task {
-        Task::Serve { port, count } => serve(rt, service, *port, *count),
+        Task::Serve { port, count } => serve(rt, connections, service, *port, *count),
         Task::Import { kind, batch, file } => import(rt, files, service, kind, batch, file),
         Task::Tick { at } => tick(rt, service, *at),
         Task::Statement { host } => statement(rt, service, *host),
@@ -60,16 +65,18 @@ pub(crate) fn perform_by<F: Files, S: Store>(
 }
 
 /// Serves `count` connections on a port of 127.0.0.1. It ends early if a fault of the disk shuts the tables.
-fn serve<S: Store>(
+fn serve<C: Connections, S: Store>(
     rt: &HostRuntime,
+    connections: &mut C,
     service: &mut Service<S>,
     port: u16,
     count: u32,
 ) -> Result<Ending, Failure>
-    ensures { (came : List Came) × (length came ≤ count) × ServesInTurn S.Store came service.old service.new }
+    ensures { (came : List Came) × AreServed C.Connections C.Reader.Source C.Writer.Sink connections.old connections.new port count result came
+        × ServesInTurn S.Store came service.old service.new }
 {
-    let listener = TcpListener::bind(rt, ("127.0.0.1", port))?;
-    serve_on(rt, service, &listener, count)?;
+    connections.listen(port)?;
+    serve_connections(rt, service, connections, count)?;
     Ok(Ending::Done)
 }
 
@@ -82,7 +89,7 @@ fn import<F: Files, S: Store>(
     batch: &str,
     file: &str,
 ) -> Result<Ending, Failure>
-    ensures { (came : List Came) × IsOne result 0 (IsImport F.Files kind.now batch.now file.now) came × ServesInTurn S.Store came service.old service.new }
+    ensures { (came : List Came) × IsOne result 0 (IsImport F.Files (operator_key_of service.old) kind.now batch.now file.now) came × ServesInTurn S.Store came service.old service.new }
 {
     let message = import_message(rt, files, service.operator_key(), kind, batch, file)?;
     answer(rt, service, any_moment(), &message)
@@ -97,7 +104,7 @@ fn import_message<F: Files>(
     batch: &str,
     file: &str,
 ) -> Result<Vec<u8>, Failure>
-    ensures { IfOk result (λ message. IsImport F.Files kind.now batch.now file.now message.items) }
+    ensures { IfOk result (λ message. IsImport F.Files key.now kind.now batch.now file.now message.items) }
 {
     let text = files.bytes(rt, file, MOST_IMPORT_BYTES)?;
     let message = import_request(rt.alloc(), key, kind, batch, &text)?;
@@ -106,7 +113,7 @@ fn import_message<F: Files>(
 
 /// Sends a tick at a moment.
 fn tick<S: Store>(rt: &HostRuntime, service: &mut Service<S>, at: Moment) -> Result<Ending, Failure>
-    ensures { (came : List Came) × IsOne result at IsTick came × ServesInTurn S.Store came service.old service.new }
+    ensures { (came : List Came) × IsOne result at (IsTick (operator_key_of service.old)) came × ServesInTurn S.Store came service.old service.new }
 {
     let message = tick_request(rt.alloc(), service.operator_key())?;
     answer(rt, service, at, &message)
@@ -118,7 +125,7 @@ fn statement<S: Store>(
     service: &mut Service<S>,
     host: u32,
 ) -> Result<Ending, Failure>
-    ensures { (came : List Came) × IsOne result 0 (IsStatement host) came × ServesInTurn S.Store came service.old service.new }
+    ensures { (came : List Came) × IsOne result 0 (IsStatement (operator_key_of service.old) host) came × ServesInTurn S.Store came service.old service.new }
 {
     let message = statement_message(rt.alloc(), service.operator_key(), host)?;
     answer(rt, service, any_moment(), &message)
@@ -126,7 +133,7 @@ fn statement<S: Store>(
 
 /// The message that asks for the statement of a host, with the operator's key.
 fn statement_message(alloc: Global, key: &str, host: u32) -> Result<Vec<u8>, Memory>
-    ensures { IfOk result (λ message. IsStatement host message.items) }
+    ensures { IfOk result (λ message. IsStatement key.now host message.items) }
 {
     let number = number_text(alloc, host)?;
     let message = statement_request(alloc, key, number.as_str())?;

@@ -1,9 +1,15 @@
 //! The two sides of a connection, each with its time limit, and the end of the connection.
 
+ghost use Rattle.std.specs.Prelude.{None, ⊤};
+
+use http_serving::{Sink, Source, StreamFault};
 use std::io;
 use std::io::{ErrorKind, Read, Write};
 use std::net::{Shutdown, TcpStream};
 use std::time::{Duration, Instant};
+
+/// How long a message may take, from its first read to its last byte, and how long its answer may take, in seconds.
+const MOST_SECONDS: u64 = 10;
 
 /// How long a connection lingers after its answer, in seconds.
 const LINGER_SECONDS: u64 = 2;
@@ -15,35 +21,29 @@ const MOST_THROWN_AWAY: u64 = 1_048_576;
 /// time-out once, except if the client is slow.
 const WAIT_SECONDS: u64 = 2;
 
-/// How an answer with status 503 begins.
-const UNAVAILABLE: &[u8] = b"HTTP/1.1 503 ";
-
 /// More waits than the time of a side takes.
 const MOST_WAITS: u32 = 100;
 
 /// A side of a connection. Its reads or writes have so many seconds in all, counted from the first one.
 #[derive(Drop)]
-pub(crate) struct Timed<'a> {
+pub struct Timed<'a> {
     rt: &'a HostRuntime,
-    stream: &'a TcpStream,
+    stream: TcpStream,
     seconds: u64,
     since: Option<Instant>,
     /// The time-out that the socket has for this side, if it was set.
     wait: Option<Duration>,
-    /// Whether the first bytes to write were those of an answer with status 503.
-    is_unavailable: Option<bool>,
 }
 
 impl<'a> Timed<'a> {
     /// A side with all of its time left.
-    pub(crate) fn new(rt: &'a HostRuntime, stream: &'a TcpStream, seconds: u64) -> Timed<'a> {
+    pub(crate) fn new(rt: &'a HostRuntime, stream: TcpStream) -> Timed<'a> {
         Timed {
             rt,
             stream,
-            seconds,
+            seconds: MOST_SECONDS,
             since: None,
             wait: None,
-            is_unavailable: None,
         }
     }
 
@@ -55,13 +55,7 @@ impl<'a> Timed<'a> {
             seconds,
             since: None,
             wait: self.wait,
-            is_unavailable: self.is_unavailable,
         }
-    }
-
-    /// Whether an answer with status 503 was written, or at least begun.
-    pub(crate) fn is_unavailable(&self) -> bool {
-        self.is_unavailable.unwrap_or(false)
     }
 
     /// What is left of its time.
@@ -94,12 +88,11 @@ fn is_over(done: &io::Result<usize>) -> bool {
 impl Read for Timed<'_> {
     /// A read that waits for what is left of the time at most, and then fails.
     fn read(&mut self, buf: &mut [u8]) -> io::Result<usize> {
-        let mut stream = self.stream;
         for _ in 0..MOST_WAITS {
             if let Some(wait) = self.next_wait()? {
                 self.stream.set_read_timeout(Some(wait))?;
             }
-            let read = stream.read(buf);
+            let read = self.stream.read(buf);
             if !is_over(&read) {
                 return read;
             }
@@ -111,15 +104,11 @@ impl Read for Timed<'_> {
 impl Write for Timed<'_> {
     /// A write that waits for what is left of the time at most, and then fails.
     fn write(&mut self, buf: &[u8]) -> io::Result<usize> {
-        if self.is_unavailable.is_none() {
-            self.is_unavailable = Some(buf.starts_with(UNAVAILABLE));
-        }
-        let mut stream = self.stream;
         for _ in 0..MOST_WAITS {
             if let Some(wait) = self.next_wait()? {
                 self.stream.set_write_timeout(Some(wait))?;
             }
-            let written = stream.write(buf);
+            let written = self.stream.write(buf);
             if !is_over(&written) {
                 return written;
             }
@@ -132,10 +121,32 @@ impl Write for Timed<'_> {
     }
 }
 
+impl Source for Timed<'_> {
+    ghost left = { λ _. None };
+
+    ghost steps = { λ _ _. ⊤ };
+
+    ghost has_failed = { λ _. ⊤ };
+
+    fn read_some(&mut self, buf: &mut [u8]) -> Result<usize, StreamFault> {
+        Ok(self.read(buf)?)
+    }
+}
+
+impl Sink for Timed<'_> {
+    ghost held = { λ _. None };
+
+    ghost has_failed = { λ _. ⊤ };
+
+    fn write_some(&mut self, bytes: &[u8]) -> Result<usize, StreamFault> {
+        Ok(self.write(bytes)?)
+    }
+}
+
 /// Ends the sending side of a connection, then reads and throws away what still comes, for at most two seconds and 1,048,576
 /// bytes. A connection that is closed while bytes are on their way is reset, and then the client may lose the answer.
-pub(crate) fn linger(stream: &TcpStream, reader: Timed<'_>) -> io::Result<()> {
-    stream.shutdown(Shutdown::Write)?;
+pub(crate) fn linger(reader: Timed<'_>, writer: Timed<'_>) -> io::Result<()> {
+    writer.stream.shutdown(Shutdown::Write)?;
     let reader = reader.again(LINGER_SECONDS);
     io::copy(&mut reader.take(MOST_THROWN_AWAY), &mut io::sink())?;
     Ok(())

@@ -2,16 +2,18 @@
 //!
 //! The calls of laws do nothing when they run. They hand their facts to the proof.
 
-ghost use Rattle.std.specs.Prelude.{◌≡◌, List, IsTrue, OnOk};
+ghost use Rattle.std.specs.Prelude.{◌≡◌, ℕ, List, IsTrue, OnOk};
 ghost use Rattle.sqlite.specs.Held.{state};
 ghost use Rattle.sqlite.specs.State.{HasCleanDisk, Survives};
 ghost use Rattle.sched_server.specs.Arrivals.{Came};
 ghost use Rattle.table_meaning.specs.Upgrades.{UpgradesWorld, IsLeftBehindWorld};
 ghost use Rattle.commands.specs.Messages.{AreOf};
 ghost use Rattle.commands.specs.Endings.{LeavesBy};
-ghost use Rattle.commands.specs.Databases.{KeepsDatabase, KeepsOrMakes, LeavesDatabase, MakesTables, ServesTables, ServesStore, UpgradesTables};
+ghost use Rattle.commands.specs.Databases.{KeepsDatabase, KeepsOrMakes, LeavesDatabase, MakesTables, ServesTask, ServesStore, UpgradesTables};
+ghost use Rattle.commands.specs.Wire.{AreServed};
 
 use crate::answering::{Task, perform_by};
+use crate::connections::Connections;
 use crate::ending::{Ending, Failure, Performed};
 use crate::files::Files;
 use sched_book::Settings;
@@ -39,18 +41,20 @@ pub(crate) enum Action<'a> {
 }
 
 /// Does an action with the database of a connection. However it ends, it gives the store under the connection back.
-pub(crate) fn perform_on<F: Files, S: Alter + Drop>(
+pub(crate) fn perform_on<F: Files, C: Connections, S: Alter + Drop>(
     rt: &HostRuntime,
     files: &F,
+    connections: &mut C,
     conn: Connection<S>,
     action: &Action<'_>,
 ) -> Performed<S, S>
-    ensures { LeavesDatabase F.Files S.Store action.now result.ended (state S.Store conn) result.left }
+    ensures { LeavesDatabase F.Files (AreServed C.Connections C.Reader.Source C.Writer.Sink connections.old connections.new) S.Store action.now result.ended
+        (state S.Store conn) result.left }
 {
     match action {
         Action::Create(settings) => create(rt, conn, settings),
         Action::Upgrade => upgrade_tables(rt, conn),
-        Action::Handle(task) => handle(rt, files, conn, task),
+        Action::Handle(task) => handle(rt, files, connections, conn, task),
     }
 }
 
@@ -111,20 +115,22 @@ fn print_schema(rt: &HostRuntime, schema: u32) -> Result<Ending, Failure> {
 }
 
 /// Lets a service over the tables do a task.
-fn handle<F: Files, S: Alter + Drop>(
+fn handle<F: Files, C: Connections, S: Alter + Drop>(
     rt: &HostRuntime,
     files: &F,
+    connections: &mut C,
     conn: Connection<S>,
     task: &Task<'_>,
 ) -> Performed<S, S>
     ensures { LeavesBy (KeepsDatabase S.Store (state S.Store conn))
-        (λ s. (came : List Came) × AreOf F.Files task.now result.ended came × ServesTables S.Store came (state S.Store conn) s) result.ended result.left }
+        (ServesTask F.Files (AreServed C.Connections C.Reader.Source C.Writer.Sink connections.old connections.new) S.Store task.now result.ended
+        (state S.Store conn)) result.ended result.left }
 {
     opened_tables_stand::<S>();
     stopped_tables_stand::<S>();
     match Tables::adopt(rt.alloc(), conn) {
         Ok(tables) => {
-            let (ended, tables) = perform_over(rt, files, tables, task);
+            let (ended, tables) = perform_over(rt, files, connections, tables, task);
             let store = tables.into_connection().into_store();
             Performed::leaving(ended, store)
         }
@@ -136,17 +142,20 @@ fn handle<F: Files, S: Alter + Drop>(
 }
 
 /// Lets a service over a store do a task, and gives the store back.
-fn perform_over<F: Files, S: Store + Drop>(
+fn perform_over<F: Files, C: Connections, S: Store + Drop>(
     rt: &HostRuntime,
     files: &F,
+    connections: &mut C,
     store: S,
     task: &Task<'_>,
 ) -> (Result<Ending, Failure>, S)
-    ensures { (came : List Came) × AreOf F.Files task.now result.0 came × ServesStore S.Store came store result.1 }
+    ensures { (key : List ℕ) × (came : List Came)
+        × AreOf F.Files (AreServed C.Connections C.Reader.Source C.Writer.Sink connections.old connections.new) key task.now result.0 came
+        × ServesStore S.Store key came store result.1 }
 {
     match Service::new(rt.alloc(), store) {
         Ok(mut service) => {
-            let ended = perform_by(rt, files, &mut service, task);
+            let ended = perform_by(rt, files, connections, &mut service, task);
             (ended, service.into_tables())
         }
         Err(store) => (Err(Failure::Unavailable), store),

@@ -44,8 +44,7 @@ pub trait Files {
 
     /// Reads a file. Of a file with more than `most` bytes, it reads one byte more than that.
     fn bytes(&self, rt: &HostRuntime, path: &str, most: usize) -> Result<Vec<u8>, Failure>
-        ensures said { IfOk result (λ bytes. says path.now bytes.items) }
-        ensures refused { IfErr result (λ _. refuses) };
+        ensures { IfOk result (λ bytes. says path.now bytes.items) };
 
     /// Reads the settings in a file.
     fn settings(&self, rt: &HostRuntime, path: &str) -> Result<Settings, Failure>

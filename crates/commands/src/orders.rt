@@ -3,8 +3,10 @@
 ghost use Rattle.std.specs.Prelude.{◌≡◌, ◌≢◌, Err, IfOk, IfErr, OnOk};
 ghost use Rattle.sqlite_wal.specs.Files.{image_at};
 ghost use Rattle.commands.specs.Files.{LeavesFiles, KeepsFiles, HasTables, SaysSettings, in_files as left_in_files, left_of_opening};
+ghost use Rattle.commands.specs.Wire.{AreServed};
 
 use crate::answering::Task;
+use crate::connections::Connections;
 use crate::database::{Action, perform_on};
 use crate::ending::{Failure, Left, Performed};
 use crate::files::Files;
@@ -16,8 +18,8 @@ use sqlite::{FileFrom, FileStore, Leftover, Start};
 /// What an order came to with the files of a system.
 pub type OfFiles<B> = Performed<FileStore<FileFrom<B>>, Leftover<FileFrom<B>>>;
 
-/// Does what an order says, with the files of a system. `start` stands for what the tables' file holds, which no code can
-/// read: `main` passes [`sqlite::Unknown`].
+/// Does what an order says, with the files and the network of a system. `start` stands for what the tables' file holds, which
+/// no code can read: `main` passes [`sqlite::Unknown`].
 ///
 /// Suppose that what the file held agreed with some messages and their answers. Then what a stop at any moment leaves of
 /// the file can be opened, and agrees with them and with the messages that the order handled, or with these and one
@@ -31,14 +33,17 @@ pub type OfFiles<B> = Performed<FileStore<FileFrom<B>>, Leftover<FileFrom<B>>>;
 /// # Errors
 ///
 /// The result says how the order ended: a [`Failure`] if a file, a socket or a stream failed, or if memory ran out.
-pub fn perform<F: Files, B: Start>(
+pub fn perform<F: Files, C: Connections, B: Start>(
     rt: &HostRuntime,
     order: &Order,
     files: &F,
+    connections: &mut C,
     start: B,
 ) -> OfFiles<B>
     ensures opened { HasTables order.now → result.left ≡ Left.Nothing → OnOk result.ended ⊥ × F.Files.refuses }
-    ensures stands { result.left ≢ Left.Nothing → LeavesFiles F.Files order.now result.ended (image_at B.Start) result.left }
+    ensures stands { result.left ≢ Left.Nothing
+        → LeavesFiles F.Files (AreServed C.Connections C.Reader.Source C.Writer.Sink connections.old connections.new) order.now result.ended (image_at B.Start)
+        result.left }
 {
     match order {
         Order::Create { settings, tables } => {
@@ -47,6 +52,7 @@ pub fn perform<F: Files, B: Start>(
                     perform_in(
                         rt,
                         files,
+                        connections,
                         tables.as_str(),
                         start,
                         &Action::Create(&settings),
@@ -56,7 +62,14 @@ pub fn perform<F: Files, B: Start>(
             }
         }
         Order::Upgrade { tables } => {
-            perform_in(rt, files, tables.as_str(), start, &Action::Upgrade)
+            perform_in(
+                rt,
+                files,
+                connections,
+                tables.as_str(),
+                start,
+                &Action::Upgrade,
+            )
         }
         Order::Serve {
             tables,
@@ -67,7 +80,14 @@ pub fn perform<F: Files, B: Start>(
                 port: *port,
                 count: *count,
             };
-            perform_in(rt, files, tables.as_str(), start, &Action::Handle(task))
+            perform_in(
+                rt,
+                files,
+                connections,
+                tables.as_str(),
+                start,
+                &Action::Handle(task),
+            )
         }
         Order::Import {
             tables,
@@ -80,15 +100,36 @@ pub fn perform<F: Files, B: Start>(
                 batch: batch.as_str(),
                 file: file.as_str(),
             };
-            perform_in(rt, files, tables.as_str(), start, &Action::Handle(task))
+            perform_in(
+                rt,
+                files,
+                connections,
+                tables.as_str(),
+                start,
+                &Action::Handle(task),
+            )
         }
         Order::Tick { tables, at } => {
             let task = Task::Tick { at: *at };
-            perform_in(rt, files, tables.as_str(), start, &Action::Handle(task))
+            perform_in(
+                rt,
+                files,
+                connections,
+                tables.as_str(),
+                start,
+                &Action::Handle(task),
+            )
         }
         Order::Statement { tables, host } => {
             let task = Task::Statement { host: *host };
-            perform_in(rt, files, tables.as_str(), start, &Action::Handle(task))
+            perform_in(
+                rt,
+                files,
+                connections,
+                tables.as_str(),
+                start,
+                &Action::Handle(task),
+            )
         }
         Order::Replay { settings } => {
             Performed::without_tables(replay_input(rt, files, settings.as_ref()))
@@ -112,19 +153,22 @@ fn ready<F: Files>(
 }
 
 /// Opens the database in a file, and does an action with it. If there is no such file, none is made.
-fn perform_in<F: Files, B: Start>(
+fn perform_in<F: Files, C: Connections, B: Start>(
     rt: &HostRuntime,
     files: &F,
+    connections: &mut C,
     path: &str,
     start: B,
     action: &Action<'_>,
 ) -> OfFiles<B>
     ensures opened { result.left ≡ Left.Nothing → OnOk result.ended ⊥ × F.Files.refuses }
-    ensures keeps { result.left ≢ Left.Nothing → KeepsFiles F.Files action.now result.ended (image_at B.Start) result.left }
+    ensures keeps { result.left ≢ Left.Nothing
+        → KeepsFiles F.Files (AreServed C.Connections C.Reader.Source C.Writer.Sink connections.old connections.new) action.now result.ended (image_at B.Start)
+        result.left }
 {
     match files.open(rt, path, start) {
         Ok(conn) => {
-            let Performed { ended, left } = perform_on(rt, files, conn, action);
+            let Performed { ended, left } = perform_on(rt, files, connections, conn, action);
             Performed {
                 ended,
                 left: in_files(left),

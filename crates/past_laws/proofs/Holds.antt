@@ -14,7 +14,7 @@ use Rattle.pasts.specs.Stands.{Heard, Tables, Same}
 use Rattle.pasts.proofs.Carried.{served_settings}
 use Rattle.pasts.proofs.OneRun.{is_one_run, serves_by_one_run, stands_is_carried_by_all}
 use Rattle.sched_machine.specs.Classes.{ClassesStay}
-use Rattle.sched_machine.specs.Decisions.{CanonicalsStay, VerdictsStay, StatusesStay, CreditsStay, CreditsAddUp}
+use Rattle.sched_machine.specs.Decisions.{UnitsStay, CanonicalsStay, VerdictsStay, StatusesStay, CreditsStay, CreditsAddUp}
 use Rattle.sched_machine.specs.Laws.{AreCallsInLimits}
 use Rattle.sched_machine.specs.Runs.{HoldsInRuns, HoldsAlways, world_after, OwnersStay, ReportsStay, LapsesStay, OneForEachUser}
 use Rattle.sched_machine.proofs.Classes.Runs as classes
@@ -101,6 +101,9 @@ lapses_stay = of_messages LapsesStay lasting.lapses_stay (λ w p l is. is)
 
 pub classes_stay : HoldsOfMessages ClassesStay
 classes_stay = of_messages ClassesStay classes.classes_stay (λ w unit rule known is. is)
+
+pub units_stay : HoldsOfMessages UnitsStay
+units_stay = of_messages UnitsStay decided.units_stay (λ w unit is. is)
 
 pub canonicals_stay : HoldsOfMessages CanonicalsStay
 canonicals_stay = of_messages CanonicalsStay decided.canonicals_stay (λ w unit number is. is)

@@ -4,7 +4,7 @@
 ghost use Rattle.past_laws.specs.Classes.{OwnersAreOfClassesAtAMessage, OwnersAreOfClassesOverMessages, OwnersWereGiven};
 ghost use Rattle.past_laws.specs.Laws.{StandsIsSound, TablesAreDetermined, HoldsOfMessages, HoldsWhereTablesStand, SettingsStay, DeadlinesMoveByResendsAlone, DeadlinesMoveByResendsOverMessages, NoHeldJobDropsFromSight};
 ghost use Rattle.sched_machine.specs.Classes.{ClassesStay};
-ghost use Rattle.sched_machine.specs.Decisions.{CanonicalsStay, VerdictsStay, StatusesStay, CreditsStay, CreditsAddUp};
+ghost use Rattle.sched_machine.specs.Decisions.{UnitsStay, CanonicalsStay, VerdictsStay, StatusesStay, CreditsStay, CreditsAddUp};
 ghost use Rattle.sched_machine.specs.Runs.{OwnersStay, ReportsStay, LapsesStay, OneForEachUser};
 
 /// Tables that agree with a past are sound.
@@ -45,6 +45,11 @@ pub fn reports_stay()
 /// An instance that lapsed keeps its lapse.
 pub fn lapses_stay()
     ensures { HoldsOfMessages LapsesStay }
+{}
+
+/// A workunit that exists still exists.
+pub fn units_stay()
+    ensures { HoldsOfMessages UnitsStay }
 {}
 
 /// A canonical result stays the canonical one.

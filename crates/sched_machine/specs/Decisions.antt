@@ -1,4 +1,4 @@
--- Rule. What no run reverses: canonical results, verdicts, statuses other than open, and credit.
+-- Rule. What no run reverses: workunits, canonical results, verdicts, statuses other than open, and credit.
 use Rattle.std.specs.Prelude.{◌≡◌, ℕ, ◌*◌, ◌≤◌, false, IsTrue, sum_by, count_by, Option, Some, is_some, option_and_then, slice_get}
 use Rattle.std.specs.List.{enumerate_from}
 use Rattle.sched_book.specs.Count.{canonical, is_open, is_valid}
@@ -7,6 +7,10 @@ use Rattle.sched_book.specs.declared.instance.Place.{Place}
 use Rattle.sched_book.specs.declared.instance.UnitBook.{UnitBook}
 use Rattle.sched_book.specs.declared.instance.Verdict.{Verdict}
 use Rattle.sched_book.specs.declared.world.World.{World}
+
+-- a workunit that exists still exists
+abbrev pub UnitsStay : World → World → Type 0
+UnitsStay old new = (unit : ℕ) → IsTrue (is_some (unit_at old unit)) → IsTrue (is_some (unit_at new unit))
 
 -- the number of the canonical result of the workunit at a place
 abbrev pub canonical_at : World → ℕ → Option ℕ

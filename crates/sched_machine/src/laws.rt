@@ -3,7 +3,7 @@
 ghost use Rattle.sched_machine.specs.Alike.{SettledIsLike};
 ghost use Rattle.sched_machine.specs.Classes.{ClassesAreByPlace, ClassesStay, OwnersAreOfClasses, OwnersAreOfClassesInRuns};
 ghost use Rattle.sched_machine.specs.Bounds.{CreditIsBounded, ResentSecondsAreBounded};
-ghost use Rattle.sched_machine.specs.Decisions.{CanonicalsStay, VerdictsStay, StatusesStay, CreditsStay, CreditsAddUp};
+ghost use Rattle.sched_machine.specs.Decisions.{UnitsStay, CanonicalsStay, VerdictsStay, StatusesStay, CreditsStay, CreditsAddUp};
 ghost use Rattle.sched_machine.specs.Held.{ReportsEndHolding, HeldByPlaces, HoldsWhatIsListedOrNamed};
 ghost use Rattle.sched_machine.specs.Laws.{EntryKeepsSound, ReportsKeepWell, LapsesKeepWell, LostJobsKeepWell, SettlementSettles, GrantKeepsSettled, ImportKeepsSound, StepKeepsSound, RunsKeepSound, EmptyIsSound};
 ghost use Rattle.sched_machine.specs.Results.{RepliesNameEachJob};
@@ -122,6 +122,11 @@ pub fn a_host_holds_what_is_listed_or_named()
 /// name of the instance and its deadline. The host then holds each of these instances.
 pub fn replies_name_each_job()
     ensures { RepliesNameEachJob }
+{}
+
+/// A workunit that exists still exists.
+pub fn units_stay()
+    ensures { HoldsInRuns UnitsStay }
 {}
 
 /// In every run a canonical result stays the canonical one.

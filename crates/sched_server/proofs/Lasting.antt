@@ -1,7 +1,8 @@
 -- What holds through each run of the machine holds of the worlds before and after messages of bytes.
-use Rattle.std.proofs.Common.{◌≡◌, ◌⊎◌, ℕ, List, [], ◌∷◌, ◌++◌, Some, ◌∙◌, ap, subst, inl, inr}
+use Rattle.std.proofs.Common.{◌≡◌, ◌⊎◌, ℕ, List, [], ◌∷◌, ◌++◌, Some, ◌∙◌, refl, ap, subst, inl, inr, arith}
 use Rattle.http_responses.specs.declared.answer.Answer.{Answer}
 use Rattle.http_responses.specs.declared.answer.Answer.TheVariants as answer
+use Rattle.sched_book.specs.Count.{is_open}
 use Rattle.sched_book.specs.Step.{deadline_at}
 use Rattle.sched_book.specs.declared.instance.Owner.{Owner}
 use Rattle.sched_book.specs.declared.instance.Place.{Place}
@@ -19,14 +20,15 @@ use Rattle.past_laws.proofs.Calls as calls_of_pasts
 use Rattle.past_laws.proofs.Calls.{same_host}
 use Rattle.past_laws.proofs.Holds as holds
 use Rattle.past_laws.proofs.Holds.{owners_stay}
+use Rattle.sched_machine.proofs.Classes.Kept.{stay_self, stay_then}
 use Rattle.sched_machine.specs.Classes.{ClassesStay}
-use Rattle.sched_machine.specs.Decisions.{CanonicalsStay, VerdictsStay, StatusesStay, CreditsStay}
+use Rattle.sched_machine.specs.Decisions.{UnitsStay, CanonicalsStay, VerdictsStay, StatusesStay, CreditsStay}
 use Rattle.sched_machine.specs.Runs.{owner_at, OwnersStay, ReportsStay, LapsesStay}
 use Rattle.message_engine.specs.Stores.{tables_by, IsSoundStore}
 use Rattle.message_engine.proofs.EntriesKept.{left_same, left_sound}
-use Rattle.sched_server.specs.Arrivals.{Came, StandsFor, HandledInTurn}
+use Rattle.sched_server.specs.Arrivals.{Came, StandsFor, HandledInTurn, HandledOverStops}
 use Rattle.sched_server.specs.Handled.{HandledAs}
-use Rattle.sched_server.specs.Laws.{HoldsOfWhatStands, HoldsAtAMessage, HoldsOverMessages, Lasts, HandledOverStops, HoldsOverStops, AllStay, IsSentAgainAt, DeadlinesMoveByResendsAlone, DeadlinesMoveByResendsOverMessages, NoHeldJobDropsFromSight}
+use Rattle.sched_server.specs.Laws.{HoldsOfWhatStands, HoldsAtAMessage, HoldsOverMessages, Lasts, HoldsOverStops, AllStay, IsSentAgainAt, DeadlinesMoveByResendsAlone, DeadlinesMoveByResendsOverMessages, NoHeldJobDropsFromSight}
 
 -- ---- many messages
 
@@ -125,6 +127,7 @@ over_stops R law key old new points stretches before st all =
 pub all_stays_over_stops : HoldsOverStops AllStay
 all_stays_over_stops key old new points stretches before st all = record {
   settings = over_stops SettingsStay holds.settings_stay key old new points stretches before st all;
+  units = over_stops UnitsStay holds.units_stay key old new points stretches before st all;
   owners = over_stops OwnersStay holds.owners_stay key old new points stretches before st all;
   reports = over_stops ReportsStay holds.reports_stay key old new points stretches before st all;
   lapses = over_stops LapsesStay holds.lapses_stay key old new points stretches before st all;
@@ -133,6 +136,42 @@ all_stays_over_stops key old new points stretches before st all = record {
   statuses = over_stops StatusesStay holds.statuses_stay key old new points stretches before st all;
   credits = over_stops CreditsStay holds.credits_never_fall key old new points stretches before st all;
   classes = over_stops ClassesStay holds.classes_stay key old new points stretches before st all;
+}
+
+-- everything stays in a world that stays
+pub all_stays_self : (w : World) → AllStay w w
+all_stays_self w = record {
+  settings = refl;
+  units = λ unit is. is;
+  owners = λ p o is. (o, is, refl, refl);
+  reports = λ p t is. is;
+  lapses = λ p l is. is;
+  canonicals = λ unit number is. is;
+  verdicts = λ p v is. is;
+  statuses = λ unit is closed. refl;
+  credits = record { host = λ number. omega arith; user = λ account. omega arith };
+  classes = stay_self w;
+}
+
+-- everything that stays from one world to a second, and from that to a third, stays from the first to the third
+pub all_stays_then : (w v u : World) → AllStay w v → AllStay v u → AllStay w u
+all_stays_then w v u first second = record {
+  settings = second.settings ∙ first.settings;
+  units = λ unit is. second.units unit (first.units unit is);
+  owners = λ p o is.
+      let mid = first.owners p o is in
+      let last = second.owners p mid.0 mid.1 in (last.0, last.1, last.2 ∙ mid.2, last.3 ∙ mid.3);
+  reports = λ p t is. second.reports p t (first.reports p t is);
+  lapses = λ p l is. second.lapses p l (first.lapses p l is);
+  canonicals = λ unit number is. second.canonicals unit number (first.canonicals unit number is);
+  verdicts = λ p o is. second.verdicts p o (first.verdicts p o is);
+  statuses = λ unit is closed.
+      second.statuses unit (first.units unit is) (ap is_open (first.statuses unit is closed) ∙ closed) ∙ first.statuses unit is closed;
+  credits = record {
+    host = λ number. (let one : _ = first.credits.host number in let two : _ = second.credits.host number in omega arith);
+    user = λ account. (let one : _ = first.credits.user account in let two : _ = second.credits.user account in omega arith);
+  };
+  classes = stay_then w v u first.classes second.classes;
 }
 
 pub deadlines_move_by_resends_alone : DeadlinesMoveByResendsAlone

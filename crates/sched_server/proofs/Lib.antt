@@ -5,7 +5,7 @@ mod Followed
 pub mod Stopped
 pub mod Served
 pub mod Begun
-mod Lasting
+pub mod Lasting
 mod Owners
 mod Former
 mod Standing

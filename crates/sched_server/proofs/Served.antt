@@ -1,5 +1,5 @@
 -- A service that handles messages agrees with the arrivals before and those messages.
-use Rattle.std.proofs.Common.{◌≡◌, ℕ, ◌≤◌, List, [], ◌∷◌, ◌++◌, length, Option, Some, None, refl, sym, ◌∙◌, subst, inl, inr, arith}
+use Rattle.std.proofs.Common.{◌≡◌, true, ℕ, ◌≤◌, List, [], ◌∷◌, ◌++◌, length, Option, Some, None, refl, sym, ◌∙◌, subst, inl, inr, arith}
 use Rattle.http_responses.specs.Answers.{answer_bytes}
 use Rattle.http_responses.specs.declared.answer.Answer.{Answer}
 use Rattle.http_responses.specs.declared.answer.Answer.TheVariants as answer
@@ -10,10 +10,10 @@ use Rattle.stores.specs.Held.{Held, IsLeft}
 use Rattle.stores.proofs.ReadsAct.{left_is}
 use Rattle.pasts.proofs.Carried.{same_itself}
 use Rattle.message_engine.specs.Stores.{tables_by}
-use Rattle.sched_server.specs.Arrivals.{Came, StoreStandsFor, HandledInTurn}
+use Rattle.sched_server.specs.Arrivals.{Came, StoreStandsFor, HandledInTurn, HandledOverStops}
 use Rattle.sched_server.specs.Handled.{is_answered, HandledAs, IsHandled, StaysSound}
 use Rattle.sched_server.specs.Laws.{ReadsStand}
-use Rattle.sched_server.specs.Serving.{ServiceStandsFor, ServesOne, ServesInTurn, ServesConnection, ServesMessage, messages_of}
+use Rattle.sched_server.specs.Serving.{ServiceStandsFor, IsResponse, ServesOne, ServesInTurn, ServesConnection, ServesMessage, messages_of}
 use Rattle.sched_server.specs.Views.{store_of, operator_key_of}
 use Rattle.sched_server.specs.declared.service.Service.{Service}
 use Rattle.sched_server.proofs.Stopped.{handled_stands, unavailable_later}
@@ -30,6 +30,20 @@ pub record Does {S : Type 0} (store : Parts S) (old : Service S) (now : ℕ) (by
 
 stays_sound : (held : Held) → StaysSound held held
 stays_sound held sound = (same_itself (tables_by held), sound)
+
+-- what is left as it was
+self_left : (held : Held) → IsLeft held held
+self_left held = record { world_is = refl; calls_are = λ host. refl; batches_are = λ kind batch. refl }
+
+-- one message is a stretch
+one_stretch : (key : List ℕ) (c : Came) (old h : Held) → HandledAs key c.arrival.bytes c.arrival.now c.answer old h → (stretches : List (List Came)) × HandledOverStops key stretches old h
+one_stretch key c old h done = ((c ∷ []) ∷ [], (old, old, self_left old, self_left old, (old, stays_sound old, done)))
+
+-- stretches after a first one
+stretches_on : (key : List ℕ) (stretches : List (List Came)) (came : List Came) (old mid h : Held) → HandledInTurn key came old mid → HandledOverStops key stretches mid h
+    → HandledOverStops key (stretches ++ came ∷ []) old h
+stretches_on key [] came old mid h first left = (old, old, self_left old, self_left old, subst (HandledInTurn key came old) (sym (left_is mid h left)) first)
+stretches_on key (next ∷ stretches) came old mid h first (left, opened, earlier, same, all) = (left, opened, stretches_on key stretches came old mid left first earlier, same, all)
 
 -- a store that did nothing agrees with the message as one whose answer is unavailable
 stands_unread : {S : Type 0} (store : Parts S) (key : List ℕ) (now : ℕ) (bytes points : List ℕ) (before : List Came) (s : S)
@@ -48,8 +62,10 @@ unread store now bytes s = record {
   key = refl;
   was_clean = λ clean. clean;
   was_honest = λ honest. honest;
+  was_open = λ clean some. elim some [ inl none ↦ absurd none | inr none ↦ absurd none ];
   stays_kept = λ honest kept. kept;
   handled = λ honest kept. stays_sound (store.holds (store_of s));
+  left = λ h may. inl may;
   stands = λ key points before st clean. record { keyed = st.keyed; stands = stands_unread store key now bytes points before (store_of s) st.stands };
   reopens = λ kept reopens. reopens;
 }
@@ -69,6 +85,11 @@ goes_on store key old_key bytes points now answer.Unavailable before old new act
 }
 goes_on store key old_key bytes points now (answer.Response r) before old new acts whole st clean = whole (acts.was_honest (acts.is_open clean refl))
 
+-- a response is an answer
+response_is_answered : (a : Answer) → IsResponse a → is_answered a ≡ true
+response_is_answered answer.Unavailable none = absurd none
+response_is_answered (answer.Response r) response = refl
+
 module _ {S : Type 0} (store : Parts S)
     (settled : (s : S) → store.honest s → store.well_kept s → Sound (store.holds s).world → (h : Held) → store.may_leave s h → IsLeft (store.holds s) h) where
   under_key : (key other points : List ℕ) (before : List Came) (s : S) → key ≡ other → StoreStandsFor store key points before s → StoreStandsFor store other points before s
@@ -87,8 +108,13 @@ module _ {S : Type 0} (store : Parts S)
         key = does.key;
         was_clean = does.acts.was_clean;
         was_honest = does.acts.was_honest;
+        was_open = λ clean some. elim some [ inl response ↦ does.acts.was_honest (does.acts.is_open clean (response_is_answered does.answer response)) | inr none ↦ absurd none ];
         stays_kept = does.acts.stays_kept;
         handled = does.exact;
+        left = λ h may. elim (does.acts.left h may) [
+          | inl earlier ↦ inl earlier
+          | inr ahead ↦ inr (ahead.0, λ kept. let done = ahead.1 kept in one_stretch (operator_key_of old) (record { arrival = record { now = now; bytes = bytes }; answer = answer.Response done.0 }) (store.holds (store_of old)) h done.1)
+        ];
         stands = λ key points before st clean. record {
           keyed = λ honest. st.keyed (does.acts.was_honest honest) ∙ sym does.key;
           stands = goes_on store key (operator_key_of old) bytes points now does.answer before (store_of old) (store_of new) does.acts (stood key points before st clean) st.stands clean;
@@ -122,8 +148,10 @@ none_served store s = record {
   key = refl;
   was_clean = λ clean. clean;
   was_honest = λ honest. honest;
+  was_open = λ clean none. absurd none;
   stays_kept = λ honest kept. kept;
   handled = λ honest kept. stays_sound (store.holds (store_of s));
+  left = λ h may. inl may;
   stands = λ key points before st clean. st;
   reopens = λ kept reopens. reopens;
 }
@@ -135,11 +163,24 @@ served_then store came c old mid new first one = record {
   key = one.key ∙ first.key;
   was_clean = λ clean. first.was_clean (one.was_clean clean);
   was_honest = λ honest. first.was_honest (one.was_honest honest);
+  was_open = λ clean some. elim some [ inl response ↦ first.was_honest (one.was_open clean (inl response)) | inr earlier ↦ first.was_open (one.was_clean clean) earlier ];
   stays_kept = λ honest kept. one.stays_kept honest (first.stays_kept (one.was_honest honest) kept);
   handled = λ honest kept.
       let before = one.was_honest honest in
       let Handled : List ℕ → Type 0 = λ key. HandledAs key c.arrival.bytes c.arrival.now c.answer (store.holds (store_of mid)) (store.holds (store_of new)) in
       (store.holds (store_of mid), first.handled before kept, subst Handled first.key (one.handled honest (first.stays_kept before kept)));
+  left = λ h may. elim (one.left h may) [
+    | inl earlier ↦ first.left h earlier
+    | inr ahead ↦
+        let before = first.was_honest ahead.0 in
+        inr (
+          before,
+          λ kept.
+              let last = ahead.1 (first.stays_kept ahead.0 kept) in
+              let Over : List ℕ → Type 0 = λ key. HandledOverStops key last.0 (store.holds (store_of mid)) h in
+              (last.0 ++ came ∷ [], stretches_on (operator_key_of old) last.0 came (store.holds (store_of old)) (store.holds (store_of mid)) h (first.handled ahead.0 kept) (subst Over first.key last.1)),
+        )
+  ];
   stands = λ key points before st clean. one.stands key points (came ++ before) (first.stands key points before st (one.was_clean clean)) clean;
   reopens = λ kept reopens. one.reopens (λ honest. first.stays_kept honest (kept (first.was_honest honest))) (first.reopens kept reopens);
 }
@@ -150,18 +191,21 @@ pub served_read : {S : Type 0} (store : Parts S)
     → ((a b : S) → store.reads a b → store.honest b → store.honest a)
     → ((a b : S) → store.reads a b → store.honest b → store.well_kept a → store.well_kept b)
     → ((a b : S) → store.reads a b → store.honest b → store.well_kept a → IsLeft (store.holds a) (store.holds b))
+    → ((a b : S) → store.reads a b → (h : Held) → store.may_leave b h → store.may_leave a h)
     → ((a b : S) → store.reads a b → (store.honest a → store.well_kept a) → store.reopens a → store.reopens b)
     → ReadsStand store
     → (came : List Came) (old mid new : Service S) → store.reads (store_of mid) (store_of new) → operator_key_of new ≡ operator_key_of mid → ServesInTurn store came old mid → ServesInTurn store came old new
-served_read store stays_clean stays_honest stays_kept stays_held stays_reopened reads_stand came old mid new reads same first = record {
+served_read store stays_clean stays_honest stays_kept stays_held stays_left stays_reopened reads_stand came old mid new reads same first = record {
   key = same ∙ first.key;
   was_clean = λ clean. first.was_clean (stays_clean (store_of mid) (store_of new) reads clean);
   was_honest = λ honest. first.was_honest (stays_honest (store_of mid) (store_of new) reads honest);
+  was_open = λ clean some. first.was_open (stays_clean (store_of mid) (store_of new) reads clean) some;
   stays_kept = λ honest kept. stays_kept (store_of mid) (store_of new) reads honest (first.stays_kept (stays_honest (store_of mid) (store_of new) reads honest) kept);
   handled = λ honest kept.
       let before = stays_honest (store_of mid) (store_of new) reads honest in
       let left = stays_held (store_of mid) (store_of new) reads honest (first.stays_kept before kept) in
       subst (λ h. HandledInTurn (operator_key_of old) came (store.holds (store_of old)) h) (sym (left_is (store.holds (store_of mid)) (store.holds (store_of new)) left)) (first.handled before kept);
+  left = λ h may. first.left h (stays_left (store_of mid) (store_of new) reads h may);
   stands = λ key points before st clean.
       let there = first.stands key points before st (stays_clean (store_of mid) (store_of new) reads clean) in record {
         keyed = λ honest. there.keyed (stays_honest (store_of mid) (store_of new) reads honest) ∙ sym same;

@@ -8,7 +8,7 @@ use Rattle.http_responses.specs.declared.answer.Answer.TheVariants as answer
 use Rattle.http_responses.specs.declared.response.Response.{Response}
 use Rattle.stores.specs.Acting.{Parts}
 use Rattle.stores.specs.Eras.{this_era}
-use Rattle.stores.specs.Held.{Held}
+use Rattle.stores.specs.Held.{Held, IsLeft}
 use Rattle.pasts.specs.UpgradePoints.{IsInEra}
 use Rattle.pasts.specs.Stands.{Heard, Past, Stands}
 use Rattle.message_engine.specs.Stores.{tables_by, IsSoundStore}
@@ -93,6 +93,14 @@ abbrev pub HandledInTurn : List ℕ → List Came → Held → Held → Type 0
 HandledInTurn key [] old new = StaysSound old new
 HandledInTurn key (c ∷ earlier) old new =
     (mid : Held) × HandledInTurn key earlier old mid × HandledAs key c.arrival.bytes c.arrival.now c.answer mid new
+
+-- Messages came in stretches, with a stop after each but the newest. The newest stretch is first. A store that was opened after a stop holds what
+-- the stretches before it left. Then the messages of its stretch were handled in turn. The one at which a stop came has some answer, as
+-- the law StopsAreHandled gives it.
+abbrev pub HandledOverStops : List ℕ → List (List Came) → Held → Held → Type 0
+HandledOverStops key [] old new = IsLeft old new
+HandledOverStops key (came ∷ stretches) old new =
+    (left : Held) × (opened : Held) × HandledOverStops key stretches old left × IsLeft opened left × HandledInTurn key came opened new
 
 -- The first of these arrivals acted one after the other, with answers for which `Given` holds.
 pub record ActInTurn {S : Type 0} (store : Parts S) (key : List ℕ) (arrivals : List Arrival) (Given : List Answer → Type 0) (old new : S) : Type 0 where

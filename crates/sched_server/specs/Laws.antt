@@ -15,7 +15,7 @@ use Rattle.sched_book.specs.declared.instance.Place.{Place}
 use Rattle.sched_book.specs.declared.settings.Settings.{Settings}
 use Rattle.sched_book.specs.declared.world.World.{World}
 use Rattle.sched_machine.specs.Classes.{ClassesStay}
-use Rattle.sched_machine.specs.Decisions.{CanonicalsStay, VerdictsStay, StatusesStay, CreditsStay}
+use Rattle.sched_machine.specs.Decisions.{UnitsStay, CanonicalsStay, VerdictsStay, StatusesStay, CreditsStay}
 use Rattle.sched_machine.specs.Runs.{owner_at, OwnersStay, ReportsStay, LapsesStay}
 use Rattle.pasts.specs.Messages.{Rpc, heard_now}
 use Rattle.pasts.specs.Stands.{Same, told_by}
@@ -24,7 +24,7 @@ use Rattle.stores.specs.Acting.{Parts, Acts}
 use Rattle.stores.specs.Eras.{this_era, era_of_classes, new_upgrade_points}
 use Rattle.stores.specs.Held.{Held, IsLeft, IsNew}
 use Rattle.message_engine.specs.Stores.{tables_by}
-use Rattle.sched_server.specs.Arrivals.{Came, Answered, answered, StandsFor, StandsIn, StoreStandsFor, HandledInTurn}
+use Rattle.sched_server.specs.Arrivals.{Came, Answered, answered, StandsFor, StandsIn, StoreStandsFor, HandledInTurn, HandledOverStops}
 use Rattle.sched_server.specs.Handled.{is_answered, Handles, HandledAs, IsHandled}
 use Rattle.sched_server.specs.Serving.{ServesMessage}
 use Rattle.sched_server.specs.declared.arrival.Arrival.{Arrival}
@@ -125,14 +125,6 @@ HoldsOverMessages R =
 abbrev pub Lasts : (World → World → Type 0) → Type 0
 Lasts R = HoldsAtAMessage R × HoldsOverMessages R
 
--- Messages came in stretches, with a stop after each but the newest. The newest stretch is first. A store that was opened after a stop holds what
--- the stretches before it left. Then the messages of its stretch were handled in turn. The one at which a stop came has some answer, as
--- StopsAreHandled gives it.
-abbrev pub HandledOverStops : List ℕ → List (List Came) → Held → Held → Type 0
-HandledOverStops key [] old new = IsLeft old new
-HandledOverStops key (came ∷ stretches) old new =
-    (left : Held) × (opened : Held) × HandledOverStops key stretches old left × IsLeft opened left × HandledInTurn key came opened new
-
 -- R holds between the world before many messages and the world after them, over any stops between them
 abbrev pub HoldsOverStops : (World → World → Type 0) → Type 0
 HoldsOverStops R =
@@ -142,6 +134,7 @@ HoldsOverStops R =
 -- everything that lasts over messages
 pub record AllStay (old new : World) : Type 0 where
   pub settings : SettingsStay old new
+  pub units : UnitsStay old new
   pub owners : OwnersStay old new
   pub reports : ReportsStay old new
   pub lapses : LapsesStay old new

@@ -1,11 +1,12 @@
 -- Promise. What a service does over several messages. (This project's own.)
-use Rattle.std.specs.Prelude.{◌≡◌, ℕ, List, [], ◌∷◌, ◌++◌, Option, Some, None}
+use Rattle.std.specs.Prelude.{◌≡◌, ◌⊎◌, ℕ, List, [], ◌∷◌, ◌++◌, Option, Some, None}
 use Rattle.std.specs.Io.KnownBytes.{Consumes}
 use Rattle.http_responses.specs.Answers.{answer_bytes}
 use Rattle.http_responses.specs.declared.answer.Answer.{Answer}
+use Rattle.http_responses.specs.declared.answer.Answer.TheVariants as answer
 use Rattle.stores.specs.Acting.{Parts}
 use Rattle.stores.specs.Held.{Held}
-use Rattle.sched_server.specs.Arrivals.{Came, StoreStandsFor, HandledInTurn}
+use Rattle.sched_server.specs.Arrivals.{Came, StoreStandsFor, HandledInTurn, HandledOverStops}
 use Rattle.sched_server.specs.Handled.{HandledAs}
 use Rattle.sched_server.specs.Views.{store_of, operator_key_of}
 use Rattle.sched_server.specs.declared.service.Service.{Service}
@@ -15,14 +16,31 @@ pub record ServiceStandsFor {S : Type 0} (store : Parts S) (key upgrade_points :
   pub keyed : store.honest (store_of service) → key ≡ operator_key_of service
   pub stands : StoreStandsFor store key upgrade_points before (store_of service)
 
+-- the answer is a response, and not unavailable
+abbrev pub IsResponse : Answer → Type 0
+IsResponse answer.Unavailable = ⊥
+IsResponse (answer.Response response) = Unit {0}
+
+-- one of these messages got a response
+abbrev pub HasResponse : List Came → Type 0
+HasResponse [] = ⊥
+HasResponse (c ∷ came) = IsResponse c.answer ⊎ HasResponse came
+
 -- A service handled these messages, the newest first, with these answers. Nothing else changed its store. `Handled` says what that makes of
 -- what the store held.
 pub record Serves {S : Type 0} (store : Parts S) (came : List Came) (Handled : List ℕ → Held → Held → Type 0) (old new : Service S) : Type 0 where
   pub key : operator_key_of new ≡ operator_key_of old
   pub was_clean : store.clean (store_of new) → store.clean (store_of old)
   pub was_honest : store.honest (store_of new) → store.honest (store_of old)
+  -- if one of them got a response, the store was open before
+  pub was_open : store.clean (store_of new) → HasResponse came → store.honest (store_of old)
   pub stays_kept : store.honest (store_of new) → store.well_kept (store_of old) → store.well_kept (store_of new)
   pub handled : store.honest (store_of new) → store.well_kept (store_of old) → Handled (operator_key_of old) (store.holds (store_of old)) (store.holds (store_of new))
+  -- What a stop may leave is what it could leave before, or what some of these messages made of what was held, the last of them with some answer.
+  pub left : (h : Held) → store.may_leave (store_of new) h
+      → store.may_leave (store_of old) h
+      ⊎ (store.honest (store_of old)
+      × (store.well_kept (store_of old) → (stretches : List (List Came)) × HandledOverStops (operator_key_of old) stretches (store.holds (store_of old)) h))
   -- a service that agreed with some arrivals agrees with these messages in front of them
   pub stands : (key upgrade_points : List ℕ) (before : List Came) → ServiceStandsFor store key upgrade_points before old → store.clean (store_of new)
       → ServiceStandsFor store key upgrade_points (came ++ before) new

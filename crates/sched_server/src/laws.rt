@@ -3,7 +3,7 @@
 ghost use Rattle.past_laws.specs.Laws.{SettingsStay};
 ghost use Rattle.sched_machine.specs.Bounds.{IsCreditBounded};
 ghost use Rattle.sched_machine.specs.Classes.{ClassesStay};
-ghost use Rattle.sched_machine.specs.Decisions.{CanonicalsStay, VerdictsStay, StatusesStay, CreditsStay, CreditsAddUp};
+ghost use Rattle.sched_machine.specs.Decisions.{UnitsStay, CanonicalsStay, VerdictsStay, StatusesStay, CreditsStay, CreditsAddUp};
 ghost use Rattle.sched_machine.specs.Runs.{OwnersStay, ReportsStay, LapsesStay, OneForEachUser};
 ghost use Rattle.sched_server.specs.Classes.{OwnersAreOfClassesAtAMessage, OwnersAreOfClassesOverMessages, OwnersWereGiven};
 ghost use Rattle.sched_server.specs.FirstCalls.{FirstCallsAreSteps};
@@ -103,6 +103,11 @@ pub fn reports_stay()
 /// An instance that lapsed keeps its lapse.
 pub fn lapses_stay()
     ensures { Lasts LapsesStay }
+{}
+
+/// A workunit that exists still exists.
+pub fn units_stay()
+    ensures { Lasts UnitsStay }
 {}
 
 /// A canonical result stays the canonical one.

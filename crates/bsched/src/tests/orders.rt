@@ -2,7 +2,7 @@
 //! were.
 
 use command_line::order_of;
-use commands::{Ending, Failure, Performed, SystemFiles, perform};
+use commands::{Ending, Failure, Performed, SystemConnections, SystemFiles, perform};
 use sqlite::Unknown;
 use std::alloc::Global;
 use std::fs;
@@ -59,7 +59,14 @@ fn ended(rt: &HostRuntime, line: &str) -> Result<Result<Ending, Failure>, Fail> 
     let Ok(order) = order_of(rt.alloc(), &words) else {
         return Err(Fail::new("this line is no order"));
     };
-    let Performed { ended, left: _left } = perform(rt, &order, &SystemFiles, Unknown);
+    let mut connections = SystemConnections::new(rt);
+    let Performed { ended, left: _left } = perform(
+        rt,
+        &order,
+        &SystemFiles,
+        &mut connections,
+        Unknown,
+    );
     Ok(ended)
 }
 

@@ -1,5 +1,5 @@
 -- What is decided stays in every run.
-use Rattle.sched_machine.specs.Decisions.{CanonicalsStay, VerdictsStay, StatusesStay, CreditsStay, CreditsAddUp}
+use Rattle.sched_machine.specs.Decisions.{UnitsStay, CanonicalsStay, VerdictsStay, StatusesStay, CreditsStay, CreditsAddUp}
 use Rattle.sched_machine.specs.Runs.{HoldsInRuns, HoldsAlways}
 use Rattle.sched_machine.proofs.Decided.Steps.{step_became}
 use Rattle.sched_machine.proofs.Decided.Sums.{sound_credits_add_up}
@@ -11,6 +11,9 @@ runs_stay : HoldsInRuns Stays
 runs_stay =
     holds_in_runs Stays stays_self stays_then
     (λ w after c now answer sound step. world_stays w after sound (step_became w after c now answer sound step))
+
+pub units_stay : HoldsInRuns UnitsStay
+units_stay w calls turns sound limits trace i j less within = (runs_stay w calls turns sound limits trace i j less within).stands
 
 pub canonicals_stay : HoldsInRuns CanonicalsStay
 canonicals_stay w calls turns sound limits trace i j less within = (runs_stay w calls turns sound limits trace i j less within).canonicals

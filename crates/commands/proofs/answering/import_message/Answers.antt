@@ -4,8 +4,7 @@ use Rattle.commands.proofs.answering.import_message.Goals as goal
 
 pub returns : goal.returns
 returns g c = (
-  c.args.key.now,
   c.in_ok-text.text.items,
-  c.in_ok-text.ensures.said,
+  c.in_ok-text.ensures,
   c.in_ok-message.ensures ∙ ap (import_request c.args.key.now c.args.kind.now c.args.batch.now) c.deref.ensures.value,
 )

@@ -3,4 +3,4 @@ use Rattle.http_requests.specs.Requests.{statement_request}
 use Rattle.commands.proofs.answering.statement_message.Goals as goal
 
 pub returns : goal.returns
-returns c = (c.args.key.now, c.in_ok-message.ensures ∙ ap (statement_request c.args.key.now) (c.as_str.ensures.value ∙ c.in_ok-number.ensures))
+returns c = c.in_ok-message.ensures ∙ ap (statement_request c.args.key.now) (c.as_str.ensures.value ∙ c.in_ok-number.ensures)

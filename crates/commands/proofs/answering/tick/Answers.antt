@@ -1,4 +1,5 @@
-use Rattle.std.proofs.Common.{[], ◌∷◌, rules, ◌∙◌}
+use Rattle.std.proofs.Common.{[], ◌∷◌, rules, ap, ◌∙◌}
+use Rattle.http_requests.specs.Requests.{tick_request}
 use Rattle.stores.specs.Acting.{parts_of}
 use Rattle.sched_server.proofs.Served.{none_served}
 use Rattle.commands.proofs.answering.tick.Goals as goal
@@ -10,6 +11,6 @@ pub returns : goal.returns
 returns g c =
     let done = c.answer.ensures in (
       done.0 ∷ [],
-      (done.1.now_is, (c.operator_key.result.now, done.1.bytes_are ∙ c.deref.ensures.value ∙ c.in_ok-message.ensures), done.1.ends),
+      (done.1.now_is, done.1.bytes_are ∙ c.deref.ensures.value ∙ c.in_ok-message.ensures ∙ ap tick_request c.operator_key.ensures, done.1.ends),
       done.2,
     )

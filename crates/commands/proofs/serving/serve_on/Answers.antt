@@ -1,38 +1,10 @@
-use Rattle.std.proofs.Common.{[], ◌∷◌, refl, subst, ◌∙◌, arith}
+use Rattle.std.proofs.Common.{[], rules, arith}
 use Rattle.stores.specs.Acting.{parts_of}
-use Rattle.sched_server.specs.Views.{store_of}
-use Rattle.sched_server.proofs.Served.{none_served, served_connection, served_read}
-use Rattle.sched_server.proofs.Stopped.{reads_stand}
+use Rattle.sched_server.proofs.Served.{none_served}
 use Rattle.commands.proofs.serving.serve_on.Goals as goal
 
-pub loop-init : goal.loop-init
-loop-init g c = ([], refl, none_served (parts_of g.S.Units g.S.Store.holds g.S.Store.clean g.S.Store.lasting g.S.Store.may_leave g.S.Store.reopens) c.args.service.now)
+pub returns-in_err-try_clone : goal.returns-in_err-try_clone
+returns-in_err-try_clone g c = record { served = ([], omega arith, search rules, none_served (parts_of g.S.Units g.S.Store.holds g.S.Store.clean g.S.Store.lasting g.S.Store.may_leave g.S.Store.reopens) c.args.service.now) }
 
-pub loop-preserved : goal.loop-preserved
-loop-preserved g c =
-    let kept = c.loop.invariant in
-    let next = c.serve_next-is_unavailable.ensures in (
-      next.0 ∷ kept.0,
-      omega (arith, kept.1),
-      served_read (parts_of g.S.Units g.S.Store.holds g.S.Store.clean g.S.Store.lasting g.S.Store.may_leave g.S.Store.reopens) g.met.S.Store.stays_clean g.met.S.Units.stays_honest g.met.S.Units.stays_kept g.met.S.Store.stays_held g.met.S.Store.stays_reopened
-          (reads_stand (parts_of g.S.Units g.S.Store.holds g.S.Store.clean g.S.Store.lasting g.S.Store.may_leave g.S.Store.reopens) g.met.S.Units.stays_honest g.met.S.Units.stays_kept g.met.S.Store.stays_held g.met.S.Store.stays_left)
-          _ _ c.serve_next-is_unavailable.new.service c.is_open.new.self
-          (subst (λ store. g.S.Units.reads store (store_of c.is_open.new.self)) c.take_cause-cause.ensures.store c.is_open.ensures.reads) (c.is_open.ensures.key ∙ c.take_cause-cause.ensures.key)
-          (served_connection (parts_of g.S.Units g.S.Store.holds g.S.Store.clean g.S.Store.lasting g.S.Store.may_leave g.S.Store.reopens) kept.0 next.0 _ _ c.serve_next-is_unavailable.new.service kept.2 next.1),
-    )
-
-pub returns-in-Ok-false : goal.returns-in-Ok-false
-returns-in-Ok-false g c =
-    let kept = c.loop.invariant in
-    let next = c.serve_next-is_unavailable.ensures in record {
-      served = (
-        next.0 ∷ kept.0,
-        omega (arith, kept.1),
-        tt,
-        served_read (parts_of g.S.Units g.S.Store.holds g.S.Store.clean g.S.Store.lasting g.S.Store.may_leave g.S.Store.reopens) g.met.S.Store.stays_clean g.met.S.Units.stays_honest g.met.S.Units.stays_kept g.met.S.Store.stays_held g.met.S.Store.stays_reopened
-            (reads_stand (parts_of g.S.Units g.S.Store.holds g.S.Store.clean g.S.Store.lasting g.S.Store.may_leave g.S.Store.reopens) g.met.S.Units.stays_honest g.met.S.Units.stays_kept g.met.S.Store.stays_held g.met.S.Store.stays_left)
-            _ _ c.serve_next-is_unavailable.new.service c.is_open.new.self
-            (subst (λ store. g.S.Units.reads store (store_of c.is_open.new.self)) c.take_cause-cause.ensures.store c.is_open.ensures.reads) (c.is_open.ensures.key ∙ c.take_cause-cause.ensures.key)
-            (served_connection (parts_of g.S.Units g.S.Store.holds g.S.Store.clean g.S.Store.lasting g.S.Store.may_leave g.S.Store.reopens) kept.0 next.0 _ _ c.serve_next-is_unavailable.new.service kept.2 next.1),
-      );
-    }
+pub returns : goal.returns
+returns g c = let served = c.serve_connections.ensures.served in record { served = (served.0, served.1.0, served.1.1, served.2) }
