@@ -15,8 +15,8 @@ from pathlib import Path
 
 from bsched_bridge.handed_out import HandedJob, HandedOut
 from bsched_bridge.hosts import Key
-from bsched_files.catalogue import OutputFile
 from bsched_bridge.upload_tables import UploadTables
+from bsched_files.catalogue import OutputFile
 from trial import project
 from trial.behind_nginx import Project
 from trial.programs import TrialFault

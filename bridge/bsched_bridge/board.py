@@ -12,6 +12,7 @@ from werkzeug.exceptions import BadRequest, ServiceUnavailable
 from werkzeug.wrappers import Request, Response
 
 from bsched_files.counts import Limit
+from bsched_files.findings import PUT_OFF_SECONDS
 from bsched_files.moments import DAY, HOUR, MINUTE, moment_text
 from bsched_files.project_settings import HostRules, Settings
 from bsched_files.timers import Timer
@@ -30,7 +31,6 @@ from .words import shown_key
 
 MOST_HOSTS = 20  # with the most errors
 MINUTES, HOUR_MINUTES = 5, 60  # the minutes of the two spans for which calls are shown
-PUT_OFF_SECONDS = HOUR  # within which a report that was put off is worth a warning
 HEALTH_SECONDS = 30 * 60  # after which the findings of bsched-tools health are too old
 NUMBER = re.compile("[1-9][0-9]{0,9}")  # a hostid
 ACTIONS = {"bar": bar_account, "unbar": unbar_account}

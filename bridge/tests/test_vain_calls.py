@@ -13,8 +13,8 @@ from twin import Twin
 from bsched_bridge import large_calls, scheduler, scheduler_messages
 from bsched_bridge.client_requests import ClientRequest
 from bsched_bridge.measurements import End
-from bsched_files.project_settings import Address, read_settings
 from bsched_bridge.vain_calls import VainCalls
+from bsched_files.project_settings import Address, read_settings
 
 TOO_OFTEN = b"ask too often at the moment"
 ANSWERED = b"<user_name>"

@@ -11,7 +11,7 @@ from served import NotStarted, start, stop
 START_SECONDS, ORDER_SECONDS = 120, 120
 BRIDGE = Path(__file__).resolve().parent.parent
 TOP = BRIDGE.parent
-PACKAGES = f"{BRIDGE}:{TOP / 'files'}:{TOP / 'tools'}"  # the tools open the archives of a bridge
+PACKAGES = f"{BRIDGE}:{TOP / 'files'}:{TOP / 'tools'}"
 CLIENT_OPTIONS = ["--allow_multiple_clients", "--skip_cpu_benchmarks", "--no_gpus", "--no_info_fetch"]
 CLIENT_CONFIG = """\
 <cc_config>

@@ -11,10 +11,11 @@ from pathlib import Path
 from typing import Any
 
 from .json_files import file_text, read_members
-from .moments import MOST_MOMENT
+from .moments import HOUR, MOST_MOMENT
 
 NAME = "findings.json"
 FORMAT = 1
+PUT_OFF_SECONDS = HOUR  # within which a report that was put off is worth a warning
 MOST_FINDINGS, MOST_TEXT = 50, 1000  # that are read; characters of a text
 
 

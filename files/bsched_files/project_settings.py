@@ -332,6 +332,11 @@ class BridgeFile:
         return master_url(self.file)
 
     @property
+    def has_operator_key(self) -> bool:
+        """Whether the bridge has the operator's key."""
+        return self.file.has("operator_key")
+
+    @property
     def catalogue(self) -> Path:
         """The catalogue."""
         return self.file.existing("catalogue")

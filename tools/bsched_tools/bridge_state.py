@@ -8,13 +8,12 @@ from collections.abc import Iterator
 from typing import Any
 from urllib.parse import urlsplit
 
-from bsched_files.findings import Finding, Level
+from bsched_files.findings import PUT_OFF_SECONDS, Finding, Level
 
 from .amounts import bytes_text
 from .answers import answer_of
-from .projects import Project, UnitSettings, toml_of
+from .projects import Project, UnitSettings
 
-PUT_OFF_SECONDS = 3600  # within which a report that was put off is worth a warning
 NEARLY = 0.9  # of most_bytes: more is a warning
 
 
@@ -22,10 +21,11 @@ def catalogue(project: Project, _settings: UnitSettings) -> Iterator[Finding]:
     """Asks the bridge, also about uploads. Without an operator's key it does not say. That it gives no
     answer is a finding of the check of the bridge.
     """
-    if project.url is None or "operator_key" not in toml_of(project.bridge_file):
+    bridge = project.bridge
+    if bridge is None or not bridge.has_operator_key:
         return
     port = project.port("BRIDGE_PORT")
-    place = f"http://127.0.0.1:{port}{urlsplit(project.url).path}operator/state"
+    place = f"http://127.0.0.1:{port}{urlsplit(bridge.url).path}operator/state"
     try:
         status, body = answer_of(place, {"x-operator-key": project.operator_key})
     except (OSError, http.client.HTTPException):

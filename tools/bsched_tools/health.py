@@ -158,8 +158,8 @@ def is_copying(unit: str) -> bool:
     state = shown_by_systemd(f"{unit}.timer", "ActiveState")
     if state is not None:
         return state == "active"
-    elapsed = elapsed_at(unit)
-    return elapsed is not None and time.time() - elapsed < COPY_SECONDS
+    last = elapsed_at(unit)
+    return last is not None and time.time() - last < COPY_SECONDS
 
 
 def copy(project: Project, settings: UnitSettings) -> Iterator[Finding]:

@@ -15,7 +15,7 @@ import pytest
 from made_project import SETTINGS, MadeProject
 from small_project import tools
 
-from bsched_files import counts, timers
+from bsched_files import counts
 from bsched_files.copies import moment_of
 from bsched_files.findings import Finding, Level, read_findings
 from bsched_tools import __main__ as main
@@ -301,7 +301,7 @@ def test_the_advice_if_systemd_does_not_answer(
 ) -> None:
     """The timer of copies elapses each hour, so a file that is older is that of a timer that was stopped."""
     monkeypatch.setattr(health, "shown_by_systemd", lambda _unit, _key: None)
-    monkeypatch.setattr(timers, "STAMPS", tmp_path)
+    monkeypatch.setattr("bsched_files.timers.STAMPS", tmp_path)
     stamp = tmp_path / "stamp-bsched-copy@sums.timer"
     stamp.touch()
     os.utime(stamp, (time.time() - 3600 * hours,) * 2)
