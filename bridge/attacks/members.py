@@ -71,8 +71,7 @@ def use_ended_tokens(target: Target, ending: threading.Event) -> str:
     found = Counter(send_file(target, address_of(0), name, 10_000) for name in names[:10])
     body = request(key=ATTACKER, cpid="c0", seconds=0)
     asked(target, address_of(0), "POST", "/cgi", body)
-    settings = target.folder / "bridge.toml"
-    settings.write_text(f'barred = ["{ATTACKER}"]\n' + settings.read_text())
+    bar(target)
     while send_file(target, address_of(1), names[20], 100) == "0" and not ending.wait(0.5):
         pass  # the bridge reads the settings again within seconds
     barred = Counter(send_file(target, address_of(2), name, 10_000) for name in names[21:31])
@@ -121,6 +120,28 @@ def send_unreadable(target: Target, ending: threading.Event) -> str:
         return str(status)
 
     return str(dict(over_and_over(ending, 16, act, 0.02)))
+
+
+def bar(target: Target) -> None:
+    """Bars the attacker's account."""
+    settings = target.folder / "bridge.toml"
+    settings.write_text(f'barred = ["{ATTACKER}"]\n{settings.read_text()}')
+
+
+def call_barred(target: Target, ending: threading.Event) -> str:
+    """Sends calls of an account that is barred, from 16 addresses."""
+    turns = iter(range(10**9))
+
+    def act(number: int) -> str:
+        body = request(key=ATTACKER, cpid=f"barred{next(turns)}", seconds=60)
+        status, reply = asked(target, address_of(number), "POST", "/cgi", body)
+        through(b"<user_name>" in reply, "a computer of a barred account is served")
+        return str(status)
+
+    found = over_and_over(ending, 16, act, 0.02)
+    lines = target.bridge_log().count(" is refused: ")
+    through(lines > 10, f"the log has {lines} lines about the account")
+    return f"{dict(found)}; the log has {lines} lines about it"
 
 
 def attach_many(target: Target, ending: threading.Event) -> str:

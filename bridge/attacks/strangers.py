@@ -308,6 +308,8 @@ ODD = {
     "a question of nginx": b"GET /upload_check HTTP/1.1\r\nhost: a\r\n"
     b"X-Upload-URL: /file_upload_handler/a/b\r\n\r\n",
     "a large call by its inner name": b"POST /large_call HTTP/1.1\r\nhost: a\r\ncontent-length: 1\r\n\r\nx",
+    "a form of another site": b"POST /account HTTP/1.1\r\nhost: a\r\norigin: https://elsewhere.example\r\n"
+    b"content-type: application/x-www-form-urlencoded\r\ncontent-length: 3\r\n\r\nx=y",
     "a form that is none": b"POST /account HTTP/1.1\r\nhost: a\r\ncontent-length: 3\r\n\r\nx=y",
     "a protocol of another kind": b"\x16\x03\x01\x02\x00\x01\x00\x01\xfc\x03\x03",
     "an upgrade": b"GET / HTTP/1.1\r\nhost: a\r\nconnection: upgrade\r\nupgrade: h2c\r\n\r\n",

@@ -177,6 +177,14 @@ ATTACKS = (
         OF_ACCOUNT,
     ),
     Attack(
+        "barred-account",
+        Who.MEMBER,
+        "sends calls from 16 addresses, as often as nginx lets them, after it was barred",
+        members.call_barred,
+        OF_ACCOUNT,
+        prepare=members.bar,
+    ),
+    Attack(
         "lost-state-after-burst",
         Who.MEMBER,
         "attaches 28 computers within a moment, the state file is lost, and they report by their numbers",

@@ -36,7 +36,7 @@ MORE_AT_ONCE = {
 }
 APPS = ("plain", "digested")
 # what each project has alike
-MADE = ("project.db", "code_sign_private", "code_sign_public", "sum_1.signature")
+MADE = ("project.db*", "code_sign_*", "sum_1.signature")
 VERSION = """
 [[version]]
 app = "{app}"
@@ -124,12 +124,10 @@ class Target(Project):
         if not made.exists():
             self.make_tables()
             new = Path(tempfile.mkdtemp(dir=made.parent))
-            for name in MADE:
-                shutil.copy(self.folder / name, new)
+            copy_made(self.folder, new)
             new.rename(made)
         else:
-            for name in MADE:
-                shutil.copy(made / name, self.folder)
+            copy_made(made, self.folder)
         self.start_programs()
         if self.accounts:
             rows = "".join(f"{key},{key}\n" for key in self.accounts)
@@ -227,6 +225,13 @@ class Target(Project):
             os.kill(number, 9)
         if self.gunicorn.process is not None:
             self.gunicorn.process.wait(60)
+
+
+def copy_made(folder: Path, to: Path) -> None:
+    """Copies what each project has alike."""
+    for pattern in MADE:
+        for path in folder.glob(pattern):
+            shutil.copy(path, to)
 
 
 def seconds_of(process: int) -> float:
