@@ -43,9 +43,9 @@ section { border-top: 1px solid var(--line); padding-top: 0.75rem; margin-bottom
 figure { margin: 0 } svg { width: 100%; height: auto; max-width: 40rem; display: block }
 .wide { overflow-x: auto } table { border-collapse: collapse; font-size: 0.9rem; width: 100% }
 th, td { text-align: left; padding: 0.2rem 0.75rem 0.2rem 0; border-bottom: 1px solid var(--line);
-  overflow-wrap: anywhere }
-td.number, th.number { text-align: right; font-variant-numeric: tabular-nums; overflow-wrap: normal;
-  white-space: nowrap } summary { cursor: pointer; color: var(--quiet) } .warn { color: var(--warn) }
+  overflow-wrap: break-word; max-width: 22rem }
+td.number, th.number { text-align: right; font-variant-numeric: tabular-nums; white-space: nowrap }
+summary { cursor: pointer; color: var(--quiet) } .warn { color: var(--warn) }
 """
 Cell = str | int
 

@@ -113,6 +113,15 @@ def test_the_page_has_the_counts(tmp_path: Path, folder: Path) -> None:
     assert users == {name: f"{credit // 1000}.{credit % 1000:03}" for name, credit in wanted.items()}
 
 
+def test_a_narrow_screen_breaks_no_word_of_a_table(tmp_path: Path, folder: Path) -> None:
+    """A table that is too wide is moved within its box. Only a word that is wider than a cell is broken."""
+    lived_in_parts(tmp_path, folder, 1)
+    page = (folder / "index.html").read_text()
+    style = page.partition("<style>")[2].partition("</style>")[0]
+    assert "overflow-wrap: anywhere" not in style and "overflow-wrap: break-word" in style
+    assert page.count('<div class="wide"><table>') == page.count("<table>") > 0
+
+
 def test_hosts_with_errors(tmp_path: Path, folder: Path) -> None:
     lived, _, read = lived_in_parts(tmp_path, folder)
     wanted: dict[str, list[int]] = {}
