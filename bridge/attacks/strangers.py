@@ -367,6 +367,7 @@ def open_files(target: Target) -> int:
 def flood(target: Target, ending: threading.Event) -> str:
     """One address asks for a page as fast as it can, over few connections."""
     address, found, lock = address_of(0), Counter[str](), threading.Lock()
+    began = time.monotonic()
 
     def ask(_number: int) -> None:
         while not ending.is_set():
@@ -387,6 +388,9 @@ def flood(target: Target, ending: threading.Event) -> str:
     with ThreadPoolExecutor(4) as pool:
         list(pool.map(ask, range(4)))
     logs = sum(path.stat().st_size for path in target.folder.glob("nginx_*log"))
+    # what is passed on is 10 messages a second, and some at once
+    seconds = time.monotonic() - began
+    through(logs > 1000 * (10 * seconds + 50), f"nginx's logs have {logs:,} bytes after {seconds:.0f} s")
     return f"{dict(found)}; nginx's logs have {logs:,} bytes"
 
 

@@ -17,6 +17,8 @@ def wait_for_end(target: Target, ending: threading.Event) -> str:
 # The calls in vain of an account may take 2 seconds of a processor in a minute. Besides them each of its 16
 # addresses may take half a second for those that are put off.
 OF_ACCOUNT = Most(processor_seconds=10.0)
+# the same without calls, for uploads from four addresses that nginx asks about and puts off
+OF_FOUR_ADDRESSES = Most(processor_seconds=2.0)
 # large calls of accounts, next to the state file
 LARGE_CALLS = Most(processor_seconds=10.0, disk_bytes=33 * MB)
 # with what nginx and the bridge have of four bodies of 1 MB that are coming
@@ -124,6 +126,7 @@ ATTACKS = (
         Who.MEMBER,
         "begins 32 uploads of its own jobs from four addresses, and sends a byte of each every five seconds",
         members.drip_own_uploads,
+        OF_FOUR_ADDRESSES,
     ),
     Attack(
         "uploads-at-once",

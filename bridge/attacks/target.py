@@ -29,6 +29,8 @@ ADDRESS_FIELD = 'address_field = "X-Real-IP"\n'
 SITE6 = "2001:db8"  # a network of IPv6 that is this machine's own, if it runs in a network of its own
 # SQLite writes its log anew from the front once it has 1,000 pages
 LOG_BYTES = 1000 * (4096 + 24) + 32
+ACCESS_LOG = "nginx_access.log"
+HONEST = "honest"  # begins the names of honest uploads
 LONGER = {"daily_result_quota = 100": "daily_result_quota = 100000", "max_hosts = 100": "max_hosts = 10000"}
 MORE_AT_ONCE = {
     "max_wus_in_progress = 4": "max_wus_in_progress = 100",
@@ -92,7 +94,7 @@ class Target(Project):
         listens = f"listen 127.0.0.1:{self.port};"
         more = f" listen [::]:{self.port};" if has_ipv6 else ""
         # Debian's nginx writes these logs
-        log = f"    access_log {folder}/nginx_access.log;\n    client_body"
+        log = f"    access_log {folder}/{ACCESS_LOG};\n    client_body"
         logs = {"    access_log off;\n    client_body": log}
         logs[f"{folder}/nginx_quiet.log"] = "/dev/null crit"
         replaced(folder / "nginx.conf", {listens: listens + more, **logs})
@@ -176,11 +178,14 @@ class Target(Project):
 
     def disk_bytes(self) -> int:
         """Returns how many bytes the project has on the disk: its files, and those without a name that nginx
-        and the bridge have open. The logs of SQLite count only beyond what they have at any time.
+        and the bridge have open. The logs of SQLite count only beyond what they have at any time. Honest
+        uploads don't count, nor does nginx's log: it has a line for each message that is passed on.
         """
         total = 0
         for top, _, names in os.walk(self.folder):
             for name in names:
+                if name == ACCESS_LOG or name.startswith(HONEST):
+                    continue
                 path = Path(top, name)
                 try:
                     size = path.stat().st_size

@@ -14,7 +14,7 @@ from uploading import upload
 
 from .figures import Served
 from .sending import asked
-from .target import GOOD, Target, address_of
+from .target import GOOD, HONEST, Target, address_of
 
 PAUSE_SECONDS = 0.15  # between two messages of a kind
 FILE_BYTES = 10_000
@@ -31,7 +31,7 @@ class Volunteers:
         self.counts = {key: 1 for key in GOOD}  # of the calls of each
         self.hostids = {key: self._first_call(key) for key in GOOD}
         each = FILES // len(GOOD)
-        files = [target.hand_out(key, each, HOST, prefix="honest") for key in GOOD]
+        files = [target.hand_out(key, each, HOST, prefix=HONEST) for key in GOOD]
         self.files = [name for names in zip(*files) for name in names]
         self.turns = {"calls": 0, "uploads": 0, "pages": 0}
 
