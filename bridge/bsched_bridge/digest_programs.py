@@ -32,6 +32,7 @@ FIRST_TO_END = 1000  # the score of a process that the kernel ends before all ot
 BAD_FILES = 65  # the status by which a program says that the files are bad (EX_DATAERR)
 TRUE = Path("/usr/bin/true")  # a program that shows whether bubblewrap works
 END_SECONDS = 10
+MOST_SAID = 1000  # bytes of what bubblewrap says if it can't run
 LARGE_BYTES = 20 * 1024**2  # of the files that are tried as large ones
 NO_BWRAP = "digest programs need Debian's bubblewrap: install it"
 NOT_ALLOWED = "bubblewrap can't run here; allow it to the unit (the bridge's README.md, 'Digest programs')"
@@ -119,21 +120,36 @@ def why_not_started() -> str | None:
     if not Path(BWRAP).exists():
         return NO_BWRAP
     try:
-        _printed(DigestProgram(TRUE, END_SECONDS, None), [])
-    except DigestFault as fault:
-        return f"{NOT_ALLOWED}: {fault}"
+        with tempfile.TemporaryFile() as said:
+            try:
+                _printed(DigestProgram(TRUE, END_SECONDS, None), [], said)
+            except DigestFault as fault:
+                return f"{NOT_ALLOWED}: {first_line(said) or fault}"
+    except OSError as error:
+        return f"{NOT_ALLOWED}: {error}"
     return None
+
+
+def first_line(file: IO[bytes]) -> str:
+    """Returns the first line of what bubblewrap wrote into a file."""
+    file.seek(0)
+    lines = file.read(MOST_SAID).decode(errors="replace").splitlines()
+    return "".join(one if one.isprintable() else " " for one in lines[0]).strip() if lines else ""
 
 
 class NotStarted(DigestFault):
     """Raised if a program was not started, so it has no status."""
 
 
-def _printed(program: DigestProgram, files: list[tuple[str, Path]]) -> str:
-    """Returns what a program prints for some files. Raises NotStarted, too."""
+def _printed(
+    program: DigestProgram, files: list[tuple[str, Path]], errors: IO[bytes] | int = subprocess.DEVNULL
+) -> str:
+    """Returns what a program prints for some files. Its standard error may go into a file. Raises NotStarted,
+    too.
+    """
     try:
         with tempfile.TemporaryFile() as output, tempfile.TemporaryFile() as status:
-            _run(program, files, output, status)
+            _run(program, files, output, status, errors)
             return _text(output, _status(status))
     except OSError as error:
         raise NotStarted(f"it can't be run: {error}") from None
@@ -160,7 +176,13 @@ def command(program: DigestProgram, files: list[tuple[str, Path]], status_file: 
     return words + [f"/files/{name}" for name, _ in files]
 
 
-def _run(program: DigestProgram, files: list[tuple[str, Path]], output: IO[bytes], status: IO[bytes]) -> None:
+def _run(
+    program: DigestProgram,
+    files: list[tuple[str, Path]],
+    output: IO[bytes],
+    status: IO[bytes],
+    errors: IO[bytes] | int,
+) -> None:
     """Runs a digest program. What it prints goes into one file, and what bubblewrap says of its end into
     another.
     """
@@ -170,7 +192,7 @@ def _run(program: DigestProgram, files: list[tuple[str, Path]], output: IO[bytes
         env=nothing,
         stdin=subprocess.DEVNULL,
         stdout=output,
-        stderr=subprocess.DEVNULL,
+        stderr=errors,
         pass_fds=[status.fileno()],
         cwd="/",
     )

@@ -186,7 +186,8 @@ def test_the_true_reason_is_said_if_bubblewrap_may_not_run(
     program: Callable[..., Any], out: list[tuple[str, Path]], monkeypatch: pytest.MonkeyPatch
 ) -> None:
     monkeypatch.setattr(digest_programs, "SANDBOX", ("--ro-bind", "/none", "/usr"))
-    with pytest.raises(CannotRun, match="^bubblewrap can't run here; allow it to the unit"):
+    wanted = "^bubblewrap can't run here; allow it to the unit .*: bwrap: .*/none: No such file or directory$"
+    with pytest.raises(CannotRun, match=wanted):
         digest_of(program("echo good"), out)
 
 

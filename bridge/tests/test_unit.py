@@ -75,10 +75,12 @@ def test_the_scheduler_may_make_a_log() -> None:
 
 
 def test_the_bridge_may_run_digest_programs() -> None:
-    """bubblewrap makes namespaces, mounts in them, and sets their loopback up. If memory runs out, the kernel
-    ends a program, and the unit goes on. A program that fails its check stops no start.
+    """bubblewrap makes namespaces, mounts in them, and sets their loopback up. That of Debian 13 opens files
+    by openat2, which RestrictSUIDSGID takes away. If memory runs out, the kernel ends a program, and the unit
+    goes on. A program that fails its check stops no start.
     """
     unit = UNIT.read_text()
+    assert "\nRestrictSUIDSGID=" not in unit
     for line in (
         "RestrictNamespaces=user mnt pid net ipc uts cgroup",
         "RestrictAddressFamilies=AF_INET AF_UNIX AF_NETLINK",
