@@ -46,7 +46,7 @@ def name_of(limit: Limit) -> str:
 def limits() -> list[Limit]:
     """Returns the rows of the tables."""
     text = (TOP / "docs" / "VOLUNTEERS.md").read_text()
-    section = text.partition("\n#### Every limit of calls, files and accounts\n")[2].partition("\n### ")[0]
+    section = text.partition("\n#### The limits of calls, files and accounts\n")[2].partition("\n### ")[0]
     rows = [line.strip("|").split("|") for line in section.splitlines() if line.startswith("| ")]
     return [Limit(*(cell.strip() for cell in row)) for row in rows if not row[0].startswith(" Limit of ")]
 
