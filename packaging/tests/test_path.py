@@ -29,6 +29,23 @@ def test_the_hundred_jobs_take_ten_steps() -> None:
     ]
 
 
+def commands_of(blocks: list[str]) -> list[str]:
+    """Returns the commands in blocks of a page, in order. A command may have several lines."""
+    lines = "\n".join(blocks).replace("\\\n", " ").splitlines()
+    return [" ".join(line.split()) for line in lines if line and not line.startswith("#")]
+
+
+def test_readme_has_the_commands_of_the_hundred_jobs() -> None:
+    """packaging/try runs that page, so what README shows of it is run, too."""
+    section = (TOP / "README.md").read_text().partition("\n## A program and a folder of inputs\n")[2]
+    shown = commands_of([section.partition("```sh\n")[2].partition("```")[0]])
+    run = iter(commands_of([block.commands for step in steps_of(HUNDRED) for block in step.blocks]))
+    assert [command for command in shown if command not in run] == []
+    assert [command.split()[:2] for command in shown if command.startswith("bsched-tools")] == [
+        ["bsched-tools", name] for name in ("app", "submit", "progress", "collect")
+    ]
+
+
 @pytest.mark.parametrize("page", [PAGE, HUNDRED])
 def test_each_block_is_a_script(page: Path) -> None:
     for step in steps_of(page):
