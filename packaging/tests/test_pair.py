@@ -432,6 +432,23 @@ def test_bsched_project_leads_to_the_pair(tmp_path: Path) -> None:
     assert refused.returncode == 1 and "only root" in refused.stderr
 
 
+@pytest.mark.parametrize(
+    "words",
+    [("nginx", "sums"), ("--complete", "sums"), ("--add-bridge", "sums"), ("export", "sums", "f"), ("sums",)],
+)
+def test_an_order_on_the_machine_without_the_project(tmp_path: Path, words: tuple[str, ...]) -> None:
+    projects = Projects(tmp_path)
+    (projects.projects / "sums").mkdir()
+    written = tmp_path / "projects-pair" / "sums"
+    written.mkdir(parents=True)
+    (written / "options").write_text("".join(f"{word}\n" for word in WORDS))
+    done = projects.make(*words, stubs="hostname() { echo alpha; }\n")
+    line = "bsched-project: sums is not on this machine: run this on beta, or see `crm_mon -1`\n"
+    assert (done.returncode, done.stdout, done.stderr) == (1, "", line)
+    done = projects.make(*words, stubs="hostname() { echo gamma; }\n")
+    assert "run this on alpha or beta, or see" in done.stderr
+
+
 def test_a_unit_is_a_timer_or_a_service() -> None:
     assert Unit("tick", "bsched-tick@sums.timer").is_timer
     assert not Unit("scheduler", "bsched@sums.service").is_timer
