@@ -11,6 +11,7 @@ from werkzeug.exceptions import HTTPException
 from werkzeug.wrappers import Request, Response
 
 from bsched_files.counts import counts_in
+from bsched_files.operator_state import PATH as OPERATOR_STATE
 from bsched_files.project_settings import HostRules, Settings, read_settings
 
 from .account_messages import AccountMessages, project_config
@@ -232,7 +233,7 @@ class Application:
             )
             routes.append(Route("operator/board", self._for_operator(board.answer), FORMS))
             state = OperatorState(overviews, operator)
-            routes.append(Route("operator/state", self._for_operator(state.answer)))
+            routes.append(Route(OPERATOR_STATE, self._for_operator(state.answer)))
         return routes
 
     def _for_operator(self, handler: Handler) -> Handler:

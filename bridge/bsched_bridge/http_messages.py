@@ -53,6 +53,7 @@ FOR_GOOD = {"Cache-Control": "public, max-age=31536000, immutable"}
 PROXY_FIELDS = ("Forwarded", "Via", "X-Forwarded-For", "X-Forwarded-Host", "X-Real-IP")
 # fields that browsers add to a message, and BOINC's client does not
 BROWSER_FIELDS = ("Origin", "Referer", "Sec-Fetch-Site")
+LOCAL_HOST = r"(localhost|127\.0\.0\.1|\[::1\])(:[0-9]+)?"
 
 log = logging.getLogger(__name__)
 
@@ -113,17 +114,27 @@ def refuse_browsers(message: Request) -> None:
 
 def refuse_other_sites(message: Request, url: str) -> None:
     """Raises Forbidden if a page of another site made its visitor send the message. A browser says so by
-    Sec-Fetch-Site, and an older one by Origin. It may send `null` as the origin of a page at the master URL,
-    since the pages have no referrer.
+    Sec-Fetch-Site. One that leaves it out, as without TLS, sends the origin of the page with each form. A
+    page that hides its own origin, such as a sandboxed frame, has the origin `null`.
     """
-    site = message.headers.get("Sec-Fetch-Site")
-    if site is None:
-        parts = urlsplit(url)
-        is_own = message.headers.get("Origin", "null") in ("null", f"{parts.scheme}://{parts.netloc}")
-    else:
+    site, origin = message.headers.get("Sec-Fetch-Site"), message.headers.get("Origin")
+    if site is not None:
         is_own = site in ("same-origin", "none")
+    else:
+        is_own = origin is None or origin in own_origins(message, url)
     if not is_own:
         raise Forbidden
+
+
+def own_origins(message: Request, url: str) -> list[str]:
+    """Returns the origins of the project's pages: that of the master URL, and that by which a browser on the
+    operator's machine reaches the bridge through a tunnel.
+    """
+    parts = urlsplit(url)
+    origins = [f"{parts.scheme}://{parts.netloc}"]
+    if re.fullmatch(LOCAL_HOST, message.host):
+        origins.append(f"http://{message.host}")
+    return origins
 
 
 def is_of_this_machine(message: Request, address_field: str | None) -> bool:

@@ -3,8 +3,8 @@ the room for uploads.
 
 Only a program on this machine that has the operator's key gets it, since faults name files of the project.
 """
-import json
-
+from bsched_files import operator_state
+from bsched_files.operator_state import KEY_FIELD, PutOffReport, UploadRoom
 from werkzeug.exceptions import ServiceUnavailable
 from werkzeug.wrappers import Request, Response
 
@@ -14,7 +14,6 @@ from .operator_key import OperatorKey
 from .overview import Overview, Overviews
 
 JSON = "application/json"
-KEY_FIELD = "X-Operator-Key"
 
 
 class OperatorState:
@@ -30,29 +29,29 @@ class OperatorState:
                 fault = self._key.fault(message.headers.get(KEY_FIELD, ""))
                 if fault:
                     return answer(TEXT, f"{fault}\n".encode(), NO_STORE, 403)
-                state = self._state(self.overviews.read())
-                return answer(JSON, json.dumps(state).encode(), NO_STORE)
+                return answer(JSON, self._state(self.overviews.read()).text().encode(), NO_STORE)
         except NoPlace:
             raise ServiceUnavailable from None
 
-    def _state(self, overview: Overview) -> dict[str, object]:
-        """Returns the members of the JSON."""
+    def _state(self, overview: Overview) -> operator_state.OperatorState:
+        """Returns the state."""
         fault = self.overviews.measurements.put_offs.latest_fault()
-        return {
-            "catalogue": {"edit": overview.faults.edit, "digests": overview.faults.digests},
-            "put_off": None if fault is None else {"moment": int(fault[0]), "text": fault[1]},
-            "uploads": self._uploads(overview),
-        }
+        return operator_state.OperatorState(
+            overview.faults.edit,
+            overview.faults.digests,
+            None if fault is None else PutOffReport(int(fault[0]), fault[1]),
+            self._uploads(overview),
+        )
 
-    def _uploads(self, overview: Overview) -> dict[str, int] | None:
+    def _uploads(self, overview: Overview) -> UploadRoom | None:
         """Returns the room for uploads, or None without `[uploads]`."""
         store = self.overviews.store
         if store is None or overview.uploads is None:
             return None
-        return {
-            "used": overview.uploads.room.used,
-            "most_bytes": overview.uploads.room.most,
-            "disk_free": overview.disks["uploads"].free,
-            "free_bytes": store.settings.free_bytes,
-            "coming": store.room.jobs.coming_nbytes(int(overview.moment)),
-        }
+        return UploadRoom(
+            used=overview.uploads.room.used,
+            most_bytes=overview.uploads.room.most,
+            disk_free=overview.disks["uploads"].free,
+            free_bytes=store.settings.free_bytes,
+            coming=store.room.jobs.coming_nbytes(int(overview.moment)),
+        )

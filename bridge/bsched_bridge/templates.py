@@ -26,7 +26,8 @@ POLICY = (
 )
 SAFE_FIELDS = {
     "Content-Security-Policy": POLICY,
-    "Referrer-Policy": "no-referrer",
+    # With a form the browser sends the origin of the page, and to nobody its path, which may have a key
+    "Referrer-Policy": "strict-origin",
     "X-Content-Type-Options": "nosniff",
 }
 PAGE_FIELDS = {**SAFE_FIELDS, "Vary": "Accept-Language"}

@@ -28,7 +28,7 @@ Environ = dict[str, Any]
 def sent(bridge: Bridge, environ: Environ | None = None, **fields: Any) -> Answer:
     """Returns the answer to a form of the board, with the operator's key if the test gives no other one."""
     body = urlencode({"key": KEY, **fields}).encode()
-    more = {"CONTENT_TYPE": FORM, "REMOTE_ADDR": "127.0.0.1", "HTTP_ORIGIN": "null", **(environ or {})}
+    more = {"CONTENT_TYPE": FORM, "REMOTE_ADDR": "127.0.0.1", "HTTP_ORIGIN": "http://127.0.0.1:8081", **(environ or {})}
     return bridge.got("/p/operator/board", "POST", body, **more)
 
 
@@ -129,6 +129,9 @@ def test_messages_from_elsewhere(open_bridge: Bridge) -> None:
         {"HTTP_SEC_FETCH_SITE": "same-site"},
         {"HTTP_ORIGIN": "http://evil.example"},
         {"HTTP_ORIGIN": "http://127.0.0.1:8082"},
+        {"HTTP_ORIGIN": "null"},
+        {"HTTP_ORIGIN": "http://evil.example:8081", "HTTP_HOST": "evil.example:8081"},
+        {"HTTP_ORIGIN": "http://localhost:9000", "HTTP_HOST": "localhost:9001"},
     ],
 )
 def test_pages_of_other_sites(bridge: Bridge, environ: Environ) -> None:
@@ -137,9 +140,18 @@ def test_pages_of_other_sites(bridge: Bridge, environ: Environ) -> None:
     assert bridge.application.exchange.barring.all() == {}
 
 
-def test_its_own_page_through_a_tunnel(bridge: Bridge) -> None:
-    """A browser that reaches it under another name says that the page is of the same site."""
-    environ = {"HTTP_SEC_FETCH_SITE": "same-origin", "HTTP_ORIGIN": "http://localhost:9000"}
+@pytest.mark.parametrize(
+    "environ",
+    [
+        {"HTTP_SEC_FETCH_SITE": "same-origin", "HTTP_ORIGIN": "http://localhost:9000"},
+        {"HTTP_ORIGIN": "http://localhost:9000", "HTTP_HOST": "localhost:9000"},
+        {"HTTP_ORIGIN": "http://[::1]:9000", "HTTP_HOST": "[::1]:9000"},
+    ],
+)
+def test_its_own_page_through_a_tunnel(bridge: Bridge, environ: Environ) -> None:
+    """A browser that reaches it under another name says that the page is of the same site, or an older one
+    that it comes from this name.
+    """
     assert sent(bridge, environ)[0] == "200 OK"
 
 

@@ -323,7 +323,8 @@ def test_the_alerts() -> None:
     rules = (EXAMPLES / "rules.yml").read_text()
     alerts = re.findall("- alert: (.*)", rules)
     later = ["BschedCatalogue", "BschedReportsWait", "BschedUploadsFill", "BschedStuck"]
-    assert alerts == ["BschedDown", "BschedDisk", "BschedNoCopy", "BschedErrorsRise", *later]
+    pair = ["BschedOneCopy", "BschedReplicaDown"]
+    assert alerts == ["BschedDown", "BschedDisk", "BschedNoCopy", "BschedErrorsRise", *later, *pair]
     tests = (EXAMPLES / "rules_test.yml").read_text()
     for alert in alerts:  # each fires in a test, and does not fire in one
         shown = re.findall(rf"alertname: {alert}\n +exp_alerts: ?(.*)", tests)

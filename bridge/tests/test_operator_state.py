@@ -26,6 +26,7 @@ def state_of(bridge: Bridge) -> dict[str, Any]:
 
 def test_a_bridge_without_uploads(bridge: Bridge) -> None:
     assert state_of(bridge) == {
+        "format": 1,
         "catalogue": {"edit": None, "digests": {}},
         "put_off": None,
         "uploads": None,

@@ -22,6 +22,7 @@ from bsched_files.toml_entries import OperatorFault
 
 EMPTY = {"meta", "link", "input", "br", "img"}
 FORM = "application/x-www-form-urlencoded"
+ORIGIN = "http://127.0.0.1:8081"  # of the master URL
 
 
 class Page(HTMLParser):
@@ -68,7 +69,7 @@ def page_of(answer: tuple[str, dict[str, str], bytes], status: str = "200 OK", h
     """Returns the page of an answer, and checks the answer's fields."""
     line, fields, body = answer
     assert (line, fields["Content-Type"]) == (status, "text/html; charset=utf-8")
-    assert fields["Referrer-Policy"] == "no-referrer"
+    assert fields["Referrer-Policy"] == "strict-origin"
     policy = fields["Content-Security-Policy"]
     assert policy == (
         "default-src 'none'; style-src 'self'; img-src 'self'; form-action 'self'; base-uri 'none'; "
@@ -98,7 +99,7 @@ def posted(
 ) -> tuple[str, dict[str, str], bytes]:
     """Returns the answer to a form."""
     body = urlencode(fields).encode()
-    return bridge.got(f"/p/{path}", "POST", body, CONTENT_TYPE=FORM, REMOTE_ADDR=client, HTTP_ORIGIN="null")
+    return bridge.got(f"/p/{path}", "POST", body, CONTENT_TYPE=FORM, REMOTE_ADDR=client, HTTP_ORIGIN=ORIGIN)
 
 
 # ---- Markup
@@ -710,14 +711,24 @@ ELSEWHERE = [
     {"HTTP_SEC_FETCH_SITE": "same-site", "HTTP_ORIGIN": "null"},
     {"HTTP_ORIGIN": "https://other.example"},
     {"HTTP_ORIGIN": "http://127.0.0.1:8082"},
+    {"HTTP_ORIGIN": "null"},
 ]
 FROM_HERE = [
     {},
     {"HTTP_SEC_FETCH_SITE": "same-origin", "HTTP_ORIGIN": "null"},
     {"HTTP_SEC_FETCH_SITE": "none"},
     {"HTTP_ORIGIN": "http://127.0.0.1:8081"},
-    {"HTTP_ORIGIN": "null"},
 ]
+
+
+FORMS = (
+    "account",
+    "account_finish.php",
+    "account_preferences",
+    "account_team",
+    "delete_account.php",
+    "get_passwd.php",
+)
 
 
 @pytest.mark.parametrize("fields", ELSEWHERE)
@@ -729,7 +740,7 @@ def test_pages_of_other_sites_can_neither_try_passwords_nor_lock_people_out(
         "CONTENT_TYPE": "application/x-www-form-urlencoded"
     }
     for _ in range(12):
-        for page in ("account", "account_finish.php", "get_passwd.php"):
+        for page in FORMS:
             answer = open_bridge.got(f"/p/{page}", "POST", body, REMOTE_ADDR=CLIENT, **kind, **fields)
             assert answer[0].startswith("403")
         image = open_bridge.got("/p/account_finish.php?auth=x", REMOTE_ADDR=CLIENT, **fields)

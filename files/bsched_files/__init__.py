@@ -21,6 +21,7 @@ copies                copies of SQLite files, and folders of them
 json_files            JSON files with the number of their format, and files that are read again
 counts                counts.json: how many there are of each thing, and how many there may be
 findings              findings.json: what the checks of a project's health found, and how bad it is
+operator_state        what a bridge that serves says of itself to `bsched-tools health`
 averages              averages.json: recent average credit, with its decay and its keyed digest
 plots                 plots.json, and the plots of the last month
 """

@@ -35,20 +35,26 @@ def read_members(
     try:
         with path.open("rb") as file:
             data = file.read(most + 1)
-        if len(data) > most:
-            raise Fault(f"{path}: it has more than {most} bytes")
-        members = json.loads(data)
     except OSError as error:
         raise Fault(f"{path}: {error.strerror}") from None
+    if len(data) > most:
+        raise Fault(f"{path}: it has more than {most} bytes")
+    return members_in(data, str(path), number, takes_unnumbered)
+
+
+def members_in(data: bytes, where: str, number: int, takes_unnumbered: bool = False) -> dict[str, Any]:
+    """Returns the members of JSON of this format or of an older one. A fault begins with where it is."""
+    try:
+        members = json.loads(data)
     except (ValueError, RecursionError):
-        raise Fault(f"{path}: it is no JSON") from None
+        raise Fault(f"{where}: it is no JSON") from None
     if not isinstance(members, dict):
-        raise Fault(f"{path}: it is no JSON object")
+        raise Fault(f"{where}: it is no JSON object")
     found = members.get(NUMBER, 1 if takes_unnumbered else None)
     if type(found) is not int or found < 1:
-        raise Fault(f"{path}: it has no number of its format")
+        raise Fault(f"{where}: it has no number of its format")
     if found > number:
-        raise Fault(f"{path}: it has format {found}, and this program knows {number}: upgrade the program")
+        raise Fault(f"{where}: it has format {found}, and this program knows {number}: upgrade the program")
     return members
 
 

@@ -162,6 +162,8 @@ def test_installed_pages_link_to_installed_pages() -> None:
         ("bsched serve --c", "--count"),
         ("bsched-project --a", "--add-bridge"),
         ("bsched-project --c", "--complete"),
+        ("bsched-project p", "pair"),
+        ("bsched-project pair sums --v", "--vote --vote-seconds"),
     ],
 )
 def test_completion(line: str, offered: str) -> None:

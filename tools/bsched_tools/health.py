@@ -26,6 +26,7 @@ from .computers import bad_computers
 from .computers import named as named_computers
 from .counts import counted
 from .projects import Project, UnitSettings
+from .replica import replica
 from .stuck import named, stuck_in
 
 CERTIFICATE_DAYS = 14, 3  # fewer days are a warning, and critical
@@ -247,6 +248,7 @@ CHECKS: tuple[Check, ...] = (
     work,
     spoiled,
     disk,
+    replica,
 )
 
 

@@ -13,6 +13,7 @@ from bsched_files.texts import WORD
 from bsched_files.toml_entries import OperatorFile
 from bsched_files.uploads import DATABASE
 
+from .pairs import elsewhere
 from .root_folders import make_below
 
 BACKUPS = Path("/var/backups/bsched")
@@ -217,6 +218,8 @@ def project_of(name: str) -> Project:
     except PermissionError:
         raise Fault(f"{folder}: {NO_MEMBER}") from None
     if not is_project:
+        if (text := elsewhere(folder)) is not None:
+            raise Fault(text)
         made = sorted(path.parent.name for path in PROJECTS.glob("*/settings.toml"))
         there = f"; there are {', '.join(made)}" if made else ""
         raise Fault(f"{folder}: it is no project of bsched-project{there}")

@@ -82,7 +82,7 @@ def answering(made: WorkProject, status: int, body: bytes) -> Iterator[list[str]
 
 def found_in(made: WorkProject, **members: Any) -> list[Finding]:
     """Returns what is found in a state."""
-    state = {"catalogue": GOOD, "put_off": None, "uploads": None, **members}
+    state = {"format": 1, "catalogue": GOOD, "put_off": None, "uploads": None, **members}
     with answering(made, 200, json.dumps(state).encode()) as came:
         found = asked(made)
     assert came == ["/p/operator/state change-this-key"]
@@ -160,7 +160,7 @@ def test_refusals(made: WorkProject, status: int, level: Level, text: str) -> No
     assert (one.check, one.level) == ("catalogue", level) and text in one.text and RESTART in one.text
 
 
-@pytest.mark.parametrize("body", [b"", b"x", b"[]", b"{}", b'{"catalogue":[]}', b"[" * 100_000])
+@pytest.mark.parametrize("body", [b"", b"x", b"[]", b"{}", b'{"format":1,"catalogue":[]}', b"[" * 100_000])
 def test_what_is_no_state(made: WorkProject, body: bytes) -> None:
     with answering(made, 200, body):
         (one,) = asked(made)
