@@ -28,7 +28,12 @@ Environ = dict[str, Any]
 def sent(bridge: Bridge, environ: Environ | None = None, **fields: Any) -> Answer:
     """Returns the answer to a form of the board, with the operator's key if the test gives no other one."""
     body = urlencode({"key": KEY, **fields}).encode()
-    more = {"CONTENT_TYPE": FORM, "REMOTE_ADDR": "127.0.0.1", "HTTP_ORIGIN": "http://127.0.0.1:8081", **(environ or {})}
+    more = {
+        "CONTENT_TYPE": FORM,
+        "REMOTE_ADDR": "127.0.0.1",
+        "HTTP_ORIGIN": "http://127.0.0.1:8081",
+        **(environ or {}),
+    }
     return bridge.got("/p/operator/board", "POST", body, **more)
 
 
