@@ -25,6 +25,7 @@ NEEDED = {
     "unshare": "util-linux",
     "ip": "iproute2",
     "pgrep": "procps",
+    "openssl": "openssl",
 }
 
 

@@ -52,18 +52,18 @@ def send_upload(target: Target, result: str, data: bytes, most: int, number: int
     raise TrialFault(f"an upload is refused: {status} {answer!r}")
 
 
-def run_tools(target: Target, *words: str) -> None:
-    """Runs a command of the tools, which must succeed."""
+def run_tools(target: Target, *words: str) -> str:
+    """Runs a command of the tools, which must succeed. Returns what it prints, to the byte."""
     done = subprocess.run(
         [sys.executable, "-m", "bsched_tools", *words],
         cwd=target.folder,
         env={**os.environ, "PYTHONPATH": PACKAGES, "PYTHONDONTWRITEBYTECODE": "1"},
         capture_output=True,
-        text=True,
         timeout=120,
     )
     if done.returncode:
-        raise TrialFault(f"{words[0]} ends with {done.returncode}: {done.stdout}{done.stderr}")
+        raise TrialFault(f"{words[0]} ends with {done.returncode}: {done.stdout!r}{done.stderr!r}")
+    return done.stdout.decode()
 
 
 def name_files_in_outputs(target: Target, ending: threading.Event) -> str:

@@ -1,7 +1,7 @@
 """All attacks: who attacks, what it does, and what it may cost."""
 import threading
 
-from . import computers, files, members, strangers
+from . import computers, files, forms, members, operators, storage, strangers
 from .attack import Attack, Who
 from .figures import MB, Most
 from .sending import ADDRESSES
@@ -102,6 +102,14 @@ ATTACKS = (
         "sends messages that no client sends, and breaks off 500 connections",
         strangers.send_odd_messages,
         Most(processor_seconds=None),
+        is_short=True,
+    ),
+    Attack(
+        "forms-of-other-sites",
+        Who.STRANGER,
+        "has visitors of another site, or of a page without an origin, send each form",
+        forms.send_forms,
+        NOT_COUNTED,
         is_short=True,
     ),
     Attack(
@@ -220,6 +228,14 @@ ATTACKS = (
         is_short=True,
     ),
     Attack(
+        "hostile-outputs",
+        Who.MEMBER,
+        "reports outputs that a terminal or a spreadsheet would obey, and the operator prints them",
+        operators.print_hostile_texts,
+        NOT_COUNTED,
+        is_short=True,
+    ),
+    Attack(
         "unseen-names",
         Who.MEMBER,
         "takes names that can't be seen, and names of teams that look alike",
@@ -243,6 +259,23 @@ ATTACKS = (
         NOT_COUNTED,
         is_short=True,
         is_slow=True,
+    ),
+    Attack(
+        "stop-while-storing",
+        Who.NOBODY,
+        "kills the bridge and fills its disk, after a file is in the store and before it has its row",
+        storage.stop_while_storing,
+        Most(processor_seconds=None, disk_bytes=storage.UPLOADS_BYTES + MB),
+        is_short=True,
+        prepare=storage.mount_small_disk,
+    ),
+    Attack(
+        "refused-statements",
+        Who.MEMBER,
+        "reports a success without its file, while bsched refuses the statement that says whose job it is",
+        storage.refuse_statements,
+        NOT_COUNTED,
+        is_short=True,
     ),
     Attack(
         "state-file-twice",

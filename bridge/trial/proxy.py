@@ -23,23 +23,35 @@ class Message:
 class Fault:
     """A fault for the first message that fits: its answer is lost. If is_held is true, the connection stays
     open until let_go is set. With is_cut the other program gets a half of the message, before let_go is set. With
-    another answer the other program gets nothing.
+    another answer, which may have a status of its own, the other program gets nothing.
     """
 
     fits: Callable[[Message], bool]
     is_held: bool = False
     is_cut: bool = False
     another: bytes | None = None
+    status: int = 200  # of the other answer
     # set when the other program has answered such a message
     met: threading.Event = field(default_factory=threading.Event)
     let_go: threading.Event = field(default_factory=threading.Event)
     message: Message | None = None  # that message
 
 
+class Server(ThreadingHTTPServer):
+    """A server that belongs to a proxy."""
+
+    daemon_threads = True
+
+    def __init__(self, port: int, proxy: "Proxy") -> None:
+        super().__init__(("127.0.0.1", port), Handler)
+        self.proxy = proxy
+
+
 class Handler(BaseHTTPRequestHandler):
     """The handler of one message."""
 
     protocol_version = "HTTP/1.1"
+    server: Server
 
     def pass_on(self) -> None:
         """Passes a message on, and the answer back."""
@@ -50,7 +62,7 @@ class Handler(BaseHTTPRequestHandler):
         fields = {name: value for name, value in self.headers.items() if name.lower() not in HOP_FIELDS}
         connection = http.client.HTTPConnection("127.0.0.1", proxy.target, timeout=ANSWER_SECONDS)
         if fault := proxy.fault_of(message, is_before=True):
-            return self.cut(connection, message, fields, fault) if fault.is_cut else self.give(fault.another)
+            return self.cut(connection, message, fields, fault) if fault.is_cut else self.give(fault)
         try:
             connection.request(
                 self.command, self.path, message.body if self.command == "POST" else None, fields
@@ -93,16 +105,17 @@ class Handler(BaseHTTPRequestHandler):
         fault.let_go.wait(ANSWER_SECONDS)
         connection.close()
 
-    def give(self, answer: bytes) -> None:
+    def give(self, fault: Fault) -> None:
         """Gives an answer of the proxy's own."""
-        self.send_response(200)
+        answer = fault.another or b""
+        self.send_response(fault.status)
         self.send_header("content-length", str(len(answer)))
         self.end_headers()
         self.wfile.write(answer)
 
     do_GET = do_POST = pass_on
 
-    def log_message(self, *_words) -> None:
+    def log_message(self, *_words: object) -> None:
         """Prints nothing: no line for each message."""
 
 
@@ -114,9 +127,7 @@ class Proxy:
         self.messages: list[Message] = []
         self._faults: list[Fault] = []
         self._lock = threading.Lock()
-        self._server = ThreadingHTTPServer(("127.0.0.1", port), Handler)
-        self._server.daemon_threads = True
-        self._server.proxy = self
+        self._server = Server(port, self)
         threading.Thread(target=self._server.serve_forever, daemon=True).start()
 
     def close(self) -> None:

@@ -96,7 +96,7 @@ def copy(args: Arguments) -> None:
         units, tables = project.units(), project.tables
         keep = keep or (None if to else units.copies_kept)
         check = check or (PROGRAM if units.is_checked and PROGRAM.exists() else None)
-        to = to or project.made(units.copies, 0o700)
+        to = to or project.copies_made(units.copies)
     to = needed(args, "to", to)
     copied = copy_tables(tables, to, keep, check)
     still = "nobody had the tables"

@@ -14,7 +14,7 @@ from bsched_files.toml_entries import OperatorFile
 from bsched_files.uploads import DATABASE
 
 from .pairs import elsewhere
-from .root_folders import make_below
+from .root_folders import check_writable, make_below
 
 BACKUPS = Path("/var/backups/bsched")
 WEB = Path("/var/lib/bsched-web")
@@ -208,6 +208,15 @@ class Project:
         except OSError as error:
             raise Fault(f"{folder}: it can't be made: {error.strerror}: make it as root") from None
         return folder
+
+    def copies_made(self, folder: Path) -> Path:
+        """Makes the folder of copies if it does not exist. As root it refuses one into which the project's
+        owner may not write, since root writes the copies.
+        """
+        made = self.made(folder, 0o700)
+        if os.geteuid() == 0:
+            check_writable(made, self.folder.stat())
+        return made
 
 
 def project_of(name: str) -> Project:

@@ -1,5 +1,6 @@
 """Folders that root makes for a project, whose own user chose their names and may put links in the way."""
 import os
+import stat
 from collections.abc import Iterable
 from contextlib import ExitStack
 from pathlib import Path
@@ -28,6 +29,19 @@ def make_below(bases: Iterable[Path], folder: Path, mode: int, owner: os.stat_re
         for name in names:
             parent = made_in(stack, parent, name, PARENT_MODE, None)
         made_in(stack, parent, last, mode, owner)
+
+
+def check_writable(folder: Path, owner: os.stat_result) -> None:
+    """Refuses a folder into which an owner may not write. The owner chose its name, and root writes there."""
+    found = folder.stat()
+    mode = stat.S_IMODE(found.st_mode)
+    if owner.st_uid in (0, found.st_uid) or mode & stat.S_IWOTH:
+        return
+    if owner.st_gid != found.st_gid or not mode & stat.S_IWGRP:
+        raise Fault(
+            f"{folder}: root writes nothing there, since it is not the project's:"
+            f" give it to its user by `chown {owner.st_uid}:{owner.st_gid} {folder}`, or name another folder"
+        )
 
 
 def made_in(stack: ExitStack, parent: int, name: str, mode: int, owner: os.stat_result | None) -> int:

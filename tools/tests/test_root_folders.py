@@ -6,7 +6,8 @@ from pathlib import Path
 import pytest
 
 from bsched_files.faults import Fault
-from bsched_tools.root_folders import make_below
+from bsched_tools.projects import Project
+from bsched_tools.root_folders import check_writable, make_below
 
 pytestmark = pytest.mark.skipif(os.geteuid() != 0, reason="only root gives folders to somebody else")
 STRANGER = 65534
@@ -69,3 +70,45 @@ def test_a_folder_that_exists_keeps_its_owner(base: Path, owner: os.stat_result)
     (base / "sums").mkdir(parents=True)
     make_below([base], base / "sums", 0o700, owner)
     assert (base / "sums").stat().st_uid == 0
+
+
+@pytest.mark.parametrize(
+    "user, group, mode, is_taken",
+    [
+        (0, 0, 0o755, False),
+        (0, STRANGER, 0o750, False),
+        (STRANGER + 1, STRANGER, 0o755, False),
+        (STRANGER, 0, 0o700, True),
+        (0, STRANGER, 0o2770, True),
+        (0, 0, 0o1777, True),
+    ],
+)
+def test_root_writes_only_where_the_owner_may(
+    base: Path, owner: os.stat_result, user: int, group: int, mode: int, is_taken: bool
+) -> None:
+    base.mkdir()
+    os.chown(base, user, group)
+    base.chmod(mode)
+    if is_taken:
+        check_writable(base, owner)
+        return
+    with pytest.raises(Fault, match="root writes nothing there, since it is not the project's: give it"):
+        check_writable(base, owner)
+
+
+def test_root_may_write_anywhere_for_itself(base: Path) -> None:
+    base.mkdir()
+    check_writable(base, base.stat())
+
+
+@pytest.mark.parametrize("name", ["{elsewhere}", "../elsewhere", "link"])
+def test_no_copy_goes_into_a_folder_of_root(tmp_path: Path, owner: os.stat_result, name: str) -> None:
+    """The user of a project can write its units.toml, and have links in its folder."""
+    project, elsewhere = Project(tmp_path / "project"), tmp_path / "elsewhere"
+    elsewhere.mkdir()
+    (project.folder / "link").symlink_to(elsewhere)
+    (project.folder / "units.toml").write_text(f'[copy]\nfolder = "{name.format(elsewhere=elsewhere)}"\n')
+    with pytest.raises(Fault, match="root writes nothing there"):
+        project.copies_made(project.units().copies)
+    os.chown(elsewhere, STRANGER, STRANGER)
+    assert project.copies_made(project.units().copies).samefile(elsewhere)
