@@ -53,7 +53,7 @@ machines must have the packages bsched and bsched-tools. Stop nothing before ste
 
   corosync-keygen
   scp -p {KEY} {other.name}:{KEY}
-  ssh {other.name} mkdir -p {home} {written.parent}
+  ssh -n {other.name} mkdir -p {home} {written.parent}
   scp -rp {written} {other.name}:{written.parent}/
   corosync-qdevice-net-certutil -Q -n bsched-{pair.project} {pair.vote.address} {one.name} {other.name}
 
