@@ -284,8 +284,8 @@ class CallNumbers:
     def open_as(
         self, key: Key, state: KeyState, text: Callable[[int], bytes], client: ClientState
     ) -> bytes | None:
-        """Does the same for a host that bsched has, if its key is in a state that was read before the key was
-        held. Returns None if it is in another state by now.
+        """Opens a call of a host that bsched has, if its key is still in a state that was read before the key
+        was held. Returns the text of the call, or None if the key is in another state by now.
         """
         number = state.last_number + 1
         if number > MOST_NUMBER:

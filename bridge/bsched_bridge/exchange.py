@@ -288,8 +288,8 @@ class Exchange:
             return self._unless_its_own(request, known)
 
     def _unless_its_own(self, request: ClientRequest, known: KnownHost) -> Answered | PutOff | None:
-        """Does the same for a client that has results which its host does not have, as far as is known.
-        bsched may have a host that the bridge does not know: a call tells it.
+        """Returns the reply to a client that has results which its host does not have, as far as is known, or
+        None if the number is its own. bsched may have a host that the bridge does not know: a call tells it.
 
         If nobody has the results, bsched lost them. But if the client's count is not the next one of the host
         either, it is another computer, whose host the bridge does not know.
@@ -512,7 +512,7 @@ class Exchange:
     def _checked_call(
         self, key: Key, request: ClientRequest, client: ClientState, state: KeyState, is_sure: bool
     ) -> Reply | PutOff:
-        """Does the same for a key that is held and has no open call. Raises StateChanged."""
+        """Returns the reply under a key that is held and has no open call. Raises StateChanged."""
         if self.reports is None:
             return self._send(key, request, client, state, is_sure)
         reply = self._send(key, self.reports.check(key, request), client, state, is_sure)
@@ -600,7 +600,7 @@ class Exchange:
             return too_many_hosts(many.count)
 
     def _open_counted(self, key: Key, text: Callable[[int], bytes], last: int, client: ClientState) -> bytes:
-        """Does the same. Raises TooManyHosts.
+        """Returns the text of a new call, unless its account has too many hosts. Raises TooManyHosts.
 
         The hosts are counted in the state file. If that file and bsched's tables are of different moments,
         the two are reconciled first. A host that bsched does not have makes room.

@@ -69,8 +69,8 @@ class RecentCounts:
     """Counts what each key did within the last seconds, and allows it no more than the limit.
 
     The counts are in memory, for at most MOST_KEYS keys. A further key takes the place of the one that did
-    nothing for longest, so nobody is refused for what others do. Who has that many keys is allowed more than
-    the limit of one anyway.
+    nothing for longest, so nobody is refused for what others do. Somebody with that many addresses can exceed
+    the limit of one in any case.
     """
 
     def __init__(self, most: int, seconds: float, clock: Callable[[], float] = time.monotonic) -> None:

@@ -18,7 +18,7 @@ def rights_of_owner(folder: Path) -> AbstractContextManager[None]:
 
 
 def own_rights() -> AbstractContextManager[None]:
-    """Has the rights of the user who runs the program for the block, within a block with other rights."""
+    """Gives the block the rights of the user who runs the program, within a block of `rights_of`."""
     return rights_of(os.getuid(), os.getgid())
 
 

@@ -4,7 +4,7 @@ All commands but `copy`, `doctor` and `import` read a copy of the tables. Nothin
 `import`, `app` and `submit` ask the scheduler, or run bsched. The package `bsched_files` has the formats that
 the bridge reads or writes, too. The modules:
 
-faults, files         what ends a step or a command, and files that are written whole or not at all
+faults                what ends a step of a command
 holders, stopping     which process has the tables, and how it is stopped for a moment
 taking, copies        the bytes of the tables at one moment, and a folder of copies
 copying               how a copy is made with these
@@ -30,9 +30,10 @@ submitting            a batch of work: its record, its staged inputs, and its im
 slices                batches that are imported a slice at a time
 progress, collecting  how far the work is, and its outputs in a folder
 bars                  progress bars on a terminal
-levels, health        findings and their levels: what answers, and what is old or nearly full
+health                what answers, and what is old or nearly full
 answers, bridge_state what answers over HTTP, and what the bridge says of its catalogue and of uploads
 comparing             whether the bridge's files are what they should be, a part in each run
+pairs, replica        which of two machines has a project, and whether both have its disk
 mailing               mail about what changed in them
 command_line          the arguments of the command line (work_options, work_commands: of those that make work)
 """
