@@ -78,8 +78,8 @@ def is_barred(barring: Barring, rules: Callable[[], HostRules], authenticator: s
 
 
 def forget(connection: sqlite3.Connection, authenticator: str, now: int) -> None:
-    """Forgets the person of an account, in a transaction. The row of `barred` comes last: with it the account is
-    fixed.
+    """Forgets the person of an account, in a transaction. The row of `barred` comes last: with it the account
+    is fixed.
     """
     leave_by_key(connection, authenticator)
     forget_days(connection, authenticator)
