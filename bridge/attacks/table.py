@@ -278,6 +278,14 @@ ATTACKS = (
         is_short=True,
     ),
     Attack(
+        "folders-of-root",
+        Who.OWNER,
+        "names folders of root for the operator's tools, and puts links in the way; root runs them",
+        operators.say_where_root_writes,
+        NOT_COUNTED,
+        is_short=True,
+    ),
+    Attack(
         "state-file-twice",
         Who.OPERATOR,
         "starts a second bridge whose settings name the state file by a link",
