@@ -1,7 +1,7 @@
 """All attacks: who attacks, what it does, and what it may cost."""
 import threading
 
-from . import computers, files, forms, members, operators, storage, strangers
+from . import computers, files, forms, members, memory, operators, storage, strangers
 from .attack import Attack, Who
 from .figures import MB, Most
 from .sending import ADDRESSES
@@ -248,6 +248,13 @@ ATTACKS = (
         Who.MEMBER,
         "reports 12 results of six computers, whose files make the digest program fail or take its time",
         files.occupy_digests,
+        NOT_COUNTED,
+    ),
+    Attack(
+        "digest-memory",
+        Who.MEMBER,
+        "reports results whose files make the digest program take all memory of the unit (with cgroup v2)",
+        memory.take_memory,
         NOT_COUNTED,
     ),
     # ---- Others
