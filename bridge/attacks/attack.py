@@ -15,6 +15,7 @@ class Who(StrEnum):
     STRANGER = "a stranger"
     NETWORK = "a network"  # of IPv6, of 48 bits
     MEMBER = "an account"
+    OWNER = "the user of a project"  # as whom the bridge and bsched run
     OPERATOR = "the operator, by mistake"
 
 

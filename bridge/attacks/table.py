@@ -1,7 +1,7 @@
 """All attacks: who attacks, what it does, and what it may cost."""
 import threading
 
-from . import computers, files, forms, members, operators, storage, strangers
+from . import computers, files, forms, members, memory, operators, storage, strangers
 from .attack import Attack, Who
 from .figures import MB, Most
 from .sending import ADDRESSES
@@ -250,6 +250,13 @@ ATTACKS = (
         files.occupy_digests,
         NOT_COUNTED,
     ),
+    Attack(
+        "digest-memory",
+        Who.MEMBER,
+        "reports results whose files make the digest program take all memory of the unit (with cgroup v2)",
+        memory.take_memory,
+        NOT_COUNTED,
+    ),
     # ---- Others
     Attack(
         "hung-scheduler",
@@ -274,6 +281,14 @@ ATTACKS = (
         Who.MEMBER,
         "reports a success without its file, while bsched refuses the statement that says whose job it is",
         storage.refuse_statements,
+        NOT_COUNTED,
+        is_short=True,
+    ),
+    Attack(
+        "folders-of-root",
+        Who.OWNER,
+        "names folders of root for the operator's tools, and puts links in the way; root runs them",
+        operators.say_where_root_writes,
         NOT_COUNTED,
         is_short=True,
     ),

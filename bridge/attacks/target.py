@@ -53,10 +53,13 @@ digest = "digest"
 digest_seconds = 10
 output_files = [{ open_name = "out", max_nbytes = 1000 }]
 """
-# a digest program whose time and status are those that the file says
+# a digest program whose time and status are those that the file says, and so are its processes and their MB
 DIGEST = """\
 #!/bin/sh
-read -r seconds status < "$1" || exit 65
+read -r seconds status processes megabytes < "$1" || exit 65
+for _ in $(seq "${processes:-0}"); do
+    /usr/bin/python3 -c "x = b'x' * ($megabytes * 10**6); import time; time.sleep($seconds)" &
+done
 sleep "$seconds"
 [ "$status" = 0 ] || exit "$status"
 echo good

@@ -10,6 +10,7 @@ from pathlib import Path
 import pytest
 from attacks import sending
 from attacks.command import chosen, described
+from attacks.memory import kills_in, memory_group, unit_bytes
 from attacks.figures import MB, Costs, Most, Served
 from attacks.sending import Drip, drip_uploads, over_and_over, status_of
 from attacks.table import ATTACKS
@@ -167,3 +168,24 @@ def test_a_body_that_is_refused_does_not_count_as_taken(server: list[Drip]) -> N
     seen = drip_uploads(nobody, ending, ["/refused"] * 5 + ["/taken"] * 3)  # type: ignore[arg-type]
     assert seen.startswith("nginx waited for 3 bodies at most") and "'-1'" in seen, seen
     assert len(server) > 8  # those that are refused begin again
+
+
+# ---- Memory groups
+
+
+def test_the_memory_of_the_unit() -> None:
+    assert unit_bytes() == 2 * 1024**3
+
+
+@pytest.mark.parametrize("controllers", [None, "", "cpu io"])
+def test_without_memory_groups_there_is_none(tmp_path: Path, controllers: str | None) -> None:
+    if controllers is not None:
+        (tmp_path / "cgroup.subtree_control").write_text(controllers)
+    with memory_group(tmp_path, "made", 1000) as group:
+        assert group is None
+    assert not (tmp_path / "made").exists()
+
+
+def test_kills_are_counted(tmp_path: Path) -> None:
+    (tmp_path / "memory.events").write_text("low 0\nmax 3\noom 2\noom_kill 7\noom_group_kill 0\n")
+    assert kills_in(tmp_path) == 7

@@ -1,0 +1,141 @@
+"""Files that make digest programs take all memory that the unit of the bridge may have."""
+import re
+import subprocess
+import threading
+from collections import Counter
+from collections.abc import Iterator
+from contextlib import contextmanager
+from pathlib import Path
+
+from bsched_bridge.digest_programs import FIRST_TO_END
+from trial.behind_nginx import UNIT
+from trial.programs import TOP, TrialFault
+from uploading import file_info, report
+
+from .attack import through
+from .files import given_jobs, send_upload
+from .members import attach
+from .sending import asked
+from .target import ATTACKER, Target, address_of
+
+GROUPS = Path("/sys/fs/cgroup")
+NOT_RUN = "memory does not run out, since no memory group (cgroup v2) can be made on this machine"
+PROGRAMS, PROCESSES, MEGABYTES = 4, 8, 450  # each process may have 512 MiB, and two programs run at once
+HUNGRY = f"5 0 {PROCESSES} {MEGABYTES}\n".encode()
+SMALL = b"3 0 2 50\n"  # for a machine on which nothing bounds the programs together
+PAUSE_SECONDS, LOOK_SECONDS = 1.0, 0.2
+
+
+def unit_bytes() -> int:
+    """Returns how much memory the unit of the bridge may have."""
+    found = re.search(r"^MemoryMax=(\d+)G$", (TOP / UNIT).read_text(), re.MULTILINE)
+    if found is None:
+        raise TrialFault("the unit has no MemoryMax")
+    return int(found[1]) * 1024**3
+
+
+@contextmanager
+def memory_group(groups: Path, name: str, most: int) -> Iterator[Path | None]:
+    """Makes a memory group of the second version for the block, or yields None if that is not possible."""
+    controllers = groups / "cgroup.subtree_control"
+    if not controllers.exists() or "memory" not in controllers.read_text().split():
+        yield None
+        return
+    group = groups / name
+    try:
+        group.mkdir()
+    except OSError:
+        yield None
+        return
+    try:
+        (group / "memory.max").write_text(str(most))
+        if (group / "memory.swap.max").exists():
+            (group / "memory.swap.max").write_text("0")
+        yield group
+    finally:
+        group.rmdir()
+
+
+def group_of(process: int) -> str:
+    """Returns the group of a process, as a path below that of all groups."""
+    lines = Path(f"/proc/{process}/cgroup").read_text().splitlines()
+    return next(line.removeprefix("0::/") for line in lines if line.startswith("0::"))
+
+
+def kills_in(group: Path) -> int:
+    """Returns how many processes of a group the kernel ended since its memory ran out."""
+    found = re.search(r"^oom_kill (\d+)$", (group / "memory.events").read_text(), re.MULTILINE)
+    return 0 if found is None else int(found[1])
+
+
+def take_memory(target: Target, ending: threading.Event) -> str:
+    """Reports results whose files make the digest program take as much memory as it can, while the bridge and
+    these programs have the memory of the unit.
+    """
+    with memory_group(GROUPS, f"bridge-attack-{target.worker()}", unit_bytes()) as group:
+        if group is None:
+            return f"{NOT_RUN}; {look_at_scores(target, ending)}"
+        processes, former = target.gunicorn.processes(), GROUPS / group_of(target.worker())
+        try:
+            for number in processes:
+                (group / "cgroup.procs").write_text(str(number))
+            report_hungry(target, ending, HUNGRY)
+            through(target.gunicorn.processes()[:2] != processes[:2], "the kernel ended the bridge")
+            kills = kills_in(group)
+        finally:
+            for text in (group / "cgroup.procs").read_text().split():
+                (former / "cgroup.procs").write_text(text)
+    if not kills:
+        raise TrialFault("the memory did not run out")
+    return f"the kernel ended {kills} processes of digest programs, and the bridge served on"
+
+
+def children_of(process: int) -> list[int]:
+    """Returns the processes that a process and its children have started."""
+    found = subprocess.run(["pgrep", "-P", str(process)], capture_output=True, text=True).stdout
+    children = [int(word) for word in found.split()]
+    return children + [one for child in children for one in children_of(child)]
+
+
+def score_of(process: int) -> int:
+    """Returns the score of a process: the kernel ends one with a higher score first if memory runs out."""
+    return int(Path(f"/proc/{process}/oom_score_adj").read_text())
+
+
+def look_at_scores(target: Target, ending: threading.Event) -> str:
+    """Has small digest programs run, and looks at the scores of their processes that take memory."""
+    bridge, scores = target.worker(), Counter[int]()
+
+    def look() -> None:
+        while not ending.wait(LOOK_SECONDS):
+            for process in children_of(bridge):
+                try:
+                    if Path(f"/proc/{process}/comm").read_text() == "python3\n":
+                        scores[score_of(process)] += 1
+                except OSError:
+                    continue  # it has ended
+
+    looking = threading.Thread(target=look, daemon=True)
+    looking.start()
+    report_hungry(target, ending, SMALL)
+    looking.join(60)
+    if not scores:
+        raise TrialFault("no digest program was seen")
+    through(set(scores) != {FIRST_TO_END}, f"digest programs have the scores {dict(scores)}")
+    through(score_of(bridge) >= FIRST_TO_END, f"the bridge has the score {score_of(bridge)}")
+    return f"the kernel ends digest programs (score {FIRST_TO_END}) before the bridge ({score_of(bridge)})"
+
+
+def report_hungry(target: Target, ending: threading.Event, data: bytes) -> None:
+    """Reports results with a file again and again, until it ends."""
+    results = given_jobs(target, "digested", PROGRAMS, "hungry", "hungry")
+    hostid, seqno = attach(target, "hungry"), 0
+    for result in results:
+        send_upload(target, result, data, 1000)
+    while not ending.is_set():
+        for result in results:
+            seqno += 1
+            info = file_info(f"{result}_0", data).replace("<max_nbytes>20000", "<max_nbytes>1000")
+            body = report(result, [info], hostid, key=ATTACKER, cpid="hungry", seqno=seqno)
+            asked(target, address_of(0), "POST", "/cgi", body)
+            ending.wait(PAUSE_SECONDS)
