@@ -5,6 +5,7 @@ import threading
 from collections import Counter
 from collections.abc import Iterator
 from contextlib import contextmanager
+from dataclasses import dataclass
 from pathlib import Path
 
 from bsched_bridge.digest_programs import FIRST_TO_END
@@ -19,7 +20,7 @@ from .sending import asked
 from .target import ATTACKER, Target, address_of
 
 GROUPS = Path("/sys/fs/cgroup")
-NOT_RUN = "memory does not run out, since no memory group (cgroup v2) can be made on this machine"
+NOT_RUN = "memory does not run out, since no memory group can be made on this machine"
 PROGRAMS, PROCESSES, MEGABYTES = 4, 8, 450  # each process may have 512 MiB, and two programs run at once
 HUNGRY = f"5 0 {PROCESSES} {MEGABYTES}\n".encode()
 SMALL = b"3 0 2 50\n"  # for a machine on which nothing bounds the programs together
@@ -34,38 +35,78 @@ def unit_bytes() -> int:
     return int(found[1]) * 1024**3
 
 
+@dataclass(frozen=True, slots=True)
+class Version:
+    """How memory groups are made with one version of control groups (cgroups(7))."""
+
+    folder: Path  # of all groups
+    entry: str  # how the line of /proc/N/cgroup that names the group of a process begins
+    limits: tuple[str, ...]  # files that take how many bytes a group may have
+    swap: str | None  # a file that takes how many bytes of swap it may have besides
+    events: str  # the file that counts the processes that the kernel ended
+
+
+@dataclass(frozen=True, slots=True)
+class Group:
+    """A memory group."""
+
+    path: Path
+    version: Version
+
+    def add(self, process: int) -> None:
+        """Puts a process into the group."""
+        (self.path / "cgroup.procs").write_text(str(process))
+
+    def processes(self) -> list[int]:
+        """Returns the processes of the group."""
+        return [int(text) for text in (self.path / "cgroup.procs").read_text().split()]
+
+    def kills(self) -> int:
+        """Returns how many processes of the group the kernel ended since its memory ran out."""
+        found = re.search(r"^oom_kill (\d+)$", (self.path / self.version.events).read_text(), re.MULTILINE)
+        return 0 if found is None else int(found[1])
+
+
+def version_in(groups: Path) -> Version | None:
+    """Returns with which version memory groups can be made, or None. Some machines have both."""
+    controllers, first = groups / "cgroup.subtree_control", groups / "memory"
+    if controllers.exists() and "memory" in controllers.read_text().split():
+        return Version(groups, "0::/", ("memory.max",), "memory.swap.max", "memory.events")
+    if (first / "memory.limit_in_bytes").exists():
+        limits = ("memory.limit_in_bytes", "memory.memsw.limit_in_bytes")  # the second one with swap
+        return Version(first, ":memory:/", limits, None, "memory.oom_control")
+    return None
+
+
 @contextmanager
-def memory_group(groups: Path, name: str, most: int) -> Iterator[Path | None]:
-    """Makes a memory group of the second version for the block, or yields None if that is not possible."""
-    controllers = groups / "cgroup.subtree_control"
-    if not controllers.exists() or "memory" not in controllers.read_text().split():
+def memory_group(groups: Path, name: str, most: int) -> Iterator[Group | None]:
+    """Makes a memory group for the block, or yields None if that is not possible."""
+    version = version_in(groups)
+    if version is None:
         yield None
         return
-    group = groups / name
+    path = version.folder / name
     try:
-        group.mkdir()
+        path.mkdir()
     except OSError:
         yield None
         return
     try:
-        (group / "memory.max").write_text(str(most))
-        if (group / "memory.swap.max").exists():
-            (group / "memory.swap.max").write_text("0")
-        yield group
+        for limit in version.limits:
+            if (path / limit).exists():  # a kernel that does not count swap has none for it
+                (path / limit).write_text(str(most))
+        if version.swap is not None and (path / version.swap).exists():
+            (path / version.swap).write_text("0")
+        yield Group(path, version)
     finally:
-        group.rmdir()
+        path.rmdir()
 
 
-def group_of(process: int) -> str:
-    """Returns the group of a process, as a path below that of all groups."""
+def group_of(process: int, version: Version) -> Group:
+    """Returns the group of a process."""
     lines = Path(f"/proc/{process}/cgroup").read_text().splitlines()
-    return next(line.removeprefix("0::/") for line in lines if line.startswith("0::"))
-
-
-def kills_in(group: Path) -> int:
-    """Returns how many processes of a group the kernel ended since its memory ran out."""
-    found = re.search(r"^oom_kill (\d+)$", (group / "memory.events").read_text(), re.MULTILINE)
-    return 0 if found is None else int(found[1])
+    line = next(line for line in lines if version.entry in line)
+    return Group(version.folder / line.partition(version.entry)[2], version)
 
 
 def take_memory(target: Target, ending: threading.Event) -> str:
@@ -75,16 +116,16 @@ def take_memory(target: Target, ending: threading.Event) -> str:
     with memory_group(GROUPS, f"bridge-attack-{target.worker()}", unit_bytes()) as group:
         if group is None:
             return f"{NOT_RUN}; {look_at_scores(target, ending)}"
-        processes, former = target.gunicorn.processes(), GROUPS / group_of(target.worker())
+        processes, former = target.gunicorn.processes(), group_of(target.worker(), group.version)
         try:
             for number in processes:
-                (group / "cgroup.procs").write_text(str(number))
+                group.add(number)
             report_hungry(target, ending, HUNGRY)
             through(target.gunicorn.processes()[:2] != processes[:2], "the kernel ended the bridge")
-            kills = kills_in(group)
+            kills = group.kills()
         finally:
-            for text in (group / "cgroup.procs").read_text().split():
-                (former / "cgroup.procs").write_text(text)
+            for number in group.processes():
+                former.add(number)
     if not kills:
         raise TrialFault("the memory did not run out")
     return f"the kernel ended {kills} processes of digest programs, and the bridge served on"

@@ -253,7 +253,7 @@ ATTACKS = (
     Attack(
         "digest-memory",
         Who.MEMBER,
-        "reports results whose files make the digest program take all memory of the unit (with cgroup v2)",
+        "reports results whose files make the digest program take all memory of the unit",
         memory.take_memory,
         NOT_COUNTED,
     ),

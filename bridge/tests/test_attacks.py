@@ -10,7 +10,7 @@ from pathlib import Path
 import pytest
 from attacks import sending
 from attacks.command import chosen, described
-from attacks.memory import kills_in, memory_group, unit_bytes
+from attacks.memory import Group, memory_group, unit_bytes, version_in
 from attacks.figures import MB, Costs, Most, Served
 from attacks.sending import Drip, drip_uploads, over_and_over, status_of
 from attacks.table import ATTACKS
@@ -186,6 +186,18 @@ def test_without_memory_groups_there_is_none(tmp_path: Path, controllers: str | 
     assert not (tmp_path / "made").exists()
 
 
-def test_kills_are_counted(tmp_path: Path) -> None:
+def test_the_first_version(tmp_path: Path) -> None:
+    (tmp_path / "memory").mkdir()
+    (tmp_path / "memory" / "memory.limit_in_bytes").touch()
+    version = version_in(tmp_path)
+    assert version is not None and version.folder == tmp_path / "memory"
+    (tmp_path / "memory.oom_control").write_text("oom_kill_disable 0\nunder_oom 0\noom_kill 3\n")
+    assert Group(tmp_path, version).kills() == 3
+
+
+def test_the_second_version(tmp_path: Path) -> None:
+    (tmp_path / "cgroup.subtree_control").write_text("cpu memory\n")
+    version = version_in(tmp_path)
+    assert version is not None and version.folder == tmp_path
     (tmp_path / "memory.events").write_text("low 0\nmax 3\noom 2\noom_kill 7\noom_group_kill 0\n")
-    assert kills_in(tmp_path) == 7
+    assert Group(tmp_path, version).kills() == 7
