@@ -107,19 +107,9 @@ def test_the_largest_call_of_a_known_host(site: Site) -> None:
     assert site.bodies() == []
 
 
-def test_a_stranger_gets_an_answer_to_the_front(site: Site) -> None:
-    """Also a client that sends on before it reads. The bridge reads on for 2 seconds and 1 MB. On a machine that
-    stops for longer nginx may lose the answer (502), and the client calls again.
-    """
-    front = request(key="made-up")[:80]
-    with site.begun(front, MOST) as connection:
-        assert b"Invalid or missing account key" in answer_of(connection)
-    assert any(b"Invalid or missing account key" in answer_after(site, front, 800_000) for _ in range(20))
-
-
 def answer_after(site: Site, front: str, more: int) -> bytes:
-    """Returns the answer to the front of a call if that many bytes more are sent before it is read, or nothing if
-    it was lost.
+    """Returns the answer to the front of a call if that many bytes more are sent before it is read, or
+    nothing if it was lost.
     """
     with site.begun(front, MOST) as connection:
         for _ in range(more // 100_000):
@@ -128,6 +118,16 @@ def answer_after(site: Site, front: str, more: int) -> bytes:
         response.begin()
         assert response.status in (200, 502), response.status
         return response.read() if response.status == 200 else b""
+
+
+def test_a_stranger_gets_an_answer_to_the_front(site: Site) -> None:
+    """Also a client that sends on before it reads. The bridge reads on for 2 seconds and 1 MB. On a machine
+    that stops for longer nginx may lose the answer (502), and the client calls again.
+    """
+    front = request(key="made-up")[:80]
+    with site.begun(front, MOST) as connection:
+        assert b"Invalid or missing account key" in answer_of(connection)
+    assert any(b"Invalid or missing account key" in answer_after(site, front, 800_000) for _ in range(20))
     assert site.bodies() == []
 
 
