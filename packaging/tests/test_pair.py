@@ -327,6 +327,9 @@ def test_the_files_outside_of_the_folder(tmp_path: Path) -> None:
     assert not any("others" in path for path in found)
 
 
+VOTES = "echo 'Expected votes:   3'; echo 'Highest expected: 3'; echo 'Total votes:      {total}'"
+
+
 @pytest.fixture
 def set_up(
     tmp_path: Path, alpha: None, programs: Programs, monkeypatch: pytest.MonkeyPatch
@@ -342,6 +345,7 @@ def set_up(
             place.write_text(text)
     (root / str(KEY).lstrip("/")).write_text("key")
     programs("dpkg-query", "echo 'ii |1.0-1'")
+    programs("corosync-quorumtool", VOTES.format(total=3))
     programs("crm_attribute", 'case "$4" in stonith-timeout) echo 60s;; *) echo 20;; esac')
     enabled = "|".join(["sbd", *CLUSTER])
     programs(
@@ -390,6 +394,22 @@ def test_units_that_start_outside_of_the_cluster(set_up: tuple[Path, Path], prog
     found = list(faults_of_set_up(PAIR, written, root))
     assert any(one.startswith("bsched@sums.service starts at a boot") for one in found)
     assert sum("does not start at a boot" in one for one in found) == 1 + len(CLUSTER)
+
+
+@pytest.mark.parametrize(
+    "script, fault",
+    [
+        (f"{VOTES.format(total=2)}; exit 0", "2 of 3 votes are there, and the project needs two"),
+        (f"{VOTES.format(total=1)}; exit 2", "1 of 3 votes are there, and the project needs two"),
+        ("exit 1", "Corosync does not say which votes are there"),
+    ],
+)
+def test_votes_that_are_missing(
+    set_up: tuple[Path, Path], programs: Programs, script: str, fault: str
+) -> None:
+    programs("corosync-quorumtool", script)
+    (found,) = faults_of_set_up(PAIR, *set_up)
+    assert found.startswith(fault)
 
 
 def test_packages_that_are_missing(set_up: tuple[Path, Path], programs: Programs) -> None:
