@@ -101,7 +101,11 @@ def cluster(pair: Pair, units: Iterable[Unit], folder: Path) -> str:
     """
     assert pair.vote is not None  # a pair without it is refused
     units = list(units)
-    members = " ".join(["folder", *(unit.name for unit in units), "web", "address"])
+    # in the order of their start: clients need no timer
+    services, timers = (
+        [unit.name for unit in units if unit.is_timer is is_timer] for is_timer in (False, True)
+    )
+    members = " ".join(["folder", *services, "web", "address", *timers])
     times = pair.times
     return (
         f"property stonith-enabled=true stonith-watchdog-timeout={times.fence} "
