@@ -7,9 +7,9 @@ from .units import START_SECONDS, STOP_SECONDS, Unit
 
 PORT = 7789  # of DRBD, on the link
 # The machine with the most points gets the project. One with less than none never does, so each has some.
-ANYWHERE = 2000  # of each machine
-STAY = 200  # of the machine that has the project
-BLIND = 1000  # less for one that does not see the third machine
+ANYWHERE = 20_000  # of each machine
+STAY = 200  # of the machine that has the project, for each member of the group
+BLIND = 10_000  # less for one that does not see the third machine: more than a whole group has for its stay
 
 
 def resource(pair: Pair, secret: str) -> str:
@@ -113,7 +113,7 @@ def cluster(pair: Pair, units: Iterable[Unit], folder: Path) -> str:
         f"rsc_defaults resource-stickiness={STAY} migration-threshold=3 failure-timeout=300\n"
         "primitive disk ocf:linbit:drbd params drbd_resource=bsched "
         "op start interval=0 timeout=240 op stop interval=0 timeout=100 "
-        "op monitor role=Promoted interval=5 timeout=20 op monitor role=Unpromoted interval=11 timeout=20 "
+        "op monitor role=Promoted interval=5 timeout=60 op monitor role=Unpromoted interval=11 timeout=60 "
         "op promote interval=0 timeout=90 op demote interval=0 timeout=90\n"
         "clone disks disk meta promotable=true promoted-max=1 clone-max=2 notify=true\n"
         f"primitive folder ocf:heartbeat:Filesystem params device=/dev/drbd0 directory={folder} fstype=ext4 "

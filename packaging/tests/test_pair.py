@@ -13,7 +13,7 @@ from pathlib import Path
 import pytest
 from bsched_pair import check, command, machine
 from bsched_pair.check import State, differences, faults_of_set_up, files_outside, installed_times
-from bsched_pair.files import files_of
+from bsched_pair.files import ANYWHERE, BLIND, STAY, files_of
 from bsched_pair.pair import Fault, Machine, Pair, Times, Vote
 from bsched_pair.steps import CLUSTER, INSTALLED, KEY, PACKAGES, steps
 from bsched_pair.units import Unit, possible_units, used_units
@@ -85,6 +85,12 @@ def run(folders: tuple[Path, Path], *words: str) -> int:
 def test_the_files_byte_for_byte() -> None:
     made = dict(files_of(PAIR, possible_units("sums"), HOME, "00" * 16))
     assert made == {path.name: path.read_text() for path in EXPECTED.iterdir()}
+
+
+def test_a_machine_without_the_network_of_the_clients_loses_the_project() -> None:
+    """Each member of the group counts for the machine that it is on. No machine may have less than none."""
+    members = 3 + len(possible_units("sums"))
+    assert STAY * members < BLIND < ANYWHERE
 
 
 def test_the_files_are_for_root_alone(
