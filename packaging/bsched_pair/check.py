@@ -5,7 +5,7 @@ import pwd
 import re
 import socket
 import subprocess
-from collections.abc import Iterator
+from collections.abc import Callable, Iterator
 from dataclasses import asdict, dataclass
 from pathlib import Path
 from typing import Any
@@ -58,13 +58,13 @@ class State:
         return cls(machine, versions, user, files)
 
 
-def said(*command: str) -> str:
+def said(*command: str, is_status_good: Callable[[int], bool] = lambda status: status == 0) -> str:
     """Returns what a command prints. One that fails says nothing."""
     try:
         done = subprocess.run(command, capture_output=True, text=True, timeout=ASK_SECONDS, check=False)
     except (OSError, subprocess.TimeoutExpired):
         return ""
-    return done.stdout.strip() if done.returncode == 0 else ""
+    return done.stdout.strip() if is_status_good(done.returncode) else ""
 
 
 def version_of(package: str) -> str:
@@ -163,6 +163,19 @@ def installed_times(root: Path = Path("/")) -> Times | str:
     return Times(seconds[0], -(-seconds[1] // 1000), seconds[2], seconds[3])
 
 
+def missing_votes() -> Iterator[str]:
+    """Yields that a vote is missing. Corosync answers root alone."""
+    printed = said(
+        "corosync-quorumtool", "-s", is_status_good=lambda _status: True
+    )  # without a majority it fails
+    votes = [re.search(rf"^{name} votes: +(\d+)", printed, re.MULTILINE) for name in ("Total", "Expected")]
+    total, expected = (None if one is None else int(one[1]) for one in votes)
+    if total is None or expected is None:
+        yield "Corosync does not say which votes are there: `corosync-quorumtool -s`"
+    elif total < expected:
+        yield f"{total} of {expected} votes are there, and the project needs two: `corosync-quorumtool -s`"
+
+
 def faults_of_set_up(pair: Pair, written: Path, root: Path = Path("/")) -> Iterator[str]:
     """Yields what this machine lacks. The files of the pair are in a folder."""
     name = socket.gethostname()
@@ -186,6 +199,7 @@ def faults_of_set_up(pair: Pair, written: Path, root: Path = Path("/")) -> Itera
     for unit in ("sbd", *CLUSTER):
         if not is_enabled(unit):
             yield f"{unit} does not start at a boot: `systemctl enable {unit}`"
+    yield from missing_votes()
     times = installed_times(root)
     yield from [times] if isinstance(times, str) else times.faults()
 

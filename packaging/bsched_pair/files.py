@@ -6,6 +6,10 @@ from .pair import TOKEN_MILLISECONDS, Machine, Pair
 from .units import START_SECONDS, STOP_SECONDS, Unit
 
 PORT = 7789  # of DRBD, on the link
+# The machine with the most points gets the project. One with less than none never does, so each has some.
+ANYWHERE = 20_000  # of each machine
+STAY = 200  # of the machine that has the project, for each member of the group
+BLIND = 10_000  # less for one that does not see the third machine: more than a whole group has for its stay
 
 
 def resource(pair: Pair, secret: str) -> str:
@@ -93,19 +97,23 @@ def cluster(pair: Pair, units: Iterable[Unit], folder: Path) -> str:
     """Returns the resources of Pacemaker, for `crm configure load update`. The folder of the project, its
     units, nginx and the address are one group, on the machine whose disk is the primary one. A
     machine that does not see the third one has probably lost the network of the clients: the project then
-    moves to the other machine, if that one sees it.
+    moves to the other machine, if that one sees it. What is not known yet moves nothing.
     """
     assert pair.vote is not None  # a pair without it is refused
     units = list(units)
-    members = " ".join(["folder", *(unit.name for unit in units), "web", "address"])
+    # in the order of their start: clients need no timer
+    services, timers = (
+        [unit.name for unit in units if unit.is_timer is is_timer] for is_timer in (False, True)
+    )
+    members = " ".join(["folder", *services, "web", "address", *timers])
     times = pair.times
     return (
         f"property stonith-enabled=true stonith-watchdog-timeout={times.fence} "
         f"stonith-timeout={times.stonith} no-quorum-policy=suicide\n"
-        "rsc_defaults resource-stickiness=200 migration-threshold=3 failure-timeout=300\n"
+        f"rsc_defaults resource-stickiness={STAY} migration-threshold=3 failure-timeout=300\n"
         "primitive disk ocf:linbit:drbd params drbd_resource=bsched "
         "op start interval=0 timeout=240 op stop interval=0 timeout=100 "
-        "op monitor role=Promoted interval=5 timeout=20 op monitor role=Unpromoted interval=11 timeout=20 "
+        "op monitor role=Promoted interval=5 timeout=60 op monitor role=Unpromoted interval=11 timeout=60 "
         "op promote interval=0 timeout=90 op demote interval=0 timeout=90\n"
         "clone disks disk meta promotable=true promoted-max=1 clone-max=2 notify=true\n"
         f"primitive folder ocf:heartbeat:Filesystem params device=/dev/drbd0 directory={folder} fstype=ext4 "
@@ -115,13 +123,14 @@ def cluster(pair: Pair, units: Iterable[Unit], folder: Path) -> str:
         "primitive web systemd:nginx op monitor interval=10\n"
         f"primitive address ocf:heartbeat:IPaddr2 params ip={pair.address.ip} "
         f"cidr_netmask={pair.address.network.prefixlen} op monitor interval=10\n"
-        f"primitive sight ocf:pacemaker:ping params host_list={pair.vote.address} multiplier=1000 dampen=20 "
+        f"primitive sight ocf:pacemaker:ping params host_list={pair.vote.address} multiplier=1000 dampen=30 "
         "op start interval=0 timeout=60 op monitor interval=10 timeout=60\n"
         "clone sights sight\n"
         f"group project {members}\n"
         "colocation project-with-disk inf: project disks:Promoted\n"
         "order disk-first Mandatory: disks:promote project:start\n"
-        "location project-sees-clients project rule pingd: defined pingd\n"
+        "location project-sees-clients project "
+        f"rule {ANYWHERE}: defined #uname rule -{BLIND}: defined pingd and pingd eq 0\n"
     )
 
 

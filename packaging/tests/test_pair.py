@@ -13,7 +13,7 @@ from pathlib import Path
 import pytest
 from bsched_pair import check, command, machine
 from bsched_pair.check import State, differences, faults_of_set_up, files_outside, installed_times
-from bsched_pair.files import files_of
+from bsched_pair.files import ANYWHERE, BLIND, STAY, files_of
 from bsched_pair.pair import Fault, Machine, Pair, Times, Vote
 from bsched_pair.steps import CLUSTER, INSTALLED, KEY, PACKAGES, steps
 from bsched_pair.units import Unit, possible_units, used_units
@@ -85,6 +85,12 @@ def run(folders: tuple[Path, Path], *words: str) -> int:
 def test_the_files_byte_for_byte() -> None:
     made = dict(files_of(PAIR, possible_units("sums"), HOME, "00" * 16))
     assert made == {path.name: path.read_text() for path in EXPECTED.iterdir()}
+
+
+def test_a_machine_without_the_network_of_the_clients_loses_the_project() -> None:
+    """Each member of the group counts for the machine that it is on. No machine may have less than none."""
+    members = 3 + len(possible_units("sums"))
+    assert STAY * members < BLIND < ANYWHERE
 
 
 def test_the_files_are_for_root_alone(
@@ -327,6 +333,9 @@ def test_the_files_outside_of_the_folder(tmp_path: Path) -> None:
     assert not any("others" in path for path in found)
 
 
+VOTES = "echo 'Expected votes:   3'; echo 'Highest expected: 3'; echo 'Total votes:      {total}'"
+
+
 @pytest.fixture
 def set_up(
     tmp_path: Path, alpha: None, programs: Programs, monkeypatch: pytest.MonkeyPatch
@@ -342,6 +351,7 @@ def set_up(
             place.write_text(text)
     (root / str(KEY).lstrip("/")).write_text("key")
     programs("dpkg-query", "echo 'ii |1.0-1'")
+    programs("corosync-quorumtool", VOTES.format(total=3))
     programs("crm_attribute", 'case "$4" in stonith-timeout) echo 60s;; *) echo 20;; esac')
     enabled = "|".join(["sbd", *CLUSTER])
     programs(
@@ -390,6 +400,22 @@ def test_units_that_start_outside_of_the_cluster(set_up: tuple[Path, Path], prog
     found = list(faults_of_set_up(PAIR, written, root))
     assert any(one.startswith("bsched@sums.service starts at a boot") for one in found)
     assert sum("does not start at a boot" in one for one in found) == 1 + len(CLUSTER)
+
+
+@pytest.mark.parametrize(
+    "script, fault",
+    [
+        (f"{VOTES.format(total=2)}; exit 0", "2 of 3 votes are there, and the project needs two"),
+        (f"{VOTES.format(total=1)}; exit 2", "1 of 3 votes are there, and the project needs two"),
+        ("exit 1", "Corosync does not say which votes are there"),
+    ],
+)
+def test_votes_that_are_missing(
+    set_up: tuple[Path, Path], programs: Programs, script: str, fault: str
+) -> None:
+    programs("corosync-quorumtool", script)
+    (found,) = faults_of_set_up(PAIR, *set_up)
+    assert found.startswith(fault)
 
 
 def test_packages_that_are_missing(set_up: tuple[Path, Path], programs: Programs) -> None:

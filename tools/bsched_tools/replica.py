@@ -1,4 +1,4 @@
-"""Whether both machines of a pair have the project: what DRBD and Corosync say."""
+"""Whether both machines of a pair have the project: what DRBD says."""
 import contextlib
 import os
 import re
@@ -11,7 +11,6 @@ from bsched_files.atomic import keep_file
 from bsched_files.faults import Fault
 from bsched_files.findings import Finding, Level
 from bsched_files.moments import HOUR, MOST_MOMENT
-from bsched_files.programs import run
 
 from .projects import Project, UnitSettings
 
@@ -19,8 +18,6 @@ MAJOR = 147  # of the devices of DRBD
 STATES = Path("/proc/drbd")
 MOST_BYTES = 100_000  # of /proc/drbd
 SINCE = "one-copy"  # the file in the folder of the units with the moment since when there is one copy
-QUORUM = "corosync-quorumtool"
-SECONDS = 10
 PAGE = "see docs/TWO_MACHINES.md"
 RESYNCS = (
     "SyncSource",
@@ -122,7 +119,7 @@ def text_of(moment: int | None) -> str:
 
 
 def replica(project: Project, _settings: UnitSettings) -> Iterator[Finding]:
-    """Looks whether both machines of a pair have the project, and whether the cluster has all votes."""
+    """Looks whether both machines of a pair have the project."""
     minor = minor_of(project.folder)
     if minor is None:
         return
@@ -134,22 +131,3 @@ def replica(project: Project, _settings: UnitSettings) -> Iterator[Finding]:
     is_good = (state.connection, state.disk, state.other_disk) == ("Connected", "UpToDate", "UpToDate")
     is_verified = state.connection in ("VerifyS", "VerifyT")
     yield finding_of(state, since(project, not (is_good or is_verified)))
-    yield from vote()
-
-
-def vote() -> Iterator[Finding]:
-    """Asks Corosync for the votes. It answers root alone."""
-    try:
-        printed = run([QUORUM, "-s"], SECONDS).stdout
-    except Fault:
-        return
-    expected, total = (
-        re.search(rf"^{name} votes: +(\d+)", printed, re.MULTILINE) for name in ("Expected", "Total")
-    )
-    if expected is None or total is None:
-        return
-    if int(total[1]) < int(expected[1]):
-        text = f"{total[1]} of {expected[1]} votes are there: with one less the project stops: `{QUORUM} -s`"
-        yield Finding("vote", Level.CRITICAL, text)
-    else:
-        yield Finding("vote", Level.GOOD, f"all {total[1]} votes are there")

@@ -1,4 +1,4 @@
-"""Tests what `health` says of the second machine of a pair, by texts of /proc/drbd and of Corosync."""
+"""Tests what `health` says of the second machine of a pair, by texts of /proc/drbd."""
 import os
 import time
 from pathlib import Path
@@ -6,9 +6,7 @@ from pathlib import Path
 import pytest
 from made_project import MadeProject
 
-from bsched_files.faults import Fault
 from bsched_files.findings import Finding, Level
-from bsched_files.programs import run
 from bsched_tools import replica
 from bsched_tools.projects import Project
 from bsched_tools.replica import finding_of, read_replica
@@ -23,15 +21,13 @@ SYNC = (
     "\tfinish: 0:01:32 speed: 10,000 (10,000) K/sec\n"
 )
 NOW = 1_800_000_000
-VOTES = "Quorate:          Yes\n\nExpected votes:   3\nHighest expected: 3\nTotal votes:      {}\n"
 
 
 @pytest.fixture
 def project(tmp_path: Path, monkeypatch: pytest.MonkeyPatch) -> Project:
-    """Makes a project on the first disk of DRBD, where Corosync does not answer."""
+    """Makes a project on the first disk of DRBD."""
     monkeypatch.setattr(replica, "minor_of", lambda _folder: 0)
     monkeypatch.setattr(replica, "STATES", tmp_path / "drbd")
-    monkeypatch.setattr(replica, "QUORUM", str(tmp_path / "no-program"))
     monkeypatch.setattr(time, "time", lambda: NOW)
     return Project(MadeProject(tmp_path).folder)
 
@@ -111,20 +107,3 @@ def test_the_disk_is_the_one_with_the_number() -> None:
 def test_a_finding_needs_no_moment() -> None:
     state = read_replica(GOOD, 0)
     assert state is not None and finding_of(state, None).level is Level.GOOD
-
-
-@pytest.mark.parametrize(
-    "printed, level", [(VOTES.format(3), Level.GOOD), (VOTES.format(2), Level.CRITICAL), ("", None)]
-)
-def test_votes(tmp_path: Path, monkeypatch: pytest.MonkeyPatch, printed: str, level: Level | None) -> None:
-    program = tmp_path / "quorum"
-    program.write_text(f"#!/bin/sh\ncat << END\n{printed}END\n")
-    program.chmod(0o755)
-    monkeypatch.setattr(replica, "QUORUM", str(program))
-    assert [one.level for one in replica.vote()] == ([] if level is None else [level])
-    program.write_text("#!/bin/sh\nexit 1\n")
-    assert list(replica.vote()) == []
-    program.unlink()
-    with pytest.raises(Fault):
-        run([str(program)], 10)
-    assert list(replica.vote()) == []
