@@ -1,5 +1,12 @@
 -- Promise. How an order ends: its exit status, and what its answer says of it. (This project's own: docs/PROFILE.md, "The program".)
 use Rattle.std.specs.Prelude.{◌≡◌, ℕ, List, [], ◌∷◌, ◌++◌, Result, Ok, Err, OnOk}
+use Rattle.std.specs.declared.io.ErrorKind.{ErrorKind}
+use Rattle.std.specs.declared.io.ErrorKind.TheVariants.{OutOfMemory}
+use Rattle.sqlite.specs.declared.error.Error.{Error}
+use Rattle.sqlite.specs.declared.error.Error.TheVariants as library
+use Rattle.sqlite.specs.declared.error.ErrorCode.TheVariants as code
+use Rattle.table_rows.specs.declared.opening.OpenFault.{OpenFault}
+use Rattle.table_rows.specs.declared.opening.OpenFault.TheVariants as fault
 use Rattle.http.specs.StatusCode.{IsInClass}
 use Rattle.http_responses.specs.Answers.{response_of}
 use Rattle.http_responses.specs.declared.answer.Answer.{Answer}
@@ -26,6 +33,25 @@ status_of_failure failure.File = 1
 status_of_failure failure.OldSchema = 1
 status_of_failure (failure.Line number) = 1
 status_of_failure failure.Unavailable = 2
+
+-- ---- why an order failed
+
+-- a call of the system failed: for want of memory, or else a file, a socket or a stream did
+abbrev pub failure_of_system : ErrorKind → Failure
+failure_of_system OutOfMemory = failure.Unavailable
+failure_of_system _ = failure.File
+
+-- no connection to the tables could be opened
+abbrev pub failure_of_library : Error → Failure
+failure_of_library (library.SqliteFailure code.OutOfMemory) = failure.Unavailable
+failure_of_library _ = failure.File
+
+-- the tables were refused
+abbrev pub failure_of_tables : OpenFault → Failure
+failure_of_tables fault.NotTables = failure.File
+failure_of_tables fault.BadRow = failure.File
+failure_of_tables (fault.OldSchema n) = failure.OldSchema
+failure_of_tables (fault.Unavailable cause) = failure.Unavailable
 
 -- ---- an order that sends one message
 

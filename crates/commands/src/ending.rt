@@ -1,7 +1,9 @@
 //! How an order ends.
 
 ghost use Rattle.std.specs.Prelude.{◌≡◌};
-ghost use Rattle.commands.specs.Endings.{status_of_ending, status_of_failure};
+ghost use Rattle.std.specs.IoError.{error_kind};
+ghost use Rattle.commands.specs.Endings.{status_of_ending, status_of_failure, failure_of_system, failure_of_library, failure_of_tables};
+ghost use Rattle.commands.specs.declared.ending.Failure.TheVariants as failure;
 
 use replay_lines::Ended;
 use sched_tables::OpenFault;
@@ -73,12 +75,16 @@ impl fmt::Display for Failure {
 impl std::error::Error for Failure {}
 
 impl From<Memory> for Failure {
+    ghost from_gives = { λ _ given. given ≡ failure.Unavailable };
+
     fn from(_memory: Memory) -> Failure {
         Failure::Unavailable
     }
 }
 
 impl From<io::Error> for Failure {
+    ghost from_gives = { λ error given. given ≡ failure_of_system (error_kind error) };
+
     fn from(error: io::Error) -> Failure {
         match error.kind() {
             ErrorKind::OutOfMemory => Failure::Unavailable,
@@ -88,6 +94,8 @@ impl From<io::Error> for Failure {
 }
 
 impl From<Error> for Failure {
+    ghost from_gives = { λ error given. given ≡ failure_of_library error };
+
     fn from(error: Error) -> Failure {
         match error {
             Error::SqliteFailure(ErrorCode::OutOfMemory) => Failure::Unavailable,
@@ -97,6 +105,8 @@ impl From<Error> for Failure {
 }
 
 impl From<OpenFault> for Failure {
+    ghost from_gives = { λ fault given. given ≡ failure_of_tables fault };
+
     fn from(fault: OpenFault) -> Failure {
         match fault {
             OpenFault::NotTables | OpenFault::BadRow => Failure::File,

@@ -1,6 +1,6 @@
 //! Connections, one after the other.
 
-ghost use Rattle.std.specs.Prelude.{◌≡◌, ◌≤◌, List, length, Option, OnOk, OnErr};
+ghost use Rattle.std.specs.Prelude.{◌≡◌, ◌≤◌, List, length, Option, Err, OnOk, OnErr};
 ghost use Rattle.sched_server.specs.Arrivals.{Came};
 ghost use Rattle.sched_server.specs.Serving.{ServesConnection, ServesInTurn, messages_of};
 ghost use Rattle.sched_server.specs.Views.{store_of};
@@ -57,6 +57,7 @@ pub fn serve_connections<S: Store, C: Connections>(
 ) -> Result<(), Failure>
     ensures served { (came : List (Option Came)) × IsServed C.Connections C.Reader.Source C.Writer.Sink count result came connections.old connections.new
         × ServesInTurn S.Store (messages_of came) service.old service.new }
+    ensures failure { OnErr result (result ≡ Err Failure.Unavailable) }
     ensures shut { OnErr result (S.clean (store_of service.new) → ¬ S.honest (store_of service.new)) }
 {
     let mut causes = Causes::new();

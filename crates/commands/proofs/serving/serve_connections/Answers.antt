@@ -35,5 +35,6 @@ returns-in-Ok-false g c =
             (subst (λ store. g.S.Units.reads store (store_of c.is_open.new.self)) c.take_cause-cause.ensures.store c.is_open.ensures.reads) (c.is_open.ensures.key ∙ c.take_cause-cause.ensures.key)
             (served_connection (parts_of g.S.Units g.S.Store.holds g.S.Store.clean g.S.Store.lasting g.S.Store.may_leave g.S.Store.reopens) kept.0 next.0 _ _ c.serve_next-is_unavailable.new.service kept.3 next.2),
       );
+      failure = refl;
       shut = λ clean. c.is_open.ensures.shut clean (c.in-Ok-false.is ∙ ap Ok c.in-Ok-false.field-0-test);
     }
