@@ -1,6 +1,9 @@
 """All attacks: who attacks, what it does, and what it may cost."""
 import threading
 
+from bsched_bridge.client_requests import MOST_BYTES
+from bsched_bridge.large_calls import MOST_OF_ACCOUNT
+
 from . import computers, files, forms, members, memory, operators, storage, strangers
 from .attack import Attack, Who
 from .figures import MB, Most
@@ -19,8 +22,8 @@ def wait_for_end(target: Target, ending: threading.Event) -> str:
 OF_ACCOUNT = Most(processor_seconds=10.0)
 # the same without calls, for uploads from four addresses that nginx asks about and puts off
 OF_FOUR_ADDRESSES = Most(processor_seconds=2.0)
-# large calls of accounts, next to the state file
-LARGE_CALLS = Most(processor_seconds=10.0, disk_bytes=33 * MB)
+# large calls of an account, next to the state file: as many bodies as may come at once
+LARGE_CALLS = Most(processor_seconds=10.0, disk_bytes=MOST_OF_ACCOUNT * MOST_BYTES + MB)
 # with what nginx and the bridge have of four bodies of 1 MB that are coming
 UPLOADS = Most(processor_seconds=None, disk_bytes=MOST_ACCOUNT_BYTES + 9 * MB)
 # what nginx has of eight uploads on its disk
