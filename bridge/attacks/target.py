@@ -67,7 +67,7 @@ echo good
 
 
 def replaced(path: Path, texts: dict[str, str]) -> None:
-    """Replaces texts in a file, each of which must be there."""
+    """Replaces texts in a file. Each must be there."""
     text = path.read_text()
     for old, new in texts.items():
         if old not in text:

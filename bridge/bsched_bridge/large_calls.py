@@ -88,7 +88,7 @@ class Coming:
 
 
 class Strangers:
-    """The latest calls of accounts that do not exist, or of which nobody knows whether they do."""
+    """The latest calls of accounts that do not exist, or that could not be looked up."""
 
     def __init__(self) -> None:
         self._moments = deque[float](maxlen=MANY_STRANGERS)

@@ -172,7 +172,7 @@ class App:
 
     @property
     def inputs(self) -> list[str]:
-        """The names of input files of which each workunit has one of its own."""
+        """The names of the input files that differ from workunit to workunit."""
         files = (read_input_file(item, of_app=True) for item in self._entry.entries("input_files", []))
         return [file.name for file in files if WORKUNIT in file.name]
 
