@@ -13,11 +13,18 @@ from .setting_up import FOLDER
 
 COPIES = "/root/copies"
 # the copy is made by the tools; the tables are read there, and the files of uploads where they are
-COPY = f"rm -rf {COPIES} && mkdir {COPIES} && bsched-tools copy --tables {FOLDER}/project.db --to {COPIES} --keep 1"
+COPY = (
+    f"rm -rf {COPIES} && mkdir {COPIES} && "
+    f"bsched-tools copy --tables {FOLDER}/project.db --to {COPIES} --keep 1"
+)
 RESULTS = f"bsched-tools results --tables {COPIES}"
 UPLOADS = f"cd {FOLDER}/bridge/uploads && find pending store -type f -exec sha256sum {{}} +"
-ACCOUNTS = f"python3 -c \"import sqlite3, glob; [print(*row) for row in sqlite3.connect(glob.glob('{COPIES}/*.db')[0]).execute('SELECT auth FROM account')]\""
-MEMBERS = f"python3 -c \"import sqlite3; [print(*row) for row in sqlite3.connect('file:{FOLDER}/bridge/bridge.db?mode=ro', uri=True).execute('SELECT authenticator FROM member')]\""
+SELECT = """python3 -c '
+import sqlite3, sys
+for row in sqlite3.connect(f"file:{sys.argv[1]}?mode=ro", uri=True).execute(sys.argv[2]):
+    print(*row)' """
+ACCOUNTS = f"{SELECT} {COPIES}/*.db 'SELECT auth FROM account'"
+MEMBERS = f"{SELECT} {FOLDER}/bridge/bridge.db 'SELECT authenticator FROM member'"
 UPLOADED = re.compile(r"([0-9a-f]{64})  (pending|store)/(\S+)")
 MOST_SHOWN = 10
 

@@ -1,5 +1,5 @@
-"""The events: what fails, one after the other, and what must be so meanwhile. After each the trial checks what
-must be so after all of them.
+"""The events: what fails, one after the other, and what must be so meanwhile. After each the trial checks
+what must be so after all of them.
 """
 import time
 from collections.abc import Callable
@@ -10,13 +10,20 @@ from debian_trial.debian import TrialFault
 from .comparing import answer_of, body_of_call
 from .machine import Machine
 from .networks import CLIENTS, LINK, plug_in, pull_out
-from .page import PAIR_PAGE, paragraph_of, row_of
+from .page import PAIR_PAGE, UPGRADE_PAGE, block_with, paragraph_of, row_of
 from .setting_up import FOLDER, wait_until
-from .trial import SETTLE_SECONDS, Trial, seen
+from .trial import RECENT_SECONDS, SETTLE_SECONDS, Trial, seen
 
 QUIET_SECONDS = 90  # in which nothing may move the project
-ERRORS = 'dmsetup suspend --noflush vg0-sums && dmsetup load vg0-sums --table "0 $(blockdev --getsz /dev/ubdb) error" && dmsetup resume vg0-sums'
-MENDED = ERRORS.replace("error", "linear /dev/ubdb 0")
+THAW_SECONDS = 10  # for a machine that continues: its watchdog is late, and resets it at once
+UPGRADE_SECONDS = 1800
+VOLUME = "vg0-sums"
+TABLE = (  # of the volume, which is on a disk of the machine
+    f"dmsetup suspend --noflush {VOLUME} && "
+    f'dmsetup load {VOLUME} --table "0 $(blockdev --getsz /dev/ubdb) TARGET" && dmsetup resume {VOLUME}'
+)
+ERRORS, MENDED = TABLE.replace("TARGET", "error"), TABLE.replace("TARGET", "linear /dev/ubdb 0")
+EMPTIED = "dd if=/dev/zero of=/dev/vg0/sums bs=1M oflag=direct 2> /dev/null; true"
 FILL = f"cat /dev/zero > {FOLDER}/filler 2> /dev/null; sync {FOLDER}; df --output=avail {FOLDER} | tail -n 1"
 
 
@@ -38,11 +45,26 @@ def back(trial: Trial, machine: Machine) -> None:
 
 
 def taken_over(trial: Trial, lost: Machine, since: float, what: str) -> None:
-    """Waits until the other machine serves."""
+    """Waits until the other machine serves, and a client is answered by it."""
     other = trial.other(lost)
-    wait_until(lambda: trial.active() is other, f"{other.name} serves", SETTLE_SECONDS)
-    seconds = trial.wait_until_served(since)
-    seen(f"    {what}; {other.name} serves, and the first answer came after {seconds:.0f} s")
+
+    def served() -> list[float]:
+        return [look.at for look in trial.looks(since) if look.serves and look.machine == other.name]
+
+    wait_until(served, f"{other.name} serves", SETTLE_SECONDS)
+    begun = served()[0]
+    answered = begun + trial.wait_until_served(begun)
+    seen(
+        f"    {what}; {other.name} started the scheduler after {begun - since:.0f} s, "
+        f"and the first answer came after {answered - since:.0f} s"
+    )
+
+
+def must_be_reset(machine: Machine, former: str) -> None:
+    """Checks that a machine was started anew since it had this boot."""
+    if machine.boot() == former:
+        raise TrialFault(f"{machine.name} was not reset by its watchdog")
+    seen(f"    {machine.name} was reset by its watchdog")
 
 
 def stays(trial: Trial, active: Machine, what: str) -> None:
@@ -62,8 +84,8 @@ def stays(trial: Trial, active: Machine, what: str) -> None:
 def kill(trial: Trial) -> None:
     """The machine with the project loses its power."""
     active = trial.active()
-    since = time.monotonic()
     active.kill()
+    since = time.monotonic()
     taken_over(trial, active, since, f"{active.name} lost its power")
     back(trial, active)
 
@@ -71,31 +93,35 @@ def kill(trial: Trial) -> None:
 def freeze(trial: Trial) -> None:
     """The machine with the project hangs, and continues when the other one has the project."""
     active = trial.active()
-    since = time.monotonic()
+    former = active.boot()
     active.freeze()
+    since = time.monotonic()
     taken_over(trial, active, since, f"{active.name} hangs")
     active.thaw()
-    time.sleep(10)  # its watchdog is late, and resets it at once
+    time.sleep(THAW_SECONDS)
     back(trial, active)
+    must_be_reset(active, former)
 
 
 def cut_both(trial: Trial) -> None:
     """The machine with the project loses both networks. Its watchdog resets it."""
     active = trial.active()
-    since = time.monotonic()
+    former = active.boot()
     for network in (CLIENTS, LINK):
         pull_out(active.name, network)
+    since = time.monotonic()
     taken_over(trial, active, since, f"{active.name} has no network")
     for network in (CLIENTS, LINK):
         plug_in(active.name, network)
     back(trial, active)
+    must_be_reset(active, former)
 
 
 def cut_clients(trial: Trial) -> None:
     """The machine with the project loses the network of the clients."""
     active = trial.active()
-    since = time.monotonic()
     pull_out(active.name, CLIENTS)
+    since = time.monotonic()
     taken_over(trial, active, since, f"{active.name} does not see the clients")
     plug_in(active.name, CLIENTS)
     back(trial, active)
@@ -118,20 +144,18 @@ def disk_fails(trial: Trial) -> None:
     """
     active = trial.active()
     active.run(ERRORS)
-    wait_until(
-        lambda: any("ds:Diskless/" in look.disk for look in trial.looks(time.monotonic() - 3)),
-        "the disk is detached",
-    )
+
+    def is_detached() -> bool:
+        return any("ds:Diskless/" in look.disk for look in trial.looks(time.monotonic() - RECENT_SECONDS))
+
+    wait_until(is_detached, "DRBD detaches the disk", SETTLE_SECONDS)
     stays(trial, active, f"the disk of {active.name} fails")
     active.run(MENDED)
-    active.run(
-        "dd if=/dev/zero of=/dev/vg0/sums bs=1M oflag=direct 2> /dev/null; true"
-    )  # the new one is empty
-    (command,) = [
-        code for code in paragraph_of(PAIR_PAGE.read_text("utf-8"), "A failed disk") if "drbdadm" in code
-    ]
+    active.run(EMPTIED)
+    codes = paragraph_of(PAIR_PAGE.read_text("utf-8"), "A failed disk")
+    (command,) = [code for code in codes if code.startswith("drbdadm create-md")]
     active.run(command)
-    seen(f"    the disk is replaced by {command!r}")
+    seen(f"    the disk is replaced, by {command!r}")
 
 
 def disk_fills(trial: Trial) -> None:
@@ -208,20 +232,21 @@ def move(trial: Trial) -> None:
 
 
 def upgrade(trial: Trial) -> None:
-    """The operator installs the packages again: first on the machine without the project, then on the other
-    one, while the cluster looks away.
+    """The operator installs the packages again: first on the machine without the project, then by the
+    commands of the pages on the other one, while the cluster looks away.
     """
     active = trial.active()
-    standby = trial.other(active)
-    install = "dpkg --install /root/packages/*.deb"
     page = PAIR_PAGE.read_text("utf-8")
-    aside = row_of(page, "Every day", "edit by hand, with the cluster looking away")
-    standby.run(install)
-    active.run(aside[0])
-    active.run(install)
-    since = time.monotonic()
-    trial.wait_until_served(since)
-    active.run(aside[0].replace("true", aside[1]))
+    aside, false = row_of(page, "Every day", "edit by hand, with the cluster looking away")
+    commands = block_with(UPGRADE_PAGE.read_text("utf-8"), "Upgrading", "systemctl stop")
+    commands = commands.replace("apt-get install /root/", "apt-get install --reinstall /root/packages/")
+    commands = commands.replace(" /root/bsched-tools", " /root/packages/bsched-tools")
+    (install,) = [line for line in commands.splitlines() if line.startswith("apt-get install")]
+    trial.other(active).run(install.removesuffix(" &&"), UPGRADE_SECONDS)
+    active.run(aside)
+    active.run(commands, UPGRADE_SECONDS)
+    trial.wait_until_served(time.monotonic())
+    active.run(aside.replace("true", false))
     stays(trial, active, "the packages are installed again on both")
 
 

@@ -20,9 +20,11 @@ KEYS = """
 install -d -m 700 /root/.ssh
 ssh-keygen -q -t ed25519 -N '' -f /root/.ssh/id_ed25519
 cp /root/.ssh/id_ed25519.pub /root/.ssh/authorized_keys
-printf 'StrictHostKeyChecking no\\nUserKnownHostsFile /dev/null\\nLogLevel ERROR\\n' > /etc/ssh/ssh_config.d/trial.conf
+printf 'StrictHostKeyChecking no\\nUserKnownHostsFile /dev/null\\nLogLevel ERROR\\n' \
+  > /etc/ssh/ssh_config.d/trial.conf
 printf 'UseDNS no\\nMaxSessions 50\\nMaxStartups 50\\n' > /etc/ssh/sshd_config.d/trial.conf
-printf '127.0.0.1 localhost\\n10.77.0.1 alpha\\n10.77.0.2 beta\\n10.77.0.3 gamma\\n10.77.0.100 HOST\\n' > /etc/hosts
+printf '%s\\n' '127.0.0.1 localhost' '10.77.0.1 alpha' '10.77.0.2 beta' '10.77.0.3 gamma' '10.77.0.100 HOST' \
+  > /etc/hosts
 """
 CERTIFICATE = """
 install -d -m 700 /etc/letsencrypt/live/HOST
@@ -32,9 +34,12 @@ openssl req -x509 -newkey ec -pkeyopt ec_paramgen_curve:prime256v1 -nodes -days 
 """
 UNITS = """
 systemctl enable me.service observe.service
-systemctl mask systemd-timesyncd.service apt-daily.timer apt-daily-upgrade.timer e2scrub_all.timer fstrim.timer \
-  dpkg-db-backup.timer getty@tty1.service serial-getty@.service systemd-networkd-wait-online.service
-install -d /var/log/journal
+systemctl mask systemd-timesyncd.service systemd-networkd-wait-online.service getty@tty1.service \
+  serial-getty@.service apt-daily.timer apt-daily-upgrade.timer e2scrub_all.timer fstrim.timer \
+  dpkg-db-backup.timer
+install -d /var/log/journal /etc/systemd/system.conf.d
+printf '[Manager]\\nDefaultTimeoutStartSec=900s\\nDefaultTimeoutStopSec=300s\\n' \
+  > /etc/systemd/system.conf.d/trial.conf
 echo '/dev/ubda / ext4 rw,noatime 0 0' > /etc/fstab
 rm -f /etc/resolv.conf /usr/sbin/policy-rc.d
 """

@@ -173,6 +173,10 @@ class Machine:
             raise TrialFault(f"{self.name}: {command}: status {done.returncode}\n{done.stdout[-3000:]}")
         return done.stdout
 
+    def boot(self) -> str:
+        """Returns the name of its boot, which no other one has."""
+        return self.run("cat /proc/sys/kernel/random/boot_id").strip()
+
     def is_up(self) -> bool:
         """Returns whether it answers."""
         try:

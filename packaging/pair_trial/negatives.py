@@ -1,5 +1,5 @@
-"""Trials that must fail: a pair whose settings are wrong, and the event that shows it. If the trial found nothing
-there, it would find nothing elsewhere.
+"""Trials that must fail: a pair whose settings are wrong, and the event that shows it. If the trial found
+nothing there, it would find nothing elsewhere.
 """
 import time
 from collections.abc import Callable

@@ -1,7 +1,7 @@
 """The networks between the machines. A cable can be pulled out of its switch, and be plugged in again."""
 from debian_trial.debian import run
 
-# a switch for each network: of the clients, the link between the two, and that of the trial, which nothing cuts
+# a switch for each network: of the clients, the link between the two, and that of the trial, which stays
 CLIENTS, LINK, TRIAL = "clients", "link", "trial"
 NETWORKS = (CLIENTS, LINK, TRIAL)
 HERE = 254  # the trial's own number in the networks of the clients and of the trial

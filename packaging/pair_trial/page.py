@@ -7,6 +7,7 @@ from pathlib import Path
 DOCS = Path(__file__).resolve().parent.parent.parent / "docs"
 PAIR_PAGE = DOCS / "TWO_MACHINES.md"
 PROJECT_PAGE = DOCS / "SET_UP.md"
+UPGRADE_PAGE = DOCS / "NEXT_FILE.md"
 BOTH = "both"
 
 
@@ -38,12 +39,17 @@ def section_of(text: str, heading: str) -> str:
     return rest.partition("\n## ")[0]
 
 
-def block_of(text: str, heading: str) -> str:
-    """Returns the first block of commands in a section."""
-    found = re.search(r"^```sh\n(.*?)^```$", section_of(text, heading), re.MULTILINE | re.DOTALL)
-    if found is None:
-        raise PageFault(f"the section {heading!r} has no commands")
-    return found[1]
+def blocks_of(text: str, heading: str) -> list[str]:
+    """Returns the blocks of commands in a section."""
+    return re.findall(r"^```sh\n(.*?)^```$", section_of(text, heading), re.MULTILINE | re.DOTALL)
+
+
+def block_with(text: str, heading: str, begin: str = "") -> str:
+    """Returns the first block of commands in a section that begins with some words."""
+    for block in blocks_of(text, heading):
+        if block.startswith(begin):
+            return block
+    raise PageFault(f"the section {heading!r} has no commands that begin with {begin!r}")
 
 
 def codes_of(text: str) -> list[str]:

@@ -6,16 +6,22 @@ from collections.abc import Callable
 from debian_trial.debian import TrialFault
 
 from .machine import Machine
-from .page import PAIR_PAGE, PROJECT_PAGE, block_of, printed_commands, section_of, steps_of
+from .page import PAIR_PAGE, PROJECT_PAGE, block_with, printed_commands, section_of, steps_of
 
-APP, PROGRAM, BATCH, INPUTS = "letters", "/root/letters.sh", "first", "/root/inputs"
-JOBS = 3000  # more than the clients of a trial do
+PROGRAM = "/root/numbers.sh"
+JOBS = 10_000  # more than the clients of a trial do
+WORDS = {  # in the commands that bsched-project prints
+    "APP": "numbers",
+    "PROGRAM": f"{PROGRAM} --command-lines",
+    "BATCH": "first",
+    "INPUTS": f"--sweep number=1..{JOBS} --hours 0.003 --quorum 1",
+}
 FOLDER = "/var/lib/bsched/sums"
 SETTINGS = f"{FOLDER}/bridge/bridge.toml"
 # the disk of the trial is small, and its clients make more accounts than a young project gets on a day
 EDITS = (
-    f"sed -i -e 's/^most_a_day = .*/most_a_day = 10000/' -e 's/^# free_bytes = [0-9_]*/free_bytes = 4_000_000/' "
-    f"{SETTINGS}"
+    "sed -i -e 's/^most_a_day = .*/most_a_day = 10000/' "
+    f"-e 's/^# free_bytes = [0-9_]*/free_bytes = 4_000_000/' {SETTINGS}"
 )
 NGINX_FILES = (
     "/etc/nginx/conf.d/bsched-limits.conf",
@@ -52,19 +58,11 @@ class SettingUp:
 
     def make_project(self) -> None:
         """Makes the project on the first machine by the page, with an application and work."""
-        make = block_of(PROJECT_PAGE.read_text(encoding="utf-8"), "Settings and URL")
+        make = block_with(PROJECT_PAGE.read_text(encoding="utf-8"), "Settings and URL")
         printed = self.alpha.run(make, WAIT_SECONDS)
-        self.alpha.run(
-            f"{EDITS} && printf '#!/bin/sh\\ncat in > out\\n' > {PROGRAM} && chmod 755 {PROGRAM} && "
-            f"mkdir {INPUTS} && cd {INPUTS} && for n in $(seq {JOBS}); do echo $n > part_$n; done"
-        )
+        self.alpha.run(f"{EDITS} && printf '#!/bin/sh\\necho $1 > out\\n' > {PROGRAM} && chmod 755 {PROGRAM}")
         commands = printed_commands(printed)
-        for word, value in (
-            ("APP", APP),
-            ("PROGRAM", PROGRAM),
-            ("BATCH", BATCH),
-            ("INPUTS", f"--hours 0.003 --quorum 1 {INPUTS}"),
-        ):
+        for word, value in WORDS.items():
             commands = re.sub(rf"\b{word}\b", value, commands)
         nginx = "bsched-project nginx sums\n"
         if nginx not in commands:
@@ -79,7 +77,7 @@ class SettingUp:
         """Runs the command of the page, and the steps that it prints. Returns the command of the last step,
         which compares the machines.
         """
-        command = block_of(self.page, "Set up").strip()
+        command = block_with(self.page, "Set up").strip()
         printed = self.alpha.run(f"{command} {self.options}")
         steps = steps_of(printed, ("alpha", "beta"), "gamma")
         if [step.number for step in steps] != list(range(1, 9)):

@@ -7,13 +7,13 @@ from debian_trial.debian import TrialFault
 
 from .comparing import compare
 from .machine import KINDS, Machine
-from .networks import NETWORKS, make_networks
+from .networks import make_networks
 from .notes import Notes, first_after, longest_pause
 from .observing import Look, Observer, both_at_once
 from .setting_up import wait_until
 from .volunteers import Volunteers
 
-CLIENTS = 3
+CLIENTS = 2
 SETTLE_SECONDS = 1800  # for the clients to be served, and for both disks to have all
 CALM_SECONDS = 15.0  # in which clients are served before an event
 PAIR = ("alpha", "beta")

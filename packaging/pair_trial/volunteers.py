@@ -20,7 +20,7 @@ from .notes import Account, Notes, Report, Upload
 
 PORT = 443
 ANSWER_SECONDS = 30  # without an answer the message is sent again
-PAUSE_SECONDS = 0.5  # between two messages of a client
+PAUSE_SECONDS = 1.0  # between two messages of a client
 AGAIN_SECONDS = 1.0
 MOST_ANSWER_BYTES = 4_000_000
 MOST_JOBS = 3  # that a client reports in one call

@@ -1,5 +1,5 @@
-"""Tests what packaging/try_pair does without machines: how it reads pages and what programs print, its table of
-events, the notes of its clients and their comparison, and what it takes for two schedulers.
+"""Tests what packaging/try_pair does without machines: how it reads pages and what programs print, its table
+of events, the notes of its clients and their comparison, and what it takes for two schedulers.
 """
 import subprocess
 from pathlib import Path
@@ -21,7 +21,7 @@ from pair_trial.observing import STALE_SECONDS, Look, both_at_once, read_look
 from pair_trial.page import (
     PageFault,
     Part,
-    block_of,
+    block_with,
     paragraph_of,
     printed_commands,
     row_of,
@@ -43,7 +43,7 @@ ACCOUNT = Account("v1@sums.example", "ab" * 16, "key-1")
 
 
 def test_the_command_of_the_page_names_the_machines_of_the_trial() -> None:
-    command = block_of(PAIR_PAGE, "Set up")
+    command = block_with(PAIR_PAGE, "Set up")
     assert command.startswith("bsched-project pair sums ")
     for name, kind in KINDS.items():
         assert f"{name}=10.77.0.{kind.number}" in command
@@ -65,7 +65,7 @@ def test_the_page_has_the_commands_of_the_operator() -> None:
     "read",
     [
         lambda: section_of(PAIR_PAGE, "No such section"),
-        lambda: block_of(PAIR_PAGE, "Every day"),
+        lambda: block_with(PAIR_PAGE, "Every day"),
         lambda: row_of(PAIR_PAGE, "Every day", "no such row"),
         lambda: paragraph_of(PAIR_PAGE, "No such paragraph"),
     ],
