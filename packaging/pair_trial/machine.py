@@ -1,4 +1,5 @@
 """A machine of User Mode Linux: a kernel that is a process, with disks that are files."""
+import contextlib
 import os
 import signal
 import subprocess
@@ -16,6 +17,7 @@ BOOT_SECONDS = 900  # at most: a starved machine is no failure
 COMMAND_SECONDS = 600
 DISK_BYTES = 192 << 20
 ASK_SECONDS = 60
+MOST_TRIES = 100
 VOTERS = "corosync-qnetd"
 CLUSTER = ("corosync", "corosync-qdevice", "pacemaker", "sbd", "drbd", "nginx")
 
@@ -86,6 +88,7 @@ class Machine:
             f"ubd0={self.folder / 'system'},{self.work / 'base.img'}",
             *([f"ubd1={self.folder / 'disk'}"] if self.kind.has_disk else []),
             *("root=/dev/ubda", "rw", f"pairname={self.name}", "con=null", "con0=null,fd:2", "con1=null"),
+            "noreboot",  # a kernel that starts itself again hangs here: the trial does it
             *(f"systemd.mask={unit}.service" for unit in self.kind.masked),
         ]
         for network in self.kind.networks:
@@ -97,6 +100,7 @@ class Machine:
 
     def start(self) -> None:
         """Switches the machine on, and does not wait for it."""
+        self.end_processes()
         self.reconnect()
         log = (self.folder / "console.log").open("ab")
         with log:
@@ -105,20 +109,23 @@ class Machine:
             )
 
     def kill(self) -> None:
-        """Takes the power away: nothing of it does one more step."""
-        for _ in range(20):
+        """Takes the power away: nothing of it does one more step, and it does not start by itself."""
+        process, self.process = self.process, None
+        self.end_processes()
+        if process is not None:
+            process.wait(ASK_SECONDS)
+
+    def end_processes(self) -> None:
+        """Ends all processes of the machine. One that is left would keep its networks."""
+        for _ in range(MOST_TRIES):
             numbers = numbers_of(self.mark)
-            for number in numbers:
-                try:
-                    os.kill(number, signal.SIGKILL)
-                except ProcessLookupError:
-                    continue
             if not numbers:
-                break
+                return
+            for number in numbers:
+                with contextlib.suppress(ProcessLookupError):
+                    os.kill(number, signal.SIGKILL)
             time.sleep(0.1)
-        if self.process is not None:
-            self.process.wait(ASK_SECONDS)
-            self.process = None
+        raise TrialFault(f"{self.name} does not end")
 
     def freeze(self) -> None:
         """Stops all that it does, as it is. The programs of the machine are traced by its kernel, and get no
@@ -138,6 +145,11 @@ class Machine:
     def is_on(self) -> bool:
         """Whether its process runs."""
         return self.process is not None and self.process.poll() is None
+
+    @property
+    def is_reset(self) -> bool:
+        """Whether it ended by itself, as its watchdog lets it, and was not switched off."""
+        return self.process is not None and self.process.poll() is not None
 
     # ---- Commands
 
@@ -188,8 +200,6 @@ class Machine:
         """Waits until commands can be run in it."""
         until = time.monotonic() + BOOT_SECONDS
         while not self.is_up():
-            if not self.is_on:
-                raise TrialFault(f"{self.name} ended while it started: see {self.folder / 'console.log'}")
             if time.monotonic() > until:
                 raise TrialFault(f"{self.name} does not start: see {self.folder / 'console.log'}")
             time.sleep(2)

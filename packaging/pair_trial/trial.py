@@ -1,6 +1,7 @@
 """The machines with the project, the clients and the observer: what the events work with."""
+import threading
 import time
-from collections.abc import Callable
+from collections.abc import Callable, Iterable
 from pathlib import Path
 
 from debian_trial.debian import TrialFault
@@ -20,6 +21,7 @@ PAIR = ("alpha", "beta")
 GOOD_DISK = "cs:Connected ro:Primary/Secondary ds:UpToDate/UpToDate"
 ALONE = "cs:StandAlone"  # DRBD found two generations, and connects no more
 RECENT_SECONDS = 3.0
+LOOK_SECONDS = 1.0
 FENCED = "drbd-fence-by-handler"  # what a fencing writes into the cluster, and a resync takes away
 began = time.monotonic()
 
@@ -29,6 +31,27 @@ def seen(text: str) -> None:
     print(f"{time.monotonic() - began:7.1f} s  {text}", flush=True)
 
 
+class Power(threading.Thread):
+    """Starts the machines again that their watchdogs reset, as the firmware of a computer does."""
+
+    def __init__(self, machines: Iterable[Machine]):
+        super().__init__(name="power", daemon=True)
+        self.machines, self.ending = list(machines), threading.Event()
+
+    def run(self) -> None:
+        """Looks at the machines until the trial ends."""
+        while not self.ending.wait(LOOK_SECONDS):
+            for machine in self.machines:
+                if machine.is_reset:
+                    seen(f"    {machine.name} was reset, and starts again")
+                    machine.start()
+
+    def end(self) -> None:
+        """Starts no machine any more."""
+        self.ending.set()
+        self.join()
+
+
 class Trial:
     """Three machines, the clients of their project, and what was seen of them."""
 
@@ -36,6 +59,7 @@ class Trial:
         self.work = work
         self.machines = {name: Machine(name, work) for name in KINDS}
         self.notes = Notes(work / "notes.jsonl")
+        self.power = Power(self.machines.values())
         self.observer: Observer | None = None
         self.volunteers: Volunteers | None = None
 
@@ -48,6 +72,7 @@ class Trial:
         self.observer.start()
         for machine in self.machines.values():
             machine.start()
+        self.power.start()
         for machine in self.machines.values():
             machine.wait_until_up()
         seen("three machines run")
@@ -62,6 +87,8 @@ class Trial:
         """Ends the clients and the machines."""
         if self.volunteers is not None:
             self.volunteers.end()
+        if self.power.is_alive():
+            self.power.end()
         for machine in self.machines.values():
             machine.kill()
         self.notes.close()
