@@ -1,6 +1,7 @@
 """Tests what packaging/try_pair does without machines: how it reads pages and what programs print, its table
 of events, the notes of its clients and their comparison, and what it takes for two schedulers.
 """
+import re
 import subprocess
 from pathlib import Path
 
@@ -48,6 +49,12 @@ def test_the_command_of_the_page_names_the_machines_of_the_trial() -> None:
     for name, kind in KINDS.items():
         assert f"{name}=10.77.0.{kind.number}" in command
     assert "--disk /dev/vg0/sums" in command
+
+
+def test_the_page_of_an_upgrade_has_its_commands() -> None:
+    commands = block_with(page.UPGRADE_PAGE.read_text(encoding="utf-8"), "Upgrading", "systemctl stop")
+    assert len(re.findall(r"^apt-get install /root/bsched_", commands, re.MULTILINE)) == 1
+    assert "bsched upgrade" in commands and "systemctl start bsched@sums" in commands
 
 
 def test_the_page_has_the_commands_of_the_operator() -> None:
