@@ -60,7 +60,7 @@ machines must have the packages bsched and bsched-tools. Stop nothing before ste
 3. On both: Debian's packages have started a cluster of each machine alone. It ends, and the
 files come into their places. Until the cluster runs, the disk must not ask it.
 
-  systemctl stop pacemaker corosync && rm -f /var/lib/pacemaker/cib/*
+  systemctl disable --now pacemaker corosync && rm -f /var/lib/pacemaker/cib/*
   cd {written}
   sed s/resource-and-stonith/dont-care/ bsched.res | install -m 600 /dev/stdin {INSTALLED["bsched.res"]}
   install -m 644 corosync.conf {INSTALLED["corosync.conf"]}

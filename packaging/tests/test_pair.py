@@ -148,7 +148,7 @@ def test_the_commands_are_those_of_a_shell() -> None:
     for package in PACKAGES:
         assert package in printed
     # a cluster that Debian started with its own settings ends before it gets these
-    stop = printed.index("systemctl stop pacemaker corosync")
+    stop = printed.index("systemctl disable --now pacemaker corosync")
     assert stop < printed.index(" /etc/corosync/corosync.conf\n")
     # writes may ask the cluster only once it runs
     assert printed.index("dont-care") < printed.index("systemctl start corosync") < printed.index("adjust")
