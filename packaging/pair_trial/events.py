@@ -36,10 +36,10 @@ class Event:
     happen: Callable[[Trial], None]
 
 
-def back(trial: Trial, machine: Machine) -> None:
-    """Brings a machine back, if it does not run."""
+def back(machine: Machine) -> None:
+    """Switches a machine on, if it is off, and waits until it runs."""
     machine.reconnect()
-    if not machine.is_on:
+    if machine.is_off:
         machine.start()
     machine.wait_until_up()
 
@@ -87,7 +87,7 @@ def kill(trial: Trial) -> None:
     active.kill()
     since = time.monotonic()
     taken_over(trial, active, since, f"{active.name} lost its power")
-    back(trial, active)
+    back(active)
 
 
 def freeze(trial: Trial) -> None:
@@ -99,7 +99,7 @@ def freeze(trial: Trial) -> None:
     taken_over(trial, active, since, f"{active.name} hangs")
     active.thaw()
     time.sleep(THAW_SECONDS)
-    back(trial, active)
+    back(active)
     must_be_reset(active, former)
 
 
@@ -113,7 +113,7 @@ def cut_both(trial: Trial) -> None:
     taken_over(trial, active, since, f"{active.name} has no network")
     for network in (CLIENTS, LINK):
         plug_in(active.name, network)
-    back(trial, active)
+    back(active)
     must_be_reset(active, former)
 
 
@@ -124,7 +124,7 @@ def cut_clients(trial: Trial) -> None:
     since = time.monotonic()
     taken_over(trial, active, since, f"{active.name} does not see the clients")
     plug_in(active.name, CLIENTS)
-    back(trial, active)
+    back(active)
 
 
 def cut_link(trial: Trial) -> None:
@@ -178,7 +178,7 @@ def vote_away(trial: Trial) -> None:
     active, gamma = trial.active(), trial.machines["gamma"]
     gamma.kill()
     stays(trial, active, "gamma is away")
-    back(trial, gamma)
+    back(gamma)
 
 
 def standby_first(trial: Trial) -> None:
@@ -191,14 +191,14 @@ def standby_first(trial: Trial) -> None:
     stays(trial, active, f"{standby.name} lost its power")
     active.kill()
     since = time.monotonic()
-    back(trial, standby)
+    back(standby)
     time.sleep(2 * QUIET_SECONDS)
     if any(look.serves for look in trial.looks(since)):
         raise TrialFault(f"{standby.name} has older data, and serves")
     seen(
         f"    {active.name} lost its power, too; {standby.name} came back, and does not serve its older data"
     )
-    back(trial, active)
+    back(active)
     trial.wait_until_served(since)
     seen(f"    {active.name} came back, and the project runs")
 
@@ -212,7 +212,7 @@ def both(trial: Trial) -> None:
     for machine in machines:
         machine.start()
     for machine in machines:
-        back(trial, machine)
+        back(machine)
     seconds = trial.wait_until_served(since)
     seen(f"    both lost their power and came back; the first answer came after {seconds:.0f} s")
 

@@ -142,9 +142,9 @@ class Machine:
                 os.kill(number, signal.SIGCONT)
 
     @property
-    def is_on(self) -> bool:
-        """Whether its process runs."""
-        return self.process is not None and self.process.poll() is None
+    def is_off(self) -> bool:
+        """Whether it was switched off, or never on. One that was reset starts by itself."""
+        return self.process is None
 
     @property
     def is_reset(self) -> bool:

@@ -45,7 +45,7 @@ def lose_at_once(trial: Trial) -> None:
     since = time.monotonic()
     active.kill()
     taken_over(trial, active, since, f"{active.name} lost its power")
-    back(trial, active)
+    back(active)
 
 
 def write_alone(trial: Trial) -> None:
@@ -58,7 +58,7 @@ def write_alone(trial: Trial) -> None:
     taken_over(trial, active, since, f"{active.name} has no network, and writes")
     for network in (CLIENTS, LINK):
         plug_in(active.name, network)
-    back(trial, active)
+    back(active)
 
 
 NEGATIVES = (
