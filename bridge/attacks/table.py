@@ -1,8 +1,8 @@
 """All attacks: who attacks, what it does, and what it may cost."""
 import threading
 
-from bsched_bridge.client_requests import MOST_BYTES
-from bsched_bridge.large_calls import MOST_OF_ACCOUNT
+from bsched_bridge.exchange.large_calls import MOST_OF_ACCOUNT
+from bsched_bridge.requests.client_requests import MOST_BYTES
 
 from . import computers, files, forms, members, memory, operators, storage, strangers
 from .attack import Attack, Who

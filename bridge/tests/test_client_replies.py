@@ -9,16 +9,16 @@ from messages import FIRST, jobs, request
 from plain_replies import PlainReplies
 from twin import Twin
 
-from bsched_bridge.catalogue import App, Catalogue, FileFolder, MissingFile, StoredFile, Version
-from bsched_bridge.catalogue import VersionFile, Work
-from bsched_bridge.client_replies import ReplyWriter
-from bsched_bridge.client_requests import ClientRequest, read_request
-from bsched_bridge.exchange import PutOff
-from bsched_bridge.plan_classes import PlanClass
-from bsched_bridge.preferences import Preferences
-from bsched_bridge.recent_credit import Recent
-from bsched_bridge.scheduler import Job, Reply
-from bsched_bridge.upload_tokens import UploadTokens
+from bsched_bridge.catalogue.contents import App, Catalogue, FileFolder, MissingFile, StoredFile, Version
+from bsched_bridge.catalogue.contents import VersionFile, Work
+from bsched_bridge.exchange.answers import PutOff
+from bsched_bridge.exchange.client_replies import ReplyWriter
+from bsched_bridge.people.recent_credit import Recent
+from bsched_bridge.requests.client_requests import ClientRequest, read_request
+from bsched_bridge.requests.plan_classes import PlanClass
+from bsched_bridge.requests.preferences import Preferences
+from bsched_bridge.scheduler.messages import Job, Reply
+from bsched_bridge.uploads.tokens import UploadTokens
 from bsched_files.catalogue import Bounds, InputFile, OutputFile
 
 written = Preferences.written

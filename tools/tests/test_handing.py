@@ -11,7 +11,7 @@ import pytest
 from small_project import END, PACKAGES
 from work_project import WorkProject
 
-from bsched_bridge.upload_tables import UploadTables
+from bsched_bridge.uploads.tables import UploadTables
 
 DATA = b"the output of w1\n"
 SHA256 = hashlib.sha256(DATA).hexdigest()

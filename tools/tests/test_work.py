@@ -21,7 +21,7 @@ from served import free_port
 from small_project import TOOLS, rows_of, tools
 from work_project import CATALOGUE, PLATFORM, WorkProject
 
-from bsched_bridge.code_signing import file_md5, read_private_key, signature_text, write_new_keys
+from bsched_bridge.common.code_signing import file_md5, read_private_key, signature_text, write_new_keys
 from bsched_files import counts
 from bsched_files.faults import Fault
 from bsched_tools import __main__, apps, catalogue_file, looks, projects, submitting
