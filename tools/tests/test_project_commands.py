@@ -16,7 +16,7 @@ from bsched_bridge.people.barring import Barring
 from bsched_bridge.people.members import Members, first_heard
 from bsched_files.faults import Fault
 from bsched_tools import imports, projects
-from bsched_tools.copies import turn
+from bsched_tools.copies.folder import turn
 from bsched_tools.import_files import read_import
 
 

@@ -1,4 +1,5 @@
-"""New results for a program of the operator (BOINC: an assimilator). Each run hands on what is new.
+"""The command `process`: new results for a program of the operator (BOINC: an assimilator). Each run hands on
+what is new.
 
 The cursor is written after the program has taken the results. So no result is lost at a stop, and some may
 come twice: the program recognizes a result by its name. A workunit with a spoiled file is left out, and comes
@@ -11,7 +12,7 @@ from bsched_files.faults import Fault
 from bsched_files.programs import run
 
 from .catalogue_file import output_names_of
-from .copies import turn
+from .copies.folder import turn
 from .projects import Project, UnitSettings
 from .results import write_results
 

@@ -11,7 +11,7 @@ from pathlib import Path
 from bsched_files.faults import Fault
 from bsched_files.tables import check_file, connected, faults_of, schema_fault
 
-from .holders import PROC, descriptors_of
+from .copies.holders import PROC, descriptors_of
 
 # on a quiet machine (docs/MEASURED.md, "Openings, imports and upgrades")
 ROWS_A_SECOND = 50_000

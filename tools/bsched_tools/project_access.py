@@ -1,5 +1,5 @@
-"""Looks at a project that do not disturb it: who may look, whether its scheduler answers, and a copy of its
-tables that is taken for one look.
+"""Access to a project that does not disturb it: who may use it, whether its scheduler answers, and a copy of
+its tables that is taken for one look.
 """
 import fcntl
 import http.client
@@ -15,8 +15,8 @@ from bsched_files.moments import moment_text
 from bsched_files.tables import Tables, opened
 
 from . import projects
-from .copies import work_folder
-from .copying import copy_tables
+from .copies.copying import copy_tables
+from .copies.folder import work_folder
 from .projects import NO_MEMBER, Project
 
 ASK_SECONDS = 15.0

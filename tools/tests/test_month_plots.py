@@ -6,7 +6,7 @@ from pathlib import Path
 
 from bsched_files.moments import DAY
 from bsched_tools.history import Entry
-from bsched_tools.month import last_of_days, results_a_day, write_month
+from bsched_tools.month_plots import last_of_days, results_a_day, write_month
 
 NOW = 20_000 * DAY + 7200
 

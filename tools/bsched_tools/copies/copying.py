@@ -17,7 +17,7 @@ from bsched_files.copies import copy_name, log_of
 from bsched_files.faults import Fault
 from bsched_files.programs import run
 
-from .copies import place, remove_older, turn, work_folder
+from .folder import place, remove_older, turn, work_folder
 from .taking import Taken, Work, source_of, take
 
 TURN_SECONDS = 60.0  # how long to wait for another copy of the same tables
