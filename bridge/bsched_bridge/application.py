@@ -59,7 +59,7 @@ from .uploads.digest_queue import DigestQueue
 from .uploads.handed_out import HandedOut
 from .uploads.messages import CHECK_PATH as UPLOAD_CHECK_PATH
 from .uploads.messages import PATH as UPLOAD_PATH
-from .uploads.messages import Uploads
+from .uploads.messages import UploadMessages
 from .uploads.owners import UploadOwners
 from .uploads.report_checks import ReportChecks
 from .uploads.store import UploadStore, open_store
@@ -99,10 +99,10 @@ class Application:
         self.account_places = AccountPlaces(Places(half, self.places))
         self.upload_places = Places(half, self.places)
         waiting = Places(half + UPLOADS_WAITING)
-        self.uploads: Uploads | None = None
+        self.uploads: UploadMessages | None = None
         if store is not None:
             owners = UploadOwners(HandedOut(store.tables), partial(is_barred, barring, self.rules))
-            self.uploads = Uploads(store, owners, self.upload_places, waiting, measured.uploads)
+            self.uploads = UploadMessages(store, owners, self.upload_places, waiting, measured.uploads)
         self.downloads = Downloads(current, Places(half, self.places), settings.retry_delay)
         self.accounts: Accounts | None = None
         if settings.accounts is not None and key is not None:

@@ -3,6 +3,7 @@ import json
 from decimal import Decimal
 from xml.etree.ElementTree import Element, SubElement
 
+from bsched_bridge.accounts.messages import add, written
 from bsched_bridge.catalogue.contents import App, Catalogue, MissingFile, Version, Work
 from bsched_bridge.catalogue.output_files import upload_name
 from bsched_bridge.common.languages import ENGLISH, Language
@@ -15,8 +16,6 @@ from bsched_bridge.exchange.client_replies import (
     STATUS,
     Files,
     NeededFile,
-    add,
-    written,
 )
 from bsched_bridge.people.recent_credit import Recent
 from bsched_bridge.requests.client_requests import ClientRequest

@@ -6,20 +6,19 @@ account_out with a key, or an error with a number and a text. The client would t
 """
 import logging
 from collections.abc import Callable
-from xml.etree.ElementTree import Element, SubElement
+from xml.etree.ElementTree import Element, SubElement, indent, tostring
 
 from werkzeug.exceptions import HTTPException
 from werkzeug.wrappers import Request, Response
 
 from bsched_files.project_settings import Settings
-from bsched_files.texts import is_word
+from bsched_files.texts import is_word, xml_text
 
 from ..catalogue.contents import Catalogue
 from ..common.http_messages import NO_STORE, XML, answer, log_fault, query_of, refuse_browsers
 from ..common.languages import ENGLISH, Language, language_of
 from ..common.limits import is_loopback, network_of
 from ..common.words import in_small_letters
-from ..exchange.client_replies import add, written
 from ..requests.plan_classes import split
 from ..scheduler.messages import NoAnswer, Scheduler
 from .actions import AccountFault, AccountPlaces, Accounts, Fault
@@ -28,6 +27,19 @@ from .actions import AccountFault, AccountPlaces, Accounts, Fault
 LEAST_PASSWORD = 6
 
 log = logging.getLogger(__name__)
+
+
+def add(parent: Element, name: str, value: object) -> None:
+    """Adds an element with a text."""
+    SubElement(parent, name).text = xml_text(str(value))
+
+
+def written(root: Element) -> bytes:
+    """Returns the text of an element."""
+    indent(root, "    ")
+    # as a str: the encoder of ElementTree takes longer than all else
+    text: str = tostring(root, encoding="unicode", short_empty_elements=False)
+    return f"{text}\n".encode()
 
 
 def client_of(message: Request, address_field: str | None) -> str:

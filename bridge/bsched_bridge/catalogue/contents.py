@@ -40,7 +40,7 @@ MOST_KNOWN = 10_000  # files whose MD5 is kept
 
 
 @dataclass(frozen=True, slots=True)
-class StoredFile:
+class DownloadFile:
     """A file that clients may download."""
 
     name: str
@@ -52,7 +52,7 @@ class StoredFile:
 class VersionFile:
     """A file of a version, with its signature; the client runs the main program."""
 
-    file: StoredFile
+    file: DownloadFile
     signature: str
     is_main_program: bool
     is_executable: bool  # the client lets it run: the main program, and programs that the main program starts
@@ -122,7 +122,7 @@ class FileFolder:
 
     def __init__(self, path: Path, has_uploads: bool = False, former: "FileFolder | None" = None) -> None:
         self.path, self.has_uploads = path, has_uploads
-        self._known: OrderedDict[tuple[str, int, int], StoredFile] = OrderedDict()
+        self._known: OrderedDict[tuple[str, int, int], DownloadFile] = OrderedDict()
         self._lock = threading.Lock()
         if former is not None and former.path == path:
             self._known, self._lock = former._known, former._lock
@@ -134,7 +134,7 @@ class FileFolder:
             raise MissingFile(name)
         return path
 
-    def stored(self, name: str) -> StoredFile:
+    def stored(self, name: str) -> DownloadFile:
         """Returns a file with its size and MD5. The MD5 is computed again after the file was changed. It is
         kept for the files that were read last.
         """
@@ -145,7 +145,7 @@ class FileFolder:
             with self._lock:
                 known = self._known.get(key)
             if known is None:
-                known = StoredFile(name, status.st_size, file_md5(path))
+                known = DownloadFile(name, status.st_size, file_md5(path))
                 with self._lock:
                     self._known[key] = known
                     while len(self._known) > MOST_KNOWN:

@@ -24,7 +24,7 @@ ONE_THREAD_FOR_A_FILE = "gunicorn"
 MOST_RANGE = 100  # characters of a field that asks for a part
 
 
-class SentFile:
+class OpenDownload:
     """A file that calls a function when the server closes it."""
 
     def __init__(self, file: BinaryIO, on_close: Callable[[], None]) -> None:
@@ -82,7 +82,7 @@ class Downloads:
         except (MissingFile, OSError):
             raise NotFound from None
         try:
-            return file_answer(message, cast(BinaryIO, SentFile(file, on_close)))
+            return file_answer(message, cast(BinaryIO, OpenDownload(file, on_close)))
         except BaseException:
             file.close()
             raise

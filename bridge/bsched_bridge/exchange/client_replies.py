@@ -8,11 +8,10 @@ import logging
 from collections.abc import Callable
 from dataclasses import dataclass
 from functools import partial
-from xml.etree.ElementTree import Element, SubElement, indent, tostring
 
-from bsched_files.texts import credit_number, xml_text
+from bsched_files.texts import credit_number
 
-from ..catalogue.contents import App, Catalogue, MissingFile, StoredFile, Version, Work
+from ..catalogue.contents import App, Catalogue, DownloadFile, MissingFile, Version, Work
 from ..catalogue.output_files import upload_name
 from ..common.languages import ENGLISH, LANGUAGES, Language, Text, gettext_lazy, gettext_noop
 from ..people.recent_credit import Recent
@@ -50,7 +49,7 @@ log = logging.getLogger(__name__)
 class NeededFile:
     """A file that a client downloads for its jobs."""
 
-    file: StoredFile
+    file: DownloadFile
     signature: str | None  # input files have none
     is_executable: bool
 
@@ -59,22 +58,6 @@ Files = dict[str, NeededFile]  # by name
 
 
 AGAIN_SECONDS = 120  # within which a client calls again whose reports were put off
-
-# ---- Answers of a few elements, which come once for each account
-
-
-def add(parent: Element, name: str, value: object) -> None:
-    """Adds an element with a text."""
-    SubElement(parent, name).text = xml_text(str(value))
-
-
-def written(root: Element) -> bytes:
-    """Returns the text of an element."""
-    indent(root, "    ")
-    # as a str: the encoder of ElementTree takes longer than all else
-    text: str = tostring(root, encoding="unicode", short_empty_elements=False)
-    return f"{text}\n".encode()
-
 
 # ---- Replies
 

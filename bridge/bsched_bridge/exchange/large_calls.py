@@ -60,7 +60,7 @@ class Refused(Exception):
         self.put_off = put_off
 
 
-class Coming:
+class ComingBody:
     """A body that comes. Raises BadRequest if it comes too slowly, or breaks off."""
 
     def __init__(self, stream: Stream, length: int) -> None:
@@ -136,7 +136,7 @@ class LargeCalls:
         """Yields the body of a call, once all of it has come. Raises Refused, RequestFault, NoPlace or
         BadRequest.
         """
-        coming, ends = Coming(stream, length), time.monotonic() + MORE_SECONDS + length / LEAST_RATE
+        coming, ends = ComingBody(stream, length), time.monotonic() + MORE_SECONDS + length / LEAST_RATE
         authenticator, front = coming.front()
         self._check(authenticator)
         with self._turn(authenticator), tempfile.TemporaryFile(dir=self.folder) as file:

@@ -57,7 +57,7 @@ WHAT_ENDS_MEAN = {
 
 
 @dataclass(frozen=True, slots=True)
-class Part:
+class ProjectPart:
     """A part of the project, and whether it works."""
 
     name: str
@@ -66,7 +66,7 @@ class Part:
 
 
 @dataclass(frozen=True, slots=True)
-class Ended:
+class CallEnds:
     """How many calls ended in one way."""
 
     text: str
@@ -230,18 +230,18 @@ class Board:
             has_copies=overview.findings is not None and overview.findings.newest_copy is not None,
         )
 
-    def _parts(self, overview: Overview) -> Iterator[Part]:
+    def _parts(self, overview: Overview) -> Iterator[ProjectPart]:
         """Yields the parts of the project, as far as the bridge can know them."""
         unit = "" if self.settings.project is None else f": systemctl status bsched@{self.settings.project}"
         probe, since = overview.scheduler, overview.silent_since
         if probe.is_answered:
             took = "" if probe.seconds is None else f" in {1000 * probe.seconds:.1f} ms"
-            yield Part("scheduler", "good", f"answers{took}")
+            yield ProjectPart("scheduler", "good", f"answers{took}")
         else:
             when = "" if since is None else f" since {moment_text(since)} UTC"
-            yield Part("scheduler", "critical", f"gives no answer{when} ({probe.why}){unit}")
+            yield ProjectPart("scheduler", "critical", f"gives no answer{when} ({probe.why}){unit}")
         started = self.overviews.measurements.started_at
-        yield Part("bridge", "good", f"serves since {moment_text(started)} UTC")
+        yield ProjectPart("bridge", "good", f"serves since {moment_text(started)} UTC")
         yield from self._catalogue_parts(overview)
         for timer in overview.timers:
             yield self._timer_part(timer, overview.moment)
@@ -250,34 +250,34 @@ class Board:
             health = Timer("health", at, overview.moment - at > HEALTH_SECONDS)
             yield self._timer_part(health, overview.moment)
         if not overview.timers:
-            yield Part("timers", "unknown", "this bridge is in no folder of bsched-project")
+            yield ProjectPart("timers", "unknown", "this bridge is in no folder of bsched-project")
 
-    def _catalogue_parts(self, overview: Overview) -> Iterator[Part]:
+    def _catalogue_parts(self, overview: Overview) -> Iterator[ProjectPart]:
         """Yields what is wrong with the catalogue and its digest programs, and with reports."""
         if overview.faults.edit is None:
-            yield Part("catalogue", "good", "the last edit counts")
+            yield ProjectPart("catalogue", "good", "the last edit counts")
         else:
-            yield Part("catalogue", "critical", f"it stays as it was: {overview.faults.edit}")
+            yield ProjectPart("catalogue", "critical", f"it stays as it was: {overview.faults.edit}")
         for name, text in sorted(overview.faults.digests.items()):
-            yield Part(f"digest program of {name}", "critical", f"its reports wait: {text}")
+            yield ProjectPart(f"digest program of {name}", "critical", f"its reports wait: {text}")
         fault = self.overviews.measurements.put_offs.latest_fault()
         if fault is not None:
             when, text = fault
             is_new = overview.moment - when < PUT_OFF_SECONDS
             text = f"put off last {age_text(overview.moment - when)}: {text}"
-            yield Part("reports", "warning" if is_new else "good", text)
+            yield ProjectPart("reports", "warning" if is_new else "good", text)
 
-    def _timer_part(self, timer: Timer, now: float) -> Part:
+    def _timer_part(self, timer: Timer, now: float) -> ProjectPart:
         """Returns whether a timer elapses."""
         name, unit = f"timer of {timer.name}", f"bsched-{timer.name}@{self.settings.project}.timer"
         if timer.last is None:
-            return Part(name, "unknown", f"it never elapsed: systemctl enable --now {unit}")
+            return ProjectPart(name, "unknown", f"it never elapsed: systemctl enable --now {unit}")
         text = f"elapsed {age_text(now - timer.last)}"
         if timer.is_late:
-            return Part(name, "warning", f"{text}: systemctl status {unit}")
-        return Part(name, "good", text)
+            return ProjectPart(name, "warning", f"{text}: systemctl status {unit}")
+        return ProjectPart(name, "good", text)
 
-    def _ends(self) -> Iterator[Ended]:
+    def _ends(self) -> Iterator[CallEnds]:
         """Yields how many calls ended in each way."""
         calls = self.overviews.measurements.calls
         spans: list[tuple[Tally, float]] = [calls.latest(MINUTES), calls.latest(HOUR_MINUTES)]
@@ -285,7 +285,7 @@ class Board:
         for end, text in WHAT_ENDS_MEAN.items():
             if all_ends[end] or end is End.ANSWERED:
                 minute, hour = (f"{tally.ends[end] / minutes:,.1f}" for tally, minutes in spans)
-                yield Ended(text, minute, hour, all_ends[end])
+                yield CallEnds(text, minute, hour, all_ends[end])
 
     def _rooms(self, overview: Overview) -> Iterator[Room]:
         """Yields how much is left of each limit."""

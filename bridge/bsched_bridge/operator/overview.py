@@ -38,7 +38,7 @@ class Disk:
 
 
 @dataclass(frozen=True, slots=True)
-class Uploads:
+class UploadFigures:
     """What the folder of uploads has."""
 
     pending: int  # files whose results are not reported yet
@@ -56,7 +56,7 @@ class Overview:
     open_calls: int  # that have no answer yet
     open_imports: int  # of accounts, likewise
     disks: dict[str, Disk]  # by what the bridge has there
-    uploads: Uploads | None  # None without [uploads]
+    uploads: UploadFigures | None  # None without [uploads]
     new_accounts: Limit | None  # in 24 hours; None without [accounts]
     limits: dict[str, Limit]  # of the tables
     findings: Findings | None  # of bsched-tools health
@@ -131,10 +131,10 @@ class Overviews:
         return Limit(self._count(MADE_BETWEEN, now - DAY, now), accounts.most_a_day)
 
 
-def uploads_of(store: UploadStore) -> Uploads:
+def uploads_of(store: UploadStore) -> UploadFigures:
     """Returns what the folder of uploads has."""
     pending, largest = store.tables.row(PENDING), store.tables.row(LARGEST)
-    return Uploads(
+    return UploadFigures(
         cast(int, pending[0]) if pending else 0,
         Limit(store.tables.used(), store.settings.most_bytes),
         Limit(cast(int, largest[0]) if largest else 0, store.settings.most_account_bytes),

@@ -30,7 +30,7 @@ BAR = 1000  # the width of the bar in its own units
 
 
 @dataclass(frozen=True, slots=True)
-class Part:
+class BarPart:
     """A part of the bar that shows how far the work is."""
 
     name: str  # that of its words
@@ -44,7 +44,7 @@ class Part:
 class Progress:
     """How far the work is."""
 
-    parts: list[Part]
+    parts: list[BarPart]
     total: int
     counted_at: float
 
@@ -75,7 +75,7 @@ def progress_of(units: UnitCounts | None) -> Progress | None:
     for name, count in counts.items():
         width = BAR * count / total
         colour = "waiting" if name in ("open", "stuck") else name
-        parts.append(Part(name, colour, count, round(first, 2), round(width, 2)))
+        parts.append(BarPart(name, colour, count, round(first, 2), round(width, 2)))
         first += width
     return Progress(parts, total, units.counted_at)
 

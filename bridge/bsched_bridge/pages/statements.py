@@ -18,7 +18,7 @@ from ..common.limits import NoPlace, Places, RecentCounts
 from ..people.archives import Archives
 from ..people.directory import Computer
 from ..people.hosts import HeardHost
-from ..people.hosts import Hosts as KnownHosts
+from ..people.hosts import Hosts
 from ..people.members import Members
 from ..people.recent_credit import RecentCredit
 from ..scheduler.messages import NoAnswer, Scheduler
@@ -51,7 +51,7 @@ class HostStatus:
 
 
 @dataclass(frozen=True, slots=True)
-class Hosts:
+class HostStatuses:
     """The status of some hosts."""
 
     hosts: list[HostStatus]
@@ -63,7 +63,7 @@ class Hosts:
 class AccountStatus:
     """The status of an account."""
 
-    recent: Hosts  # its hosts that called last
+    recent: HostStatuses  # its hosts that called last
     credit: int  # of all its hosts, in millicredits
     average: float | None = None  # its recent average credit; None if the operator has no file of it
 
@@ -85,7 +85,7 @@ class Result:
 class Status:
     """The status of the project."""
 
-    recent: Hosts  # the hosts that called last
+    recent: HostStatuses  # the hosts that called last
     units: UnitCounts | None
     silent_since: float | None  # since when bsched gives no answer
     users: dict[str, tuple[int, str]]  # the number and the name of each host's user
@@ -166,7 +166,7 @@ class Statements:
 
     def __init__(
         self,
-        hosts: KnownHosts,
+        hosts: Hosts,
         members: Members,
         scheduler: Scheduler,
         operator_key: str | None,
@@ -300,20 +300,20 @@ class Statements:
         cpids = self.hosts.cpids(authenticator).values()
         return self.recent.of_hosts((authenticator, cpid) for cpid in cpids)
 
-    def _hosts(self, heard: list[HeardHost]) -> Hosts:
+    def _hosts(self, heard: list[HeardHost]) -> HostStatuses:
         """Reads the status of hosts. Without an answer, or without the operator's key, only what replies said
         is known.
         """
         if self.operator_key is not None:
             try:
-                return Hosts(self._with_results(heard, self.operator_key), True, time.time())
+                return HostStatuses(self._with_results(heard, self.operator_key), True, time.time())
             except NoAnswer:
                 pass
         return self._heard_only(heard)
 
-    def _heard_only(self, heard: list[HeardHost]) -> Hosts:
+    def _heard_only(self, heard: list[HeardHost]) -> HostStatuses:
         """Returns the status of hosts without their results."""
-        return Hosts([self._without_results(host) for host in heard], False, time.time())
+        return HostStatuses([self._without_results(host) for host in heard], False, time.time())
 
     def _without_results(self, host: HeardHost) -> HostStatus:
         """Returns the status of a host without results in bsched's file, or whose results are not known."""

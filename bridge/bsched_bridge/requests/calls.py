@@ -16,7 +16,7 @@ def written_length(value: object) -> int:
     return len(_written(value).encode()) + COMMA
 
 
-def told_report(report: Report) -> dict[str, object]:
+def profile_report(report: Report) -> dict[str, object]:
     """Returns a report as the profile writes it."""
     return {"name": report.name, "exit_status": report.exit_status, "output": report.output}
 
@@ -28,7 +28,7 @@ def reports_that_fit(request: ClientRequest, room: int, by_name: bool) -> int:
     names = [written_length(report.name) if by_name else 0 for report in request.results]
     room -= sum(names)
     for count, (report, name) in enumerate(zip(request.results[:MOST_REPORTS], names)):
-        room -= written_length(told_report(report)) - name
+        room -= written_length(profile_report(report)) - name
         if room < 0:
             return count
     return min(len(request.results), MOST_REPORTS)
@@ -73,7 +73,11 @@ def whole_text(
     """Returns the text of a call with all reports and all names. If they don't fit, returns None."""
     if len(results) > MOST_REPORTS or len(other or ()) > MOST_OTHER_RESULTS:
         return None
-    whole: dict[str, object] = {**record, "other_results": other, "results": list(map(told_report, results))}
+    whole: dict[str, object] = {
+        **record,
+        "other_results": other,
+        "results": list(map(profile_report, results)),
+    }
     if other is None:
         del whole["other_results"]
     text = _written(whole).encode()
@@ -98,5 +102,5 @@ def text_that_fits(record: dict[str, object], request: ClientRequest, other: lis
         del record["other_results"]
     else:
         record["other_results"] = other
-    record["results"] = [told_report(report) for report in request.results[:count]]
+    record["results"] = [profile_report(report) for report in request.results[:count]]
     return _written(record).encode()

@@ -31,7 +31,7 @@ from ..common.limits import NoPlace, Places
 from ..people.measurements import UploadCounts, UploadEnd
 from .owners import Ended, Owner, UploadOwners
 from .room import NotNow
-from .store import SentFile, UploadStore
+from .store import AnnouncedFile, UploadStore
 from .tokens import UploadTokens
 
 PATH = "file_upload_handler"  # of the URL; the client takes a URL without this word for that of a download
@@ -60,7 +60,7 @@ class BadMessage(Exception):
 class Head:
     """The head of an upload."""
 
-    file: SentFile
+    file: AnnouncedFile
     max_nbytes: int
     token: str
     offset: int
@@ -92,7 +92,7 @@ def read_head(begin: bytes) -> Head:
     md5 = member_of(text, "md5_cksum")
     if not MD5.fullmatch(md5):
         raise BadMessage("md5_cksum is not an MD5")
-    file = SentFile(member_of(text, "name"), number_of(text, "nbytes"), md5)
+    file = AnnouncedFile(member_of(text, "name"), number_of(text, "nbytes"), md5)
     max_nbytes, offset = number_of(text, "max_nbytes"), number_of(text, "offset")
     return Head(file, max_nbytes, member_of(text, "xml_signature"), offset, length + len(DATA))
 
@@ -142,7 +142,7 @@ def blocks_of(begin: bytes, body: Body) -> Iterator[bytes]:
         yield block
 
 
-class Uploads:
+class UploadMessages:
     """Answers the messages of uploads. Only so many receive a file, and some more wait for a place."""
 
     def __init__(

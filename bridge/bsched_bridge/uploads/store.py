@@ -45,7 +45,7 @@ log = logging.getLogger(__name__)
 
 
 @dataclass(frozen=True, slots=True)
-class SentFile:
+class AnnouncedFile:
     """What the head of an upload says about its file."""
 
     name: str
@@ -153,7 +153,7 @@ class UploadStore:
 
     # ---- Receiving
 
-    def receive(self, sent: SentFile, owner: Owner, blocks: Iterable[bytes]) -> None:
+    def receive(self, sent: AnnouncedFile, owner: Owner, blocks: Iterable[bytes]) -> None:
         """Receives a file of an owner. When it returns, the file is on the disk, and a stop does not lose it.
         Raises NotNow if there is no room for it, or if the bytes are not those that the head says.
         """
@@ -393,7 +393,7 @@ def secret_in(folder: Path) -> bytes:
     return read_secret(path)
 
 
-def write_file(path: Path, sent: SentFile, blocks: Iterable[bytes]) -> str:
+def write_file(path: Path, sent: AnnouncedFile, blocks: Iterable[bytes]) -> str:
     """Writes a file and syncs it. Returns its SHA-256. Raises NotNow if it is not the file of the head."""
     md5, sha256, nbytes = hashlib.md5(usedforsecurity=False), hashlib.sha256(), 0
     with open(os.open(path, os.O_WRONLY | os.O_CREAT | os.O_EXCL, FILE_MODE), "wb") as file:
