@@ -427,6 +427,7 @@ def test_old_counts_and_surplus_keys_are_forgotten(monkeypatch: pytest.MonkeyPat
     counts.give_back("a")
     now[0] = 59.0
     assert [counts.take("a") for _ in range(2)] == [True, False]
+    assert counts.has("a") and not counts.has("b")
     now[0] = 60.0
     assert [counts.take("a") for _ in range(2)] == [True, False]
     monkeypatch.setattr("bsched_bridge.common.limits.MOST_KEYS", 3)
@@ -435,6 +436,7 @@ def test_old_counts_and_surplus_keys_are_forgotten(monkeypatch: pytest.MonkeyPat
     counts.give_back("d")
     assert counts.take("e") and list(counts._times) == ["b", "c", "e"]
     now[0] = 121.0
+    assert not counts.has("e")
     assert counts.take("e") and list(counts._times) == ["e"]
     counts.give_back("nobody")
 

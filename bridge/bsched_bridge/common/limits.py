@@ -95,6 +95,12 @@ class RecentCounts:
             self._times.move_to_end(key)
             return True
 
+    def has(self, key: Hashable) -> bool:
+        """Returns whether a key did something within the last seconds."""
+        with self._lock:
+            times = self._times.get(key)
+            return times is not None and times[-1] > self.clock() - self.seconds
+
     def _forget(self, until: float) -> None:
         """Forgets the keys that did nothing since a moment. The one that did nothing for longest is first."""
         while self._times:

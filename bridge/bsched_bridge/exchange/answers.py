@@ -248,6 +248,14 @@ class Exchange:
         except NoAnswer:
             return PutOff(NO_ANSWER, self.retry_delay, is_down=True, end=End.NO_ANSWER)
 
+    def refusal_before_reading(self, authenticator: str) -> PutOff | None:
+        """Returns what a client reads whose account is refused, if a host of the account was refused within
+        the last minute, or else None. So only such an account is looked up twice.
+        """
+        if not self._logged.has(authenticator):
+            return None
+        return self._refused(authenticator, self.barring.reason(authenticator))
+
     def _log_refused(self, host: ClientRequest | Key, why: str) -> None:
         """Logs that a host is refused: one line in a minute for an account, whose hosts may call without an
         end.

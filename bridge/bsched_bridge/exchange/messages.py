@@ -95,11 +95,11 @@ class SchedulerMessages:
                     checked = self.large.checked(blocks, length)
                 with self.places.taken(0.0 if self.exchange.scheduler.is_slow else PLACE_SECONDS):
                     checked, authenticator = with_key(checked)
-                    self._check_vain(authenticator)
+                    self._check_account(authenticator)
                     asked = self.reader.read(checked, length)
                     if asked.authenticator != authenticator:
                         authenticator = asked.authenticator
-                        self._check_vain(authenticator)
+                        self._check_account(authenticator)
                     catalogue = self.catalogue()
                     request = catalogue.by_resource(asked)
                     answered = self.exchange.answer(request)
@@ -126,9 +126,13 @@ class SchedulerMessages:
         body = writer.reply(request, reply, answered.hostid, answered.notice, recent, language)
         return body, End.ANSWERED
 
-    def _check_vain(self, authenticator: str | None) -> None:
-        """Raises Refused if the calls of an account are put off."""
-        refused = None if authenticator is None else self.vain.refusal_of(authenticator)
+    def _check_account(self, authenticator: str | None) -> None:
+        """Raises Refused if the calls of an account are put off, or if it was refused just before: an account
+        that is barred may call without an end.
+        """
+        if authenticator is None:
+            return
+        refused = self.vain.refusal_of(authenticator) or self.exchange.refusal_before_reading(authenticator)
         if refused is not None:
             raise Refused(refused)
 
