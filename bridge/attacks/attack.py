@@ -34,6 +34,8 @@ class Attack:
     run: Callable[[Target, threading.Event], str]
     may: Most = Most()
     attackers: int = 1  # addresses of strangers, or accounts, among which the processor's time is counted
+    # the processor's time is counted for a whole minute from the beginning, with what may come at once
+    is_by_minute: bool = False
     is_short: bool = (
         False  # it ends by itself, so nothing is counted by the minute and no volunteer comes meanwhile
     )

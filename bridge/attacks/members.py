@@ -128,13 +128,13 @@ def bar(target: Target) -> None:
     settings.write_text(f'barred = ["{ATTACKER}"]\n{settings.read_text()}')
 
 
-def call_barred(target: Target, ending: threading.Event) -> str:
-    """Sends calls of an account that is barred, from 16 addresses."""
+def call_barred(target: Target, ending: threading.Event, addresses: int = 16) -> str:
+    """Sends calls of an account that is barred, from so many addresses."""
     turns = iter(range(10**9))
 
     def act(number: int) -> str:
         body = request(key=ATTACKER, cpid=f"barred{next(turns)}", seconds=60)
-        status, reply = asked(target, address_of(number), "POST", "/cgi", body)
+        status, reply = asked(target, address_of(number % addresses), "POST", "/cgi", body)
         through(b"<user_name>" in reply, "a computer of a barred account is served")
         return str(status)
 

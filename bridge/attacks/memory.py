@@ -8,7 +8,7 @@ from contextlib import contextmanager
 from dataclasses import dataclass
 from pathlib import Path
 
-from bsched_bridge.digest_programs import FIRST_TO_END
+from bsched_bridge.catalogue.digest_programs import FIRST_TO_END
 from trial.behind_nginx import UNIT
 from trial.programs import TOP, TrialFault
 from uploading import file_info, report

@@ -2,6 +2,9 @@
 
 For ALONE_SECONDS only the attackers send messages, and the processor's time is counted. Then honest
 volunteers come, too. Memory and disk are measured all the time.
+
+If more may come at once than later on, the first minute is the dearest. For such an attack the processor's
+time is counted for a whole minute, from its beginning.
 """
 import shutil
 import tempfile
@@ -84,6 +87,18 @@ class Attacking(threading.Thread):
             self.faults.append("the attack does not end")
 
 
+def processor_seconds(attacking: Attacking, times: int) -> float:
+    """Begins an attack. Returns how many processor seconds it takes in a minute."""
+    target, is_by_minute = attacking.target, attacking.attack.is_by_minute
+    began, before = time.monotonic(), target.processor_time()
+    attacking.start()
+    if not is_by_minute:
+        attacking.join(SETTLE_SECONDS)
+        began, before = time.monotonic(), target.processor_time()
+    attacking.join(MINUTE if is_by_minute else times * ALONE_SECONDS)
+    return (target.processor_time() - before) * MINUTE / (time.monotonic() - began)
+
+
 def attacked(attack: Attack, target: Target, times: int = 1) -> Ended:
     """Does an attack on a project that runs, and measures it."""
     process = None if attack.is_short else Process(Volunteers(target))
@@ -92,16 +107,12 @@ def attacked(attack: Attack, target: Target, times: int = 1) -> Ended:
         target.bridge_memory()
         attacking, watch = Attacking(attack, target), Watch(target)
         watch.start()
-        attacking.start()
         used, served = None, {}
         if process is None:
+            attacking.start()
             attacking.join(SHORT_SECONDS)
         else:
-            attacking.join(SETTLE_SECONDS)
-            began, before = time.monotonic(), target.processor_time()
-            attacking.join(times * ALONE_SECONDS)
-            seconds = time.monotonic() - began
-            used = (target.processor_time() - before) * MINUTE / seconds / attack.attackers
+            used = processor_seconds(attacking, times) / attack.attackers
             if target.scheduler.process is not None and target.scheduler.process.poll() is None:
                 served = process.served(times * SERVED_SECONDS)
         attacking.end(END_SECONDS)

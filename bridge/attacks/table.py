@@ -1,8 +1,9 @@
 """All attacks: who attacks, what it does, and what it may cost."""
 import threading
+from functools import partial
 
-from bsched_bridge.client_requests import MOST_BYTES
-from bsched_bridge.large_calls import MOST_OF_ACCOUNT
+from bsched_bridge.exchange.large_calls import MOST_OF_ACCOUNT
+from bsched_bridge.requests.client_requests import MOST_BYTES
 
 from . import computers, files, forms, members, memory, operators, storage, strangers
 from .attack import Attack, Who
@@ -17,13 +18,19 @@ def wait_for_end(target: Target, ending: threading.Event) -> str:
     return "how busy the machine is"
 
 
-# The calls in vain of an account may take 2 seconds of a processor in a minute. Besides them each of its 16
-# addresses may take half a second for those that are put off.
-OF_ACCOUNT = Most(processor_seconds=10.0)
-# the same without calls, for uploads from four addresses that nginx asks about and puts off
-OF_FOUR_ADDRESSES = Most(processor_seconds=2.0)
-# large calls of an account, next to the state file: as many bodies as may come at once
-LARGE_CALLS = Most(processor_seconds=10.0, disk_bytes=MOST_OF_ACCOUNT * MOST_BYTES + MB)
+def of_account(addresses: int, disk_bytes: int = MB) -> Most:
+    """Returns what an account may take in a minute from so many addresses. Its calls in vain may take 2
+    seconds of a processor, and each address a quarter of a second for calls that are refused: in its first
+    minute nginx passes 160 of them on, and one takes less than 1.5 milliseconds.
+    """
+    return Most(processor_seconds=2.0 + 0.25 * addresses, disk_bytes=disk_bytes)
+
+
+OF_ACCOUNT = of_account(16)
+# for what is refused: calls, or uploads that nginx asks about and puts off
+OF_FOUR_ADDRESSES = Most(processor_seconds=1.0)
+# next to the state file: as many bodies of an account as may come at once
+LARGE_BODIES = MOST_OF_ACCOUNT * MOST_BYTES + MB
 # with what nginx and the bridge have of four bodies of 1 MB that are coming
 UPLOADS = Most(processor_seconds=None, disk_bytes=MOST_ACCOUNT_BYTES + 9 * MB)
 # what nginx has of eight uploads on its disk
@@ -51,6 +58,7 @@ ATTACKS = (
         Who.STRANGER,
         "sends calls of accounts that do not exist, from one address, as often as nginx lets it",
         strangers.make_accounts_up,
+        is_by_minute=True,
     ),
     Attack(
         "made-up-accounts-while-down",
@@ -138,6 +146,7 @@ ATTACKS = (
         "begins 32 uploads of its own jobs from four addresses, and sends a byte of each every five seconds",
         members.drip_own_uploads,
         OF_FOUR_ADDRESSES,
+        is_by_minute=True,
     ),
     Attack(
         "uploads-at-once",
@@ -167,20 +176,23 @@ ATTACKS = (
         "asks for work that there is not, from 16 addresses, as often as nginx lets them",
         members.ask_in_vain,
         OF_ACCOUNT,
+        is_by_minute=True,
     ),
     Attack(
         "unreadable-calls",
         Who.MEMBER,
         "sends calls of 240 kB that can't be read, from 16 addresses",
         members.send_unreadable,
-        LARGE_CALLS,
+        of_account(16, LARGE_BODIES),
+        is_by_minute=True,
     ),
     Attack(
         "hostile-xml-of-account",
         Who.MEMBER,
         "sends calls of up to 16 MB of hostile XML, from eight addresses, 32 at once",
         strangers.send_shapes,
-        LARGE_CALLS,
+        of_account(8, LARGE_BODIES),
+        is_by_minute=True,
         accounts=(strangers.SHAPE_KEY,),
     ),
     Attack(
@@ -189,6 +201,7 @@ ATTACKS = (
         "attaches computers without an end, from 16 addresses; it may have 100",
         members.attach_many,
         OF_ACCOUNT,
+        is_by_minute=True,
     ),
     Attack(
         "barred-account",
@@ -196,6 +209,16 @@ ATTACKS = (
         "sends calls from 16 addresses, as often as nginx lets them, after it was barred",
         members.call_barred,
         OF_ACCOUNT,
+        is_by_minute=True,
+        prepare=members.bar,
+    ),
+    Attack(
+        "barred-from-four-addresses",
+        Who.MEMBER,
+        "does so from four addresses",
+        partial(members.call_barred, addresses=ADDRESSES),
+        OF_FOUR_ADDRESSES,
+        is_by_minute=True,
         prepare=members.bar,
     ),
     Attack(

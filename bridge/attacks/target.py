@@ -13,9 +13,9 @@ import time
 from collections.abc import Iterable
 from pathlib import Path
 
-from bsched_bridge.handed_out import HandedJob, HandedOut
-from bsched_bridge.hosts import Key
-from bsched_bridge.upload_tables import UploadTables
+from bsched_bridge.people.hosts import Key
+from bsched_bridge.uploads.handed_out import HandedJob, HandedOut
+from bsched_bridge.uploads.tables import UploadTables
 from bsched_files.catalogue import OutputFile
 from trial import project
 from trial.behind_nginx import Project

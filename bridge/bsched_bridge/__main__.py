@@ -12,15 +12,17 @@ from bsched_files.ports import MOST_PORT, Ports, is_port, set_ports
 from bsched_files.project_settings import PRINTED, Settings, most_upload, printed, read_settings
 from bsched_files.toml_entries import OperatorFault, OperatorFile
 
-from . import client_requests, sweep_command, uploads_command
 from .application import UPLOADS_WAITING, new_application
-from .catalogue import App, read_catalogue
-from .code_signing import KeyFault, file_md5, read_private_key, signature_text, write_new_keys
-from .digest_programs import DigestFault, DigestProgram, check_digest, tried_on_odd_files
-from .operator_orders import ORDERS, OrderFault, add_orders, run_order
-from .scheduler import WRONG_KEY, NoAnswer, Scheduler
-from .state_file import StateFault
-from .upload_store import check_uploads
+from .catalogue.contents import App, read_catalogue
+from .catalogue.digest_programs import DigestFault, DigestProgram, check_digest, tried_on_odd_files
+from .common.code_signing import KeyFault, file_md5, read_private_key, signature_text, write_new_keys
+from .common.state_file import StateFault
+from .operator import uploads_command
+from .operator.orders import ORDERS, OrderFault, add_orders, run_order
+from .requests import client_requests
+from .scheduler.messages import WRONG_KEY, NoAnswer, Scheduler
+from .uploads import sweep_command
+from .uploads.store import check_uploads
 
 FAULT = 1
 SET_PORTS = "gives the project of the settings another port of the scheduler, and another one of the bridge"

@@ -14,56 +14,56 @@ from bsched_files.counts import counts_in
 from bsched_files.operator_state import PATH as OPERATOR_STATE
 from bsched_files.project_settings import HostRules, Settings, read_settings
 
-from .account_messages import AccountMessages, project_config
-from .account_pages import AccountPages
-from .accounts import AccountPlaces, Accounts
-from .archives import read_archives
-from .barring import Barring, is_barred
-from .board import Board
-from .call_numbers import CallNumbers
-from .catalogue import Catalogue
-from .client_replies import ReplyWriter
-from .credit_days import CreditDays
-from .current_catalogue import CatalogueFaults, CatalogueReader
-from .digest_queue import DigestQueue
-from .directory import Directory
-from .downloads import Downloads
-from .exchange import Exchange, PutOff, Resending
-from .handed_out import HandedOut
-from .host_rules import HostRuleReader
-from .host_search import HostSearch
-from .hosts import Hosts
-from .http_messages import TEXT, XML, Message, answer, is_of_this_machine, log_fault, plain_answer
-from .large_calls import LargeCalls
-from .limits import Places
-from .measurements import Measurements
-from .members import Members
-from .metrics import Metrics
-from .operator_key import OperatorKey
-from .operator_state import OperatorState
-from .overview import Overviews
-from .pages import Pages
-from .passwords import Passwords
-from .pictures import Pictures
-from .recent_credit import RecentCredit
-from .report_checks import ReportChecks
-from .routes import FORMS, Handler, Route, Routes
-from .scheduler import Scheduler
-from .scheduler_messages import SchedulerMessages
-from .scheduler_probe import SchedulerProbe
-from .state_file import StateFile, WaitingWrites
-from .statements import Statements
-from .team_pages import TeamPages
-from .teams import Teams
-from .templates import Templates
-from .upload_owners import UploadOwners
-from .upload_store import UploadStore, open_store
-from .upload_tokens import UploadTokens
-from .uploads import CHECK_PATH as UPLOAD_CHECK_PATH
-from .uploads import PATH as UPLOAD_PATH
-from .uploads import Uploads
-from .vain_calls import VainCalls
-from .volunteer_pages import VolunteerPages
+from .accounts.actions import AccountPlaces, Accounts
+from .accounts.messages import AccountMessages, project_config
+from .accounts.teams import Teams
+from .catalogue.contents import Catalogue
+from .catalogue.downloads import Downloads
+from .common.host_rules import HostRuleReader
+from .common.http_messages import TEXT, XML, Message, answer, is_of_this_machine, log_fault, plain_answer
+from .common.limits import Places
+from .common.routes import FORMS, Handler, Route, Routes
+from .common.state_file import StateFile, WaitingWrites
+from .exchange.answers import Exchange, PutOff, Resending
+from .exchange.call_numbers import CallNumbers
+from .exchange.client_replies import ReplyWriter
+from .exchange.host_search import HostSearch
+from .exchange.large_calls import LargeCalls
+from .exchange.messages import SchedulerMessages
+from .exchange.vain_calls import VainCalls
+from .operator.board import Board
+from .operator.key import OperatorKey
+from .operator.metrics import Metrics
+from .operator.overview import Overviews
+from .operator.state import OperatorState
+from .pages.account_pages import AccountPages
+from .pages.pictures import Pictures
+from .pages.project_pages import Pages
+from .pages.statements import Statements
+from .pages.team_pages import TeamPages
+from .pages.templates import Templates
+from .pages.volunteer_pages import VolunteerPages
+from .people.archives import read_archives
+from .people.barring import Barring, is_barred
+from .people.credit_days import CreditDays
+from .people.directory import Directory
+from .people.hosts import Hosts
+from .people.measurements import Measurements
+from .people.members import Members
+from .people.passwords import Passwords
+from .people.recent_credit import RecentCredit
+from .scheduler.messages import Scheduler
+from .scheduler.probe import SchedulerProbe
+from .uploads.current_catalogue import CatalogueFaults, CatalogueReader
+from .uploads.digest_queue import DigestQueue
+from .uploads.handed_out import HandedOut
+from .uploads.messages import CHECK_PATH as UPLOAD_CHECK_PATH
+from .uploads.messages import PATH as UPLOAD_PATH
+from .uploads.messages import UploadMessages
+from .uploads.owners import UploadOwners
+from .uploads.report_checks import ReportChecks
+from .uploads.store import UploadStore, open_store
+from .uploads.tokens import UploadTokens
 
 KEPT_THREADS = 2  # for pages and files, which need nothing of bsched
 # for a place; the server has as many threads besides `threads`, and those of large calls
@@ -99,10 +99,10 @@ class Application:
         self.account_places = AccountPlaces(Places(half, self.places))
         self.upload_places = Places(half, self.places)
         waiting = Places(half + UPLOADS_WAITING)
-        self.uploads: Uploads | None = None
+        self.uploads: UploadMessages | None = None
         if store is not None:
             owners = UploadOwners(HandedOut(store.tables), partial(is_barred, barring, self.rules))
-            self.uploads = Uploads(store, owners, self.upload_places, waiting, measured.uploads)
+            self.uploads = UploadMessages(store, owners, self.upload_places, waiting, measured.uploads)
         self.downloads = Downloads(current, Places(half, self.places), settings.retry_delay)
         self.accounts: Accounts | None = None
         if settings.accounts is not None and key is not None:

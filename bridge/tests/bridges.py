@@ -6,13 +6,13 @@ from typing import Any, cast
 from twin import Twin
 
 from bsched_bridge.application import Application
-from bsched_bridge.code_signing import file_md5, public_key_text, signature_text
-from bsched_bridge.current_catalogue import CatalogueReader
-from bsched_bridge.host_rules import HostRuleReader
-from bsched_bridge.passwords import Cost, Passwords
-from bsched_bridge.scheduler import Scheduler
-from bsched_bridge.state_file import StateFile
-from bsched_bridge.upload_store import open_store
+from bsched_bridge.common.code_signing import file_md5, public_key_text, signature_text
+from bsched_bridge.common.host_rules import HostRuleReader
+from bsched_bridge.common.state_file import StateFile
+from bsched_bridge.people.passwords import Cost, Passwords
+from bsched_bridge.scheduler.messages import Scheduler
+from bsched_bridge.uploads.current_catalogue import CatalogueReader
+from bsched_bridge.uploads.store import open_store
 from bsched_files.project_settings import read_settings
 
 BRIDGE = Path(__file__).resolve().parent.parent

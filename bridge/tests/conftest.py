@@ -12,7 +12,7 @@ from numbering import NEW_HOSTID, rising
 from tool_outputs import KEYS, write_tool_outputs
 from twin import Twin
 
-from bsched_bridge.code_signing import new_key
+from bsched_bridge.common.code_signing import new_key
 
 MEMORY = "/dev/shm"
 
@@ -56,7 +56,7 @@ def twin() -> Iterator[Twin]:
 @pytest.fixture
 def bridge(project: Path, twin: Twin, monkeypatch: pytest.MonkeyPatch) -> Iterator[Bridge]:
     """A bridge before the twin."""
-    monkeypatch.setattr("bsched_bridge.scheduler.PAUSE_SECONDS", 0.0)
+    monkeypatch.setattr("bsched_bridge.scheduler.messages.PAUSE_SECONDS", 0.0)
     made = Bridge(project, twin)
     yield made
     made.file.close()
@@ -74,7 +74,7 @@ output_files = [
 @pytest.fixture
 def open_bridge(project: Path, twin: Twin, monkeypatch: pytest.MonkeyPatch) -> Iterator[Bridge]:
     """A bridge that makes accounts."""
-    monkeypatch.setattr("bsched_bridge.scheduler.PAUSE_SECONDS", 0.0)
+    monkeypatch.setattr("bsched_bridge.scheduler.messages.PAUSE_SECONDS", 0.0)
     with (project / "bridge.toml").open("a") as file:
         file.write(ACCOUNTS)
     made = Bridge(project, twin)
@@ -95,7 +95,7 @@ def file_project(project: Path) -> Path:
 @pytest.fixture
 def file_bridge(file_project: Path, twin: Twin, monkeypatch: pytest.MonkeyPatch) -> Iterator[Bridge]:
     """A bridge of an application with output files."""
-    monkeypatch.setattr("bsched_bridge.scheduler.PAUSE_SECONDS", 0.0)
+    monkeypatch.setattr("bsched_bridge.scheduler.messages.PAUSE_SECONDS", 0.0)
     twin.statement = None
     made = Bridge(file_project, twin)
     yield made
@@ -107,7 +107,7 @@ def full_bridge(file_project: Path, twin: Twin, monkeypatch: pytest.MonkeyPatch)
     """A bridge of a project of bsched-project, with accounts, output files, and what the tools wrote."""
     monkeypatch.setattr("bsched_files.project_settings.project_of", lambda _path: "sums")
     monkeypatch.setattr("bsched_files.timers.STAMPS", file_project / "timers")
-    monkeypatch.setattr("bsched_bridge.scheduler.PAUSE_SECONDS", 0.0)
+    monkeypatch.setattr("bsched_bridge.scheduler.messages.PAUSE_SECONDS", 0.0)
     write_tool_outputs(file_project)
     settings = file_project / "bridge.toml"
     settings.write_text(KEYS + settings.read_text() + ACCOUNTS)

@@ -15,12 +15,12 @@ sys.dont_write_bytecode = True
 BRIDGE = Path(__file__).resolve().parent.parent
 sys.path[:0] = [str(BRIDGE), str(BRIDGE.parent / "files")]
 
-from bsched_bridge.calls import call_text  # noqa: E402
-from bsched_bridge.client_requests import MOST_BYTES  # noqa: E402
-from bsched_bridge.http_messages import blocks_of  # noqa: E402
-from bsched_bridge.key_locks import Busy  # noqa: E402
-from bsched_bridge.request_parts import RequestFault  # noqa: E402
-from bsched_bridge.scheduler_messages import LARGE_BYTES, RequestReader  # noqa: E402
+from bsched_bridge.common.http_messages import blocks_of  # noqa: E402
+from bsched_bridge.common.key_locks import Busy  # noqa: E402
+from bsched_bridge.exchange.messages import LARGE_BYTES, RequestReader  # noqa: E402
+from bsched_bridge.requests.calls import call_text  # noqa: E402
+from bsched_bridge.requests.client_requests import MOST_BYTES  # noqa: E402
+from bsched_bridge.requests.parts import RequestFault  # noqa: E402
 
 THREADS = 8
 HEAD = (

@@ -14,7 +14,7 @@ from messages import request, value
 from twin import IMPORTS, Twin
 
 from bsched_bridge.application import Application
-from bsched_bridge.state_file import StateFile
+from bsched_bridge.common.state_file import StateFile
 
 CLIENT = "198.51.100.7"
 OPERATORS = {line.partition(",")[0] for line in IMPORTS["accounts"].splitlines()[1:]}

@@ -15,9 +15,9 @@ import joining
 import waitress
 
 from bsched_bridge.application import Application
-from bsched_bridge.catalogue import read_catalogue
-from bsched_bridge.scheduler import Scheduler
-from bsched_bridge.state_file import StateFile
+from bsched_bridge.catalogue.contents import read_catalogue
+from bsched_bridge.common.state_file import StateFile
+from bsched_bridge.scheduler.messages import Scheduler
 from bsched_files.project_settings import read_settings
 
 

@@ -3,8 +3,12 @@ import json
 from decimal import Decimal
 from xml.etree.ElementTree import Element, SubElement
 
-from bsched_bridge.catalogue import App, Catalogue, MissingFile, Version, Work
-from bsched_bridge.client_replies import (
+from bsched_bridge.accounts.messages import add, written
+from bsched_bridge.catalogue.contents import App, Catalogue, MissingFile, Version, Work
+from bsched_bridge.catalogue.output_files import upload_name
+from bsched_bridge.common.languages import ENGLISH, Language
+from bsched_bridge.exchange.answers import PutOff
+from bsched_bridge.exchange.client_replies import (
     ACCOUNT,
     KEY_CHANGED,
     NO_JOBS,
@@ -12,18 +16,13 @@ from bsched_bridge.client_replies import (
     STATUS,
     Files,
     NeededFile,
-    add,
-    written,
 )
-from bsched_bridge.client_requests import ClientRequest
-from bsched_bridge.exchange import PutOff
-from bsched_bridge.languages import ENGLISH, Language
-from bsched_bridge.output_files import upload_name
-from bsched_bridge.plan_classes import PlanClass, split
-from bsched_bridge.recent_credit import Recent
-from bsched_bridge.scheduler import Job, Reply
-from bsched_bridge.upload_tokens import UploadTokens
-from bsched_bridge.uploads import PATH as UPLOAD_PATH
+from bsched_bridge.people.recent_credit import Recent
+from bsched_bridge.requests.client_requests import ClientRequest
+from bsched_bridge.requests.plan_classes import PlanClass, split
+from bsched_bridge.scheduler.messages import Job, Reply
+from bsched_bridge.uploads.messages import PATH as UPLOAD_PATH
+from bsched_bridge.uploads.tokens import UploadTokens
 from bsched_files.texts import MILLICREDITS, xml_text
 
 

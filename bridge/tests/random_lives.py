@@ -43,8 +43,8 @@ class SimulatedClock:
     def replaces(self, set_attribute: Callable[..., Any]) -> None:
         """Replaces the clock of the bridge, its pauses, and a limit by the minute."""
         set_attribute(NEW_HOSTID, rising(self))
-        set_attribute("bsched_bridge.scheduler.PAUSE_SECONDS", 0.0)
-        set_attribute("bsched_bridge.host_search.MOST_SEARCHES", 10**9)
+        set_attribute("bsched_bridge.scheduler.messages.PAUSE_SECONDS", 0.0)
+        set_attribute("bsched_bridge.exchange.host_search.MOST_SEARCHES", 10**9)
 
 
 @dataclass(frozen=True)

@@ -18,7 +18,7 @@ from bridges import ACCOUNTS, BRIDGE, Bridge
 from joining import Stopped, Stops, account_query, create, key_or_number, look_up, made_accounts, rows, works
 from twin import Twin
 
-from bsched_bridge.scheduler import NoAnswer
+from bsched_bridge.scheduler.messages import NoAnswer
 
 EMAIL = "ann@sums.example"
 PACKAGES = f"{BRIDGE}:{BRIDGE.parent / 'bench'}:{BRIDGE.parent / 'files'}"

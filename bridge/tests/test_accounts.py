@@ -30,12 +30,12 @@ from joining import (
 from messages import FIRST, request, value
 from twin import Twin
 
-from bsched_bridge import passwords
-from bsched_bridge.accounts import AccountFault, Fault, account_import, is_email
-from bsched_bridge.limits import RecentCounts, is_loopback, network_of
-from bsched_bridge.members import DayIsFull, EmailTaken, Member
-from bsched_bridge.names import clean_name
-from bsched_bridge.passwords import (
+from bsched_bridge.accounts.actions import AccountFault, Fault, account_import, is_email
+from bsched_bridge.common.limits import RecentCounts, is_loopback, network_of
+from bsched_bridge.people import passwords
+from bsched_bridge.people.members import DayIsFull, EmailTaken, Member
+from bsched_bridge.people.names import clean_name
+from bsched_bridge.people.passwords import (
     COST,
     Cost,
     Passwords,
@@ -253,7 +253,7 @@ def test_nobody_can_ask_whether_many_addresses_have_accounts(
     for number in range(20):
         create(open_bridge, f"u{number}@sums.example", client=f"192.0.2.{number}")
     key = create(open_bridge, client="192.0.2.99")
-    monkeypatch.setattr("bsched_bridge.passwords.scrypt", lambda *_words: 1 // 0)  # it takes no hash
+    monkeypatch.setattr("bsched_bridge.people.passwords.scrypt", lambda *_words: 1 // 0)  # it takes no hash
 
     def asked(email: str, client: str) -> str:
         form = urlencode({"key": key, "email": email, "password": "secret1"}).encode()
@@ -279,7 +279,7 @@ def test_creations_that_say_that_an_address_is_free_are_counted(project: Path, o
 def test_a_clock_that_was_ahead_stops_no_accounts(
     open_bridge: Bridge, monkeypatch: pytest.MonkeyPatch
 ) -> None:
-    monkeypatch.setattr("bsched_bridge.accounts.time.time", lambda: 4e9)
+    monkeypatch.setattr("bsched_bridge.accounts.actions.time.time", lambda: 4e9)
     for number in range(50):
         assert isinstance(create(open_bridge, f"u{number}@sums.example", client=f"192.0.2.{number}"), str)
     monkeypatch.undo()
@@ -427,14 +427,16 @@ def test_old_counts_and_surplus_keys_are_forgotten(monkeypatch: pytest.MonkeyPat
     counts.give_back("a")
     now[0] = 59.0
     assert [counts.take("a") for _ in range(2)] == [True, False]
+    assert counts.has("a") and not counts.has("b")
     now[0] = 60.0
     assert [counts.take("a") for _ in range(2)] == [True, False]
-    monkeypatch.setattr("bsched_bridge.limits.MOST_KEYS", 3)
+    monkeypatch.setattr("bsched_bridge.common.limits.MOST_KEYS", 3)
     assert [counts.take(key) for key in "bcad"] == [True, True, False, True]
     assert list(counts._times) == ["b", "c", "d"]  # the one that did nothing for longest is gone
     counts.give_back("d")
     assert counts.take("e") and list(counts._times) == ["b", "c", "e"]
     now[0] = 121.0
+    assert not counts.has("e")
     assert counts.take("e") and list(counts._times) == ["e"]
     counts.give_back("nobody")
 
@@ -442,7 +444,7 @@ def test_old_counts_and_surplus_keys_are_forgotten(monkeypatch: pytest.MonkeyPat
 def test_counts_of_wrong_passwords_are_not_pushed_out(
     open_bridge: Bridge, monkeypatch: pytest.MonkeyPatch
 ) -> None:
-    monkeypatch.setattr("bsched_bridge.limits.MOST_KEYS", 30)
+    monkeypatch.setattr("bsched_bridge.common.limits.MOST_KEYS", 30)
     key = create(open_bridge)
     for number in range(100):
         assert look_up(open_bridge, password=f"wrong-{number}") == (-155 if number < 10 else -183)
@@ -529,7 +531,7 @@ def test_an_unknown_address_takes_a_hash_too(open_bridge: Bridge, monkeypatch: p
     create(open_bridge)
     made = []
     monkeypatch.setattr(
-        "bsched_bridge.passwords.scrypt", lambda passwd_hash, salt, cost: made.append(cost) or b""
+        "bsched_bridge.people.passwords.scrypt", lambda passwd_hash, salt, cost: made.append(cost) or b""
     )
     look_up(open_bridge, "nobody@sums.example")
     look_up(open_bridge)
@@ -537,7 +539,7 @@ def test_an_unknown_address_takes_a_hash_too(open_bridge: Bridge, monkeypatch: p
 
 
 def test_two_hashes_at_once_and_few_that_wait(monkeypatch: pytest.MonkeyPatch) -> None:
-    monkeypatch.setattr("bsched_bridge.passwords.WAIT_SECONDS", 60.0)
+    monkeypatch.setattr("bsched_bridge.people.passwords.WAIT_SECONDS", 60.0)
     hashes, running, most, ended = Passwords(Cost(2**4, 8, 1)), [], [], threading.Event()
 
     def slow(_told: str, _salt: bytes, _cost: Cost) -> bytes:
@@ -547,7 +549,7 @@ def test_two_hashes_at_once_and_few_that_wait(monkeypatch: pytest.MonkeyPatch) -
         running.pop()
         return b""
 
-    monkeypatch.setattr("bsched_bridge.passwords.scrypt", slow)
+    monkeypatch.setattr("bsched_bridge.people.passwords.scrypt", slow)
     threads = [threading.Thread(target=hashes.new_secret, args=("0" * 32, str(n))) for n in range(4)]
     for thread in threads:
         thread.start()
@@ -563,9 +565,11 @@ def test_two_hashes_at_once_and_few_that_wait(monkeypatch: pytest.MonkeyPatch) -
 
 def test_a_wide_network_has_half_of_the_hashes_at_once(monkeypatch: pytest.MonkeyPatch) -> None:
     """The attack: networks of 64 bits of one customer send wrong passwords all the time, and others wait."""
-    monkeypatch.setattr("bsched_bridge.passwords.WAIT_SECONDS", 60.0)
+    monkeypatch.setattr("bsched_bridge.people.passwords.WAIT_SECONDS", 60.0)
     hashes, ended = Passwords(Cost(2**4, 8, 1)), threading.Event()
-    monkeypatch.setattr("bsched_bridge.passwords.scrypt", lambda *_words: b"" if ended.wait(60) else b"")
+    monkeypatch.setattr(
+        "bsched_bridge.people.passwords.scrypt", lambda *_words: b"" if ended.wait(60) else b""
+    )
     ends: list[str] = []
 
     def ask(client: str) -> None:
@@ -593,7 +597,7 @@ def test_a_wide_network_has_a_tenth_of_the_hashes_of_a_minute(monkeypatch: pytes
     now = [0.0]
     hashes = Passwords(Cost(2**4, 8, 1))
     hashes._recent.clock = lambda: now[0]
-    monkeypatch.setattr("bsched_bridge.passwords.scrypt", lambda *_words: b"")
+    monkeypatch.setattr("bsched_bridge.people.passwords.scrypt", lambda *_words: b"")
 
     def made(clients: list[str]) -> int:
         count = 0
@@ -629,11 +633,11 @@ def test_one_client_has_one_hash_at_once(open_bridge: Bridge, monkeypatch: pytes
         ended.wait(60)
         return scrypt(*words)
 
-    monkeypatch.setattr("bsched_bridge.passwords.scrypt", slow)
+    monkeypatch.setattr("bsched_bridge.people.passwords.scrypt", slow)
     thread = threading.Thread(target=look_up, args=(open_bridge,))
     thread.start()
     assert began.wait(60)
-    monkeypatch.setattr("bsched_bridge.passwords.scrypt", scrypt)
+    monkeypatch.setattr("bsched_bridge.people.passwords.scrypt", scrypt)
     with open_bridge.application.accounts._locks.held("other"):
         create(open_bridge, "bob@sums.example", client="192.0.2.1")
     assert look_up(open_bridge, "bob@sums.example") == -183  # of the client that has a hash
@@ -672,7 +676,7 @@ def test_one_client_has_so_many_hashes_in_a_minute(open_bridge: Bridge) -> None:
 
 
 def test_a_hash_that_waited_too_long(monkeypatch: pytest.MonkeyPatch) -> None:
-    monkeypatch.setattr("bsched_bridge.passwords.WAIT_SECONDS", 0.01)
+    monkeypatch.setattr("bsched_bridge.people.passwords.WAIT_SECONDS", 0.01)
     made = Passwords(Cost(2**4, 8, 1))
     for _ in range(passwords.AT_ONCE):
         made._turns.acquire()
@@ -689,7 +693,7 @@ def test_what_is_refused_takes_no_hash(
     text = (project / "bridge.toml").read_text().replace("most_a_day = 50", "most_a_day = 1")
     (project / "bridge.toml").write_text(text)
     open_bridge.restart()
-    monkeypatch.setattr("bsched_bridge.passwords.scrypt", lambda *_words: 1 // 0)
+    monkeypatch.setattr("bsched_bridge.people.passwords.scrypt", lambda *_words: 1 // 0)
     assert create(open_bridge, "bob@sums.example") == -208
     for number in range(10):
         open_bridge.application.accounts._wrong["client"].take(CLIENT)
@@ -847,7 +851,7 @@ def test_creations_at_once_are_one(open_bridge: Bridge, twin: Twin, monkeypatch:
         time.sleep(0.1)
         return scrypt(*words)
 
-    monkeypatch.setattr("bsched_bridge.passwords.scrypt", slow)
+    monkeypatch.setattr("bsched_bridge.people.passwords.scrypt", slow)
     open_bridge.application.accounts._locks.wait_seconds = 60
     answers = []
     threads = [
@@ -954,7 +958,7 @@ def test_all_accounts_are_read_part_by_part(open_bridge: Bridge, monkeypatch: py
     keys = [
         create(open_bridge, f"user{number}@sums.example", client=f"192.0.2.{number}") for number in range(5)
     ]
-    monkeypatch.setattr("bsched_bridge.members.ROWS_AT_ONCE", 2)
+    monkeypatch.setattr("bsched_bridge.people.members.ROWS_AT_ONCE", 2)
     assert [member.authenticator for member in open_bridge.members.all()] == keys
 
 
@@ -1070,7 +1074,7 @@ def test_a_hash_that_finds_no_place(monkeypatch: pytest.MonkeyPatch) -> None:
 
 
 def test_a_key_that_was_active_lately_is_not_before_one_that_was_not(monkeypatch: pytest.MonkeyPatch) -> None:
-    monkeypatch.setattr("bsched_bridge.limits.MOST_KEYS", 2)
+    monkeypatch.setattr("bsched_bridge.common.limits.MOST_KEYS", 2)
     now = 0.0
     counts = RecentCounts(5, 5, lambda: now)
     for now, key in ((0.0, "a"), (1.0, "b"), (4.0, "a")):

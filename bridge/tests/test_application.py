@@ -9,8 +9,8 @@ import pytest
 from bridges import Bridge
 from messages import FIRST, jobs, names, request, value
 
-from bsched_bridge import client_requests
-from bsched_bridge.code_signing import file_md5, signature_text
+from bsched_bridge.common.code_signing import file_md5, signature_text
+from bsched_bridge.requests import client_requests
 
 
 def test_the_master_page_has_both_forms(bridge: Bridge) -> None:

@@ -11,8 +11,8 @@ from bridges import Bridge
 from messages import FIRST, request, value
 from twin import Twin
 
-from bsched_bridge.archives import Archives, read_archives
-from bsched_bridge.hosts import Key
+from bsched_bridge.people.archives import Archives, read_archives
+from bsched_bridge.people.hosts import Key
 from bsched_files.project_settings import read_settings
 from bsched_files.toml_entries import OperatorFault
 

@@ -6,14 +6,18 @@ import tempfile
 import threading
 from collections.abc import Iterator
 from pathlib import Path
+from types import SimpleNamespace
+from typing import Any, cast
 
 import pytest
 from attacks import sending
+from attacks.attack import Attack, Who
 from attacks.command import chosen, described
 from attacks.memory import Group, memory_group, unit_bytes, version_in
 from attacks.figures import MB, Costs, Most, Served
+from attacks.runs import Attacking, processor_seconds
 from attacks.sending import Drip, drip_uploads, over_and_over, status_of
-from attacks.table import ATTACKS
+from attacks.table import ATTACKS, OF_FOUR_ADDRESSES, of_account
 from attacks.target import address6_of, address_of, unnamed_bytes
 
 TRY_ATTACKS = Path(__file__).resolve().parents[1] / "try_attacks"
@@ -114,6 +118,30 @@ def test_attackers_act_until_it_ends() -> None:
 
     found = over_and_over(ending, 2, act)
     assert found["ConnectionResetError"] == 1 and found.total() > 50
+
+
+@pytest.mark.parametrize("is_by_minute", [True, False])
+def test_what_an_attack_takes_at_once_counts_by_the_minute(is_by_minute: bool) -> None:
+    """Else only what it takes after it has settled."""
+    used = [1.0]
+
+    def burst(_target: object, _ending: threading.Event) -> str:
+        used[0] = 6.0
+        return ""
+
+    target = SimpleNamespace(processor_time=lambda: used[0])
+    attack = Attack("burst", Who.NOBODY, "takes 5 seconds at once", burst, is_by_minute=is_by_minute)
+    found = processor_seconds(Attacking(attack, cast(Any, target)), 1)
+    assert (found > 0) == is_by_minute
+
+
+def test_what_an_account_may_take() -> None:
+    """Two seconds for calls in vain, and one for what is refused of four addresses."""
+    assert [of_account(count).processor_seconds for count in (4, 16)] == [3.0, 6.0]
+    assert OF_FOUR_ADDRESSES.processor_seconds == 1.0
+    for attack in ATTACKS:
+        if attack.who is Who.MEMBER and attack.may.processor_seconds not in (None, Most().processor_seconds):
+            assert attack.is_by_minute, attack.name
 
 
 # ---- Bodies that come by the byte

@@ -4,7 +4,7 @@ from bridges import Bridge
 from test_pages import page_of
 from test_volunteers import people
 
-from bsched_bridge.badges import badges_of
+from bsched_bridge.pages.badges import badges_of
 
 YEAR = 365.25 * 86400
 

@@ -17,8 +17,8 @@ from joining import CLIENT, client_hash, create, look_up
 from messages import request, value
 
 from bsched_bridge.__main__ import main
-from bsched_bridge.barring import Barred, forget
-from bsched_bridge.state_file import StateFault, StateFile
+from bsched_bridge.common.state_file import StateFault, StateFile
+from bsched_bridge.people.barring import Barred, forget
 
 ANOTHER = 65534  # a user who is not root
 only_root = pytest.mark.skipif(os.geteuid() != 0, reason="only root has the rights of others")

@@ -13,10 +13,10 @@ from numbering import NEW_HOSTID
 from test_pages import Page, page_of
 from twin import Twin
 
-from bsched_bridge.board import Board, age_text, seconds_text
-from bsched_bridge.hosts import MOST_NUMBER
-from bsched_bridge.limits import RecentCounts
-from bsched_bridge.measurements import End
+from bsched_bridge.common.limits import RecentCounts
+from bsched_bridge.operator.board import Board, age_text, seconds_text
+from bsched_bridge.people.hosts import MOST_NUMBER
+from bsched_bridge.people.measurements import End
 from bsched_files.project_settings import project_of
 
 KEY = "change-this-key"
@@ -98,7 +98,7 @@ def test_the_key(bridge: Bridge) -> None:
 def test_few_wrong_keys_are_compared(bridge: Bridge, monkeypatch: pytest.MonkeyPatch) -> None:
     now = [0.0]
     monkeypatch.setattr(
-        "bsched_bridge.operator_key.RecentCounts", partial(RecentCounts, clock=lambda: now[0])
+        "bsched_bridge.operator.key.RecentCounts", partial(RecentCounts, clock=lambda: now[0])
     )
     bridge.restart()
     for _ in range(20):
@@ -261,7 +261,7 @@ def test_a_bridge_that_knows_little(bridge: Bridge) -> None:
 
 def test_a_bridge_with_everything(full_bridge: Bridge, monkeypatch: pytest.MonkeyPatch) -> None:
     moment = datetime(1970, 1, 1, 1, 0, tzinfo=timezone.utc).timestamp()
-    monkeypatch.setattr("bsched_bridge.overview.time.time", lambda: moment)
+    monkeypatch.setattr("bsched_bridge.operator.overview.time.time", lambda: moment)
     answer = sent(full_bridge)
     text = page_of(answer, has_key=True).text
     assert row(answer, "timer of tick") == [

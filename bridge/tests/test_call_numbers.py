@@ -8,8 +8,8 @@ from typing import Any
 
 import pytest
 
-from bsched_bridge.barring import Barred, Barring
-from bsched_bridge.call_numbers import (
+from bsched_bridge.common.state_file import StateFile
+from bsched_bridge.exchange.call_numbers import (
     AccountState,
     CallNumbers,
     ClientState,
@@ -18,10 +18,10 @@ from bsched_bridge.call_numbers import (
     KnownHost,
     TooManyHosts,
 )
-from bsched_bridge.credit_days import CreditDay, CreditDays, StoredDay
-from bsched_bridge.hosts import FIRST_KEY, MOST_NUMBER, Hosts, Key
-from bsched_bridge.scheduler import Job, Reply
-from bsched_bridge.state_file import StateFile
+from bsched_bridge.people.barring import Barred, Barring
+from bsched_bridge.people.credit_days import CreditDay, CreditDays, StoredDay
+from bsched_bridge.people.hosts import FIRST_KEY, MOST_NUMBER, Hosts, Key
+from bsched_bridge.scheduler.messages import Job, Reply
 from bsched_files.moments import DAY
 
 KEY = Key("ann-key", "c1")

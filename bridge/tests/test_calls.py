@@ -7,8 +7,8 @@ import pytest
 from messages import request
 from plain_formats import record_of
 
-from bsched_bridge import calls
-from bsched_bridge.client_requests import ClientRequest, Report, read_request
+from bsched_bridge.requests import calls
+from bsched_bridge.requests.client_requests import ClientRequest, Report, read_request
 
 REQUEST = read_request([request(hostid=7).encode()])
 

@@ -9,16 +9,16 @@ from messages import FIRST, jobs, request
 from plain_replies import PlainReplies
 from twin import Twin
 
-from bsched_bridge.catalogue import App, Catalogue, FileFolder, MissingFile, StoredFile, Version
-from bsched_bridge.catalogue import VersionFile, Work
-from bsched_bridge.client_replies import ReplyWriter
-from bsched_bridge.client_requests import ClientRequest, read_request
-from bsched_bridge.exchange import PutOff
-from bsched_bridge.plan_classes import PlanClass
-from bsched_bridge.preferences import Preferences
-from bsched_bridge.recent_credit import Recent
-from bsched_bridge.scheduler import Job, Reply
-from bsched_bridge.upload_tokens import UploadTokens
+from bsched_bridge.catalogue.contents import App, Catalogue, DownloadFile, FileFolder, MissingFile, Version
+from bsched_bridge.catalogue.contents import VersionFile, Work
+from bsched_bridge.exchange.answers import PutOff
+from bsched_bridge.exchange.client_replies import ReplyWriter
+from bsched_bridge.people.recent_credit import Recent
+from bsched_bridge.requests.client_requests import ClientRequest, read_request
+from bsched_bridge.requests.plan_classes import PlanClass
+from bsched_bridge.requests.preferences import Preferences
+from bsched_bridge.scheduler.messages import Job, Reply
+from bsched_bridge.uploads.tokens import UploadTokens
 from bsched_files.catalogue import Bounds, InputFile, OutputFile
 
 written = Preferences.written
@@ -35,17 +35,19 @@ class Folder(FileFolder):
     def __init__(self) -> None:
         super().__init__(Path("/nowhere"))
 
-    def stored(self, name: str) -> StoredFile:
+    def stored(self, name: str) -> DownloadFile:
         """Returns a file."""
         if name == "missing":
             raise MissingFile(name)
-        return StoredFile(name, len(name), "0123456789abcdef" * 2)
+        return DownloadFile(name, len(name), "0123456789abcdef" * 2)
 
 
 def version(app: str, platform: str, open_name: str | None) -> Version:
     """Returns a version of two files."""
     files = tuple(
-        VersionFile(StoredFile(f"{app}_{name}", 5, "ff" * 16), "00\nff\n.\n", is_main, is_executable, opened)
+        VersionFile(
+            DownloadFile(f"{app}_{name}", 5, "ff" * 16), "00\nff\n.\n", is_main, is_executable, opened
+        )
         for name, is_main, is_executable, opened in (
             ("main", True, True, None),
             ("helper", False, True, open_name),

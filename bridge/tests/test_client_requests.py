@@ -14,9 +14,10 @@ from hostile import SHAPES
 from hypothesis import example, given, strategies as st
 from messages import request
 
-from bsched_bridge import client_requests, request_parts
-from bsched_bridge.client_requests import ClientRequest, Fields, Report
-from bsched_bridge.request_parts import MOST_XML, Parts, RequestFault, between
+from bsched_bridge.requests import client_requests
+from bsched_bridge.requests import parts as request_parts
+from bsched_bridge.requests.client_requests import ClientRequest, Fields, Report
+from bsched_bridge.requests.parts import MOST_XML, Parts, RequestFault, between
 
 RECORDED = Path(__file__).parent / "requests"
 

@@ -5,7 +5,7 @@ from typing import Any
 import pytest
 from test_operator_files import ordered
 
-from bsched_bridge.code_signing import (
+from bsched_bridge.common.code_signing import (
     KeyFault,
     file_md5,
     hex_bytes,

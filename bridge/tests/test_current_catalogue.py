@@ -12,10 +12,11 @@ from bridges import Bridge
 from cryptography.hazmat.primitives.asymmetric.rsa import RSAPrivateKey
 from messages import FIRST, jobs, request, value
 
-from bsched_bridge import catalogue, current_catalogue
-from bsched_bridge.catalogue import FileFolder, MissingFile, own_line
-from bsched_bridge.code_signing import file_md5, signature_text
-from bsched_bridge.current_catalogue import CatalogueReader
+from bsched_bridge.catalogue import contents
+from bsched_bridge.catalogue.contents import FileFolder, MissingFile, own_line
+from bsched_bridge.common.code_signing import file_md5, signature_text
+from bsched_bridge.uploads import current_catalogue
+from bsched_bridge.uploads.current_catalogue import CatalogueReader
 from bsched_files.project_settings import read_settings
 from bsched_files.toml_entries import OperatorFault
 
@@ -140,7 +141,7 @@ def test_a_large_catalogue_keeps_nobody_waiting(project: Path, monkeypatch: pyte
     monkeypatch.setattr(current_catalogue, "WAIT_SECONDS", 0.01)
     reader = CatalogueReader(read_settings(project / "bridge.toml"))
     former, begun, may_end = reader.current(), threading.Event(), threading.Event()
-    read = catalogue.read_catalogue
+    read = contents.read_catalogue
 
     def slow(*args: Any) -> Any:
         begun.set()
@@ -162,7 +163,7 @@ def test_a_large_catalogue_keeps_nobody_waiting(project: Path, monkeypatch: pyte
 
 
 def test_what_is_known_of_files_has_a_limit(project: Path, monkeypatch: pytest.MonkeyPatch) -> None:
-    monkeypatch.setattr(catalogue, "MOST_KNOWN", 3)
+    monkeypatch.setattr(contents, "MOST_KNOWN", 3)
     folder = FileFolder(project / "files")
     for number in range(9):
         (project / "files" / f"in_{number}").write_text(str(number))
@@ -194,7 +195,7 @@ def test_command_lines_of_workunits(bridge: Bridge, caplog: pytest.LogCaptureFix
 def test_faults_of_the_folder_of_command_lines(project: Path) -> None:
     edit(project, "command_line", 'command_lines = "none"\ncommand_line')
     with pytest.raises(OperatorFault, match="line 7: command_lines: .*none does not exist"):
-        catalogue.read_catalogue(project / "catalogue.toml")
+        contents.read_catalogue(project / "catalogue.toml")
     edit(project, '"none"', '"key"')
     with pytest.raises(OperatorFault, match="line 7: command_lines: .*key is not a folder"):
-        catalogue.read_catalogue(project / "catalogue.toml")
+        contents.read_catalogue(project / "catalogue.toml")

@@ -20,9 +20,9 @@ from test_upload_owners import send
 from uploading import NEVER, on_disk, report, sha256_of
 
 from bsched_bridge import __main__ as command
-from bsched_bridge import current_catalogue, digest_programs, digest_queue
-from bsched_bridge.catalogue import read_catalogue
-from bsched_bridge.digest_programs import (
+from bsched_bridge.catalogue import digest_programs
+from bsched_bridge.catalogue.contents import read_catalogue
+from bsched_bridge.catalogue.digest_programs import (
     BadFiles,
     CannotRun,
     DigestFault,
@@ -31,8 +31,9 @@ from bsched_bridge.digest_programs import (
     digest_of,
     tried_on_odd_files,
 )
-from bsched_bridge.digest_queue import DigestQueue
-from bsched_bridge.handed_out import HandedOut
+from bsched_bridge.uploads import current_catalogue, digest_queue
+from bsched_bridge.uploads.digest_queue import DigestQueue
+from bsched_bridge.uploads.handed_out import HandedOut
 from bsched_files.catalogue import OutputFile
 from bsched_files.toml_entries import OperatorFault
 
@@ -412,7 +413,7 @@ def test_a_machine_without_bubblewrap_is_no_fault_of_the_files(
     assert "the report of 'u1_0' is put off: bubblewrap can't run here; allow it to the unit" in caplog.text
     assert caplog.text.count("no digest program runs for 60 seconds") == 1
     monkeypatch.undo()
-    monkeypatch.setattr("bsched_bridge.scheduler.PAUSE_SECONDS", 0.0)
+    monkeypatch.setattr("bsched_bridge.scheduler.messages.PAUSE_SECONDS", 0.0)
     digest_bridge.restart()
     assert decided(digest_bridge, body)[0] == 0
 
@@ -556,7 +557,7 @@ def test_a_disk_that_is_full_puts_the_report_off(
     put_off(digest_bridge, body)
     assert "the digest of u1_0 is not stored: [Errno 28] No space left on device" in caplog.text
     monkeypatch.undo()
-    monkeypatch.setattr("bsched_bridge.scheduler.PAUSE_SECONDS", 0.0)
+    monkeypatch.setattr("bsched_bridge.scheduler.messages.PAUSE_SECONDS", 0.0)
     assert decided(digest_bridge, body)[0] == 0
 
 

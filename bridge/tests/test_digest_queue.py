@@ -8,13 +8,14 @@ from typing import Any
 import pytest
 from joining import wait_until
 
-from bsched_bridge import digest_queue, limits
-from bsched_bridge.digest_programs import DigestFault, DigestProgram
-from bsched_bridge.digest_queue import DigestQueue
-from bsched_bridge.handed_out import HandedJob, Outcome
-from bsched_bridge.hosts import Key
-from bsched_bridge.limits import UsedSeconds
-from bsched_bridge.measurements import WhyPutOff
+from bsched_bridge.catalogue.digest_programs import DigestFault, DigestProgram
+from bsched_bridge.common import limits
+from bsched_bridge.common.limits import UsedSeconds
+from bsched_bridge.people.hosts import Key
+from bsched_bridge.people.measurements import WhyPutOff
+from bsched_bridge.uploads import digest_queue
+from bsched_bridge.uploads.digest_queue import DigestQueue
+from bsched_bridge.uploads.handed_out import HandedJob, Outcome
 from bsched_files.catalogue import OutputFile
 from bsched_files.uploads import StoredOutput
 

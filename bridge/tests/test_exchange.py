@@ -11,10 +11,10 @@ from joining import wait_until
 from messages import FIRST, jobs, names, request, value
 from twin import Twin
 
-from bsched_bridge.call_numbers import MOST_OF_STRANGERS
-from bsched_bridge.exchange import Resending, jobs_with
-from bsched_bridge.hosts import FIRST_KEY, Key
-from bsched_bridge.scheduler import Job, NoAnswer, Reply
+from bsched_bridge.exchange.answers import Resending, jobs_with
+from bsched_bridge.exchange.call_numbers import MOST_OF_STRANGERS
+from bsched_bridge.people.hosts import FIRST_KEY, Key
+from bsched_bridge.scheduler.messages import Job, NoAnswer, Reply
 
 
 def test_a_first_call(bridge: Bridge, twin: Twin) -> None:
@@ -113,11 +113,11 @@ def test_an_answer_that_is_too_long_is_an_error(
 ) -> None:
     bridge.call(request())
     longest = max(map(len, twin.answers))
-    monkeypatch.setattr("bsched_bridge.scheduler.MOST_ANSWER", longest)
+    monkeypatch.setattr("bsched_bridge.scheduler.messages.MOST_ANSWER", longest)
     assert names(bridge.call(request(hostid=FIRST, reports=[("u1_0", "42")], seconds=0)), "result_ack") == [
         "u1_0"
     ]
-    monkeypatch.setattr("bsched_bridge.scheduler.MOST_ANSWER", 100)
+    monkeypatch.setattr("bsched_bridge.scheduler.messages.MOST_ANSWER", 100)
     assert value(bridge.call(request(hostid=FIRST)), "project_is_down") == "1"
     assert "the answer of bsched to POST /scheduler is longer than 100 bytes" in caplog.text
 
@@ -134,7 +134,7 @@ def test_jobs_of_an_answer_that_came_too_late_are_kept(
 ) -> None:
     from bridges import Bridge
 
-    monkeypatch.setattr("bsched_bridge.scheduler.PAUSE_SECONDS", 0.0)
+    monkeypatch.setattr("bsched_bridge.scheduler.messages.PAUSE_SECONDS", 0.0)
     twin = Twin(resend_lost_results=resend)
     bridge = Bridge(project, twin)
     twin.faults = ["lost"] * 3
@@ -413,7 +413,9 @@ def test_calls_of_accounts_that_somebody_made_up_take_no_disk(
 def test_calls_of_unknown_accounts_are_limited(
     bridge: Bridge, twin: Twin, monkeypatch: pytest.MonkeyPatch
 ) -> None:
-    monkeypatch.setattr("bsched_bridge.large_calls.MANY_STRANGERS", 1000)  # else calls are looked at before
+    monkeypatch.setattr(
+        "bsched_bridge.exchange.large_calls.MANY_STRANGERS", 1000
+    )  # else calls are looked at before
     twin.faults = ["unheard"] * 10_000
     for number in range(MOST_OF_STRANGERS + 5):
         bridge.application.scheduler.silent_since = None  # as if another message had an answer meanwhile

@@ -8,10 +8,10 @@ from bridges import Bridge
 from messages import FIRST, jobs, names, request, value
 from twin import Twin
 
-from bsched_bridge import held_back
-from bsched_bridge.client_requests import Report, read_request
-from bsched_bridge.held_back import HeldBack
-from bsched_bridge.hosts import Key
+from bsched_bridge.people import held_back
+from bsched_bridge.people.held_back import HeldBack
+from bsched_bridge.people.hosts import Key
+from bsched_bridge.requests.client_requests import Report, read_request
 
 ANN = Key("ann-key", "c1")
 WANTS = read_request([request(seconds=5000).encode()])

@@ -1,6 +1,7 @@
 """How many hosts an account may have, and barred accounts. The settings are read again without a restart."""
 import os
 import threading
+import time
 from pathlib import Path
 
 import pytest
@@ -113,6 +114,26 @@ def test_a_barred_account(
     assert called(bridge, 1, "bob-key") == "2"
     settings(project)
     assert called(bridge, 0, hostid=FIRST) == "known"
+
+
+def test_a_barred_account_that_calls_again_is_refused_before_its_call_is_read(
+    project: Path, bridge: Bridge, monkeypatch: pytest.MonkeyPatch
+) -> None:
+    """To read a call takes most of what its refusal takes. Other accounts are served, and so is this one once
+    it is not barred any more.
+    """
+    settings(project, 'barred = ["ann-key"]')
+    unreadable = request(cpid="c0") + "<a/>"
+    assert b"Error in request message" in bridge.call(unreadable)  # nobody was refused before
+    assert b"has barred this account" in bridge.call(request(cpid="c0"))
+    assert b"has barred this account" in bridge.call(unreadable)
+    assert called(bridge, 1, "bob-key") == "1"
+    settings(project)
+    assert called(bridge, 0) == "2"
+    settings(project, 'barred = ["ann-key"]')
+    now = time.monotonic()
+    monkeypatch.setattr(bridge.application.exchange._logged, "clock", lambda: now + 61)
+    assert b"Error in request message" in bridge.call(unreadable)
 
 
 def test_hosts_that_bsched_has_lost_make_room(small: Bridge, twin: Twin) -> None:

@@ -10,10 +10,10 @@ from numbering import NEW_HOSTID, rising
 from random_lives import further_file
 from twin import Twin
 
-from bsched_bridge import hosts
-from bsched_bridge.host_search import MOST_SEARCHES
-from bsched_bridge.hosts import Key
-from bsched_bridge.state_file import StateFile
+from bsched_bridge.common.state_file import StateFile
+from bsched_bridge.exchange.host_search import MOST_SEARCHES
+from bsched_bridge.people import hosts
+from bsched_bridge.people.hosts import Key
 
 A, B = FIRST, FIRST + 1  # two computers of Ann
 
@@ -73,7 +73,7 @@ def test_numbers_are_random_whatever_the_clock_says(tmp_path: Path, monkeypatch:
 
 def test_a_number_that_is_used_is_not_given(tmp_path: Path, monkeypatch: pytest.MonkeyPatch) -> None:
     numbers = iter([200_001, 200_002, 200_001, 200_003])
-    monkeypatch.setattr("bsched_bridge.hosts.random_number", numbers.__next__)
+    monkeypatch.setattr("bsched_bridge.people.hosts.random_number", numbers.__next__)
     file = StateFile(tmp_path / "bridge.db")
     with file.transaction() as connection:
         insert = "INSERT INTO host (authenticator, host_cpid, last_number, hostid) VALUES ('a', 'c', 1, ?)"
@@ -93,8 +93,8 @@ def test_numbers_that_are_given_a_second_time(
     """Some computers of an account have a job each. The state file is lost, and the new one gives the very
     same numbers again, to other computers. No report is acknowledged that is not recorded.
     """
-    monkeypatch.setattr("bsched_bridge.scheduler.PAUSE_SECONDS", 0.0)
-    monkeypatch.setattr("bsched_bridge.host_search.MOST_SEARCHES", 10**6)
+    monkeypatch.setattr("bsched_bridge.scheduler.messages.PAUSE_SECONDS", 0.0)
+    monkeypatch.setattr("bsched_bridge.exchange.host_search.MOST_SEARCHES", 10**6)
     twin.statement = None
     bridge = Bridge(project, twin)
     numbers, held = {}, {}

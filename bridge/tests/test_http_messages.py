@@ -9,7 +9,7 @@ from hypothesis import strategies as st
 from werkzeug.exceptions import BadRequest, RequestEntityTooLarge
 
 from bridges import Bridge
-from bsched_bridge.http_messages import FORM, MOST_FIELDS, MOST_FORM, Message, form_of, query_of
+from bsched_bridge.common.http_messages import FORM, MOST_FIELDS, MOST_FORM, Message, form_of, query_of
 
 
 def message(query: bytes = b"", body: bytes | None = None) -> Message:

@@ -13,7 +13,7 @@ from joining import wait_until
 from messages import request
 from twin import Twin
 
-from bsched_bridge.scheduler import Hung, NoAnswer, Refusal, Scheduler, read_refusal
+from bsched_bridge.scheduler.messages import Hung, NoAnswer, Refusal, Scheduler, read_refusal
 from bsched_files.project_settings import Address
 
 
@@ -32,7 +32,7 @@ def fault_of(action: Callable[..., Any]) -> type[Any]:
 
 
 def test_after_a_time_out_messages_fail_at_once(silent: Address, monkeypatch: pytest.MonkeyPatch) -> None:
-    monkeypatch.setattr("bsched_bridge.scheduler.HUNG_SECONDS", 1000.0)
+    monkeypatch.setattr("bsched_bridge.scheduler.messages.HUNG_SECONDS", 1000.0)
     asked = Scheduler(silent, 1)
     sent: list[tuple[Any, ...]] = []
     exchange = asked._exchange
@@ -52,7 +52,7 @@ def test_after_a_time_out_messages_fail_at_once(silent: Address, monkeypatch: py
 def test_one_message_shows_whether_there_are_answers_again(
     silent: Address, twin: Twin, monkeypatch: pytest.MonkeyPatch
 ) -> None:
-    monkeypatch.setattr("bsched_bridge.scheduler.HUNG_SECONDS", 0.1)
+    monkeypatch.setattr("bsched_bridge.scheduler.messages.HUNG_SECONDS", 0.1)
     asked = Scheduler(silent, 1)
     fault_of(lambda: asked.has_account("ann-key"))
     time.sleep(0.2)
@@ -122,10 +122,10 @@ def test_pages_and_files_are_answered_while_bsched_hangs(
 
 def test_a_message_that_has_just_begun_is_not_slow(twin: Twin, monkeypatch: pytest.MonkeyPatch) -> None:
     asked = Scheduler(twin.address, 1)
-    monkeypatch.setattr("bsched_bridge.scheduler.SLOW_SECONDS", 60.0)
+    monkeypatch.setattr("bsched_bridge.scheduler.messages.SLOW_SECONDS", 60.0)
     message = asked._begin_to_wait()
     assert not asked.is_slow
-    monkeypatch.setattr("bsched_bridge.scheduler.SLOW_SECONDS", -1.0)
+    monkeypatch.setattr("bsched_bridge.scheduler.messages.SLOW_SECONDS", -1.0)
     assert asked.is_slow
     asked._end_to_wait(*message)
     assert not asked.is_slow

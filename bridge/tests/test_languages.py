@@ -24,7 +24,7 @@ from test_volunteers import people
 from twin import STATEMENT, Twin
 from uploading import DATA, upload, url_of
 
-from bsched_bridge.languages import (
+from bsched_bridge.common.languages import (
     ENGLISH,
     LANGUAGES,
     NUMBER,

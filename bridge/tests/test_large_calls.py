@@ -11,12 +11,12 @@ from messages import names, request, value
 from twin import Twin
 from werkzeug.exceptions import BadRequest
 
-from bsched_bridge import large_calls
-from bsched_bridge.exchange import BARRED, PutOff
-from bsched_bridge.large_calls import FRONT, LARGE, MOST_OF_ACCOUNT, SMALL, LargeCalls, Refused
-from bsched_bridge.limits import NoPlace
-from bsched_bridge.measurements import End
-from bsched_bridge.request_parts import RequestFault
+from bsched_bridge.common.limits import NoPlace
+from bsched_bridge.exchange import large_calls
+from bsched_bridge.exchange.answers import BARRED, PutOff
+from bsched_bridge.exchange.large_calls import FRONT, LARGE, MOST_OF_ACCOUNT, SMALL, LargeCalls, Refused
+from bsched_bridge.people.measurements import End
+from bsched_bridge.requests.parts import RequestFault
 
 HEAD = b"<scheduler_request>\n    <authenticator>ann-key</authenticator>\n"
 
@@ -82,7 +82,7 @@ def test_a_body_that_comes_too_slowly(tmp_path: Path, monkeypatch: pytest.Monkey
     """A byte now and then is not enough, neither of the front nor of the rest."""
     seconds = iter(range(10**6))
     clock = SimpleNamespace(monotonic=lambda: float(next(seconds)))
-    monkeypatch.setattr("bsched_bridge.large_calls.time", clock)
+    monkeypatch.setattr("bsched_bridge.exchange.large_calls.time", clock)
     for body, before in ((bytes(10**6), 20), (HEAD + bytes(10**6), len(HEAD) + 200)):
         stream = Pieces(body, [1] * 10**4)
         with pytest.raises(BadRequest):
@@ -127,7 +127,7 @@ def test_a_full_disk(tmp_path: Path, monkeypatch: pytest.MonkeyPatch) -> None:
             raise OSError(28, "No space left on device")
 
     files = SimpleNamespace(TemporaryFile=lambda **_words: Full())
-    monkeypatch.setattr("bsched_bridge.large_calls.tempfile", files)
+    monkeypatch.setattr("bsched_bridge.exchange.large_calls.tempfile", files)
     with pytest.raises(NoPlace):
         with receiver(tmp_path).received(Pieces(HEAD + bytes(LARGE)), LARGE + len(HEAD)):
             pass

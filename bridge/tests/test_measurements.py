@@ -7,10 +7,18 @@ import pytest
 from hypothesis import given
 from hypothesis import strategies as st
 
-from bsched_bridge import measurements
-from bsched_bridge.client_requests import Report
-from bsched_bridge.hosts import Key
-from bsched_bridge.measurements import BOUNDS, Calls, End, Measurements, Reports, UploadCounts, UploadEnd
+from bsched_bridge.people import measurements
+from bsched_bridge.people.hosts import Key
+from bsched_bridge.people.measurements import (
+    BOUNDS,
+    Calls,
+    End,
+    Measurements,
+    Reports,
+    UploadCounts,
+    UploadEnd,
+)
+from bsched_bridge.requests.client_requests import Report
 
 GOOD, ERROR = Report("r", 0, ""), Report("r", 1, "")
 

@@ -17,9 +17,9 @@ from prometheus_client.parser import text_string_to_metric_families
 from twin import Twin
 from uploading import AGAIN, DATA, DONE, NEVER, sent, tokens_of, upload
 
-from bsched_bridge.measurements import BOUNDS, End
-from bsched_bridge.upload_room import NotNow
-from bsched_bridge.upload_store import UploadStore
+from bsched_bridge.people.measurements import BOUNDS, End
+from bsched_bridge.uploads.room import NotNow
+from bsched_bridge.uploads.store import UploadStore
 
 EXAMPLES = Path(__file__).resolve().parents[2] / "examples" / "monitoring"
 PROMTOOL = shutil.which("promtool")
@@ -136,7 +136,7 @@ def test_a_scheduler_that_does_not_answer(bridge: Bridge, twin: Twin) -> None:
 
 
 def test_bsched_is_asked_once_in_a_while(bridge: Bridge, monkeypatch: pytest.MonkeyPatch) -> None:
-    monkeypatch.setattr("bsched_bridge.scheduler_probe.KEPT_SECONDS", 600.0)
+    monkeypatch.setattr("bsched_bridge.scheduler.probe.KEPT_SECONDS", 600.0)
     scheduler, messages = bridge.application.scheduler, list[object]()
     message = scheduler.message
 

@@ -12,8 +12,8 @@ from bridges import ENVIRONMENT
 from served import free_port
 from twin import Twin
 
-from bsched_bridge.catalogue import read_catalogue
-from bsched_bridge.code_signing import new_key, signature_text
+from bsched_bridge.catalogue.contents import read_catalogue
+from bsched_bridge.common.code_signing import new_key, signature_text
 from bsched_files.project_settings import AccountSettings, Address, HostRules, read_settings
 from bsched_files.toml_entries import OperatorFault
 
@@ -226,7 +226,7 @@ def test_a_program_that_was_changed_after_it_was_signed(project: Path) -> None:
 
 
 def test_a_signature_of_another_key(project: Path) -> None:
-    from bsched_bridge.code_signing import file_md5
+    from bsched_bridge.common.code_signing import file_md5
 
     (project / "sum_1.signature").write_text(signature_text(file_md5(project / "files" / "sum_1"), new_key()))
     with pytest.raises(OperatorFault, match="line 13"):
@@ -332,6 +332,6 @@ def test_a_program_that_cant_be_read(project: Path, monkeypatch: pytest.MonkeyPa
     def fails(_path: Path) -> None:
         raise OSError("no such device")
 
-    monkeypatch.setattr("bsched_bridge.catalogue.file_md5", fails)
+    monkeypatch.setattr("bsched_bridge.catalogue.contents.file_md5", fails)
     with pytest.raises(OperatorFault, match="sum_1 is not there, or can't be read"):
         read_catalogue(project / "catalogue.toml")

@@ -77,7 +77,7 @@ def test_the_room_for_uploads(file_bridge: Bridge, monkeypatch: pytest.MonkeyPat
 def test_late_jobs_bring_nothing(file_bridge: Bridge, monkeypatch: pytest.MonkeyPatch) -> None:
     file_bridge.call(request(seconds=120))
     far = 4_000_000_000
-    monkeypatch.setattr("bsched_bridge.overview.time.time", lambda: far)
+    monkeypatch.setattr("bsched_bridge.operator.overview.time.time", lambda: far)
     assert state_of(file_bridge)["uploads"]["coming"] == 0
 
 

@@ -14,9 +14,9 @@ from joining import CLIENT, create, look_up
 from messages import request
 from twin import Twin
 
-from bsched_bridge.pictures import TITLES
-from bsched_bridge.templates import FOLDER, contact, linked, paragraphs
-from bsched_bridge.texts import page_credits
+from bsched_bridge.common.texts import page_credits
+from bsched_bridge.pages.pictures import TITLES
+from bsched_bridge.pages.templates import FOLDER, contact, linked, paragraphs
 from bsched_files.plots import COMPUTERS, CREDIT, RESULTS
 from bsched_files.toml_entries import OperatorFault
 
@@ -471,7 +471,7 @@ def test_the_credit_of_more_hosts_than_the_page_shows(
     open_bridge: Bridge, monkeypatch: pytest.MonkeyPatch
 ) -> None:
     for module in ("statements", "account_pages"):
-        monkeypatch.setattr(f"bsched_bridge.{module}.MOST_HOSTS", 1)
+        monkeypatch.setattr(f"bsched_bridge.pages.{module}.MOST_HOSTS", 1)
     for number in range(2):
         open_bridge.call(request(cpid=f"c{number}"))
     page = page_of(open_bridge.got("/p/account_finish.php?auth=ann-key"), has_key=True)
@@ -675,7 +675,7 @@ def test_a_page_waits_a_little_for_the_status(open_bridge: Bridge) -> None:
 
 def test_statements_that_take_too_long(open_bridge: Bridge, monkeypatch: pytest.MonkeyPatch) -> None:
     open_bridge.call(request())
-    monkeypatch.setattr("bsched_bridge.statements.READ_SECONDS", -1.0)
+    monkeypatch.setattr("bsched_bridge.pages.statements.READ_SECONDS", -1.0)
     page = page_of(open_bridge.got("/p/status"))
     assert "Ann" in page.text and "waiting" not in page.text
 

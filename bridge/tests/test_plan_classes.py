@@ -7,8 +7,8 @@ import pytest
 from bridges import Bridge
 from messages import FIRST, element_at, jobs, request
 
-from bsched_bridge.client_requests import ClientRequest, Coproc, read_request
-from bsched_bridge.plan_classes import PlanClass, by_resource
+from bsched_bridge.requests.client_requests import ClientRequest, Coproc, read_request
+from bsched_bridge.requests.plan_classes import PlanClass, by_resource
 from bsched_files.toml_entries import OperatorFault
 
 X86, I686 = "x86_64-pc-linux-gnu", "i686-pc-linux-gnu"
@@ -195,7 +195,7 @@ def test_the_platforms_of_the_project_are_plain(class_bridge: Bridge) -> None:
     ],
 )
 def test_faulty_classes(project: Path, old: str, new: str, fault: str) -> None:
-    from bsched_bridge.catalogue import read_catalogue
+    from bsched_bridge.catalogue.contents import read_catalogue
 
     path = project / "catalogue.toml"
     path.write_text(path.read_text() + (CLASSES + VERSION.replace("CLASS", "mt")).replace(old, new, 1))

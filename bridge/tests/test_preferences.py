@@ -8,7 +8,7 @@ from joining import create
 from messages import FIRST, request
 from test_pages import Page, page_of, posted
 
-from bsched_bridge.preferences import PreferenceFault, typed
+from bsched_bridge.requests.preferences import PreferenceFault, typed
 
 NOW = 1_800_000_000
 
@@ -18,7 +18,7 @@ def ann(open_bridge: Bridge, monkeypatch: pytest.MonkeyPatch) -> str:
     """Returns the key of an account whose computer has called."""
     made: str = create(open_bridge)
     open_bridge.call(request(key=made))
-    monkeypatch.setattr("bsched_bridge.account_pages.time.time", lambda: NOW + 0.9)
+    monkeypatch.setattr("bsched_bridge.pages.account_pages.time.time", lambda: NOW + 0.9)
     return made
 
 

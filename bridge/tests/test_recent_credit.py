@@ -10,7 +10,7 @@ import pytest
 from bridges import Bridge
 from messages import request, value
 
-from bsched_bridge.recent_credit import RecentCredit
+from bsched_bridge.people.recent_credit import RecentCredit
 
 DAY = 86400
 SALT = "5a17"

@@ -12,8 +12,8 @@ from messages import FIRST, jobs, names, request, value
 from twin import IMPORTS, Twin
 from uploading import file_info, lost_report, on_disk, report, sent, sha256_of, tokens_of, upload
 
-from bsched_bridge.handed_out import HandedOut
-from bsched_bridge.hosts import Key
+from bsched_bridge.people.hosts import Key
+from bsched_bridge.uploads.handed_out import HandedOut
 from bsched_files.catalogue import OutputFile
 from bsched_files.uploads import StoredOutput, compared_text
 
@@ -280,7 +280,7 @@ def test_a_report_that_can_not_be_stored_is_put_off(
     infos = worked(file_bridge)
     with monkeypatch.context() as patch:
         patch.setattr(
-            "bsched_bridge.upload_store.os.link", lambda *_paths: (_ for _ in ()).throw(OSError("full"))
+            "bsched_bridge.uploads.store.os.link", lambda *_paths: (_ for _ in ()).throw(OSError("full"))
         )
         reply = file_bridge.call(report("u1_0", infos))
     assert names(reply, "result_ack") == []

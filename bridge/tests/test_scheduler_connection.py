@@ -7,7 +7,7 @@ from contextlib import contextmanager
 
 import pytest
 
-from bsched_bridge.scheduler_connection import MOST_HEAD, FaultyAnswer, exchanged, message_of
+from bsched_bridge.scheduler.connection import MOST_HEAD, FaultyAnswer, exchanged, message_of
 from bsched_files.project_settings import Address
 
 GOOD = b"HTTP/1.1 200 OK\r\ncontent-type: application/json\r\nContent-Length: 7\r\nconnection: close\r\n\r\n"

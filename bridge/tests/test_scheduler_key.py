@@ -5,8 +5,8 @@ import logging
 import pytest
 from twin import Twin
 
-from bsched_bridge import scheduler as module
-from bsched_bridge.scheduler import NoAnswer, Scheduler, asking_call
+from bsched_bridge.scheduler import messages as module
+from bsched_bridge.scheduler.messages import NoAnswer, Scheduler, asking_call
 
 
 @pytest.fixture(autouse=True)

@@ -12,12 +12,12 @@ from typing import cast
 import pytest
 from joining import wait_until
 
-from bsched_bridge.call_numbers import CallNumbers
-from bsched_bridge.descriptions import Description
-from bsched_bridge.directory import Directory
-from bsched_bridge.hosts import Hosts, Key
-from bsched_bridge.members import Members
-from bsched_bridge.state_file import StateFault, StateFile, WaitingWrites
+from bsched_bridge.common.state_file import StateFault, StateFile, WaitingWrites
+from bsched_bridge.exchange.call_numbers import CallNumbers
+from bsched_bridge.people.directory import Directory
+from bsched_bridge.people.hosts import Hosts, Key
+from bsched_bridge.people.members import Members
+from bsched_bridge.requests.descriptions import Description
 from bsched_files.bridge_state import STATE, UPGRADES
 
 # the tables of version 1, as a bridge of 2026-11-27 made them
@@ -256,7 +256,7 @@ def test_a_write_that_is_put_off(tmp_path: Path) -> None:
 
 
 def test_only_so_many_writes_are_put_off(tmp_path: Path, monkeypatch: pytest.MonkeyPatch) -> None:
-    monkeypatch.setattr("bsched_bridge.state_file.MOST_WAITING", 3)
+    monkeypatch.setattr("bsched_bridge.common.state_file.MOST_WAITING", 3)
     file = StateFile(tmp_path / "state.db")
     for number in range(1, 5):
         assert file.stored_row(READ) == (100_000,)
@@ -341,14 +341,14 @@ def test_a_transaction_that_can_not_begin_leaves_none_open(tmp_path: Path) -> No
 
 
 def test_a_write_waits_for_a_second_at_most(tmp_path: Path, monkeypatch: pytest.MonkeyPatch) -> None:
-    monkeypatch.setattr("bsched_bridge.state_file.PUT_OFF_SECONDS", 0.01)
+    monkeypatch.setattr("bsched_bridge.common.state_file.PUT_OFF_SECONDS", 0.01)
     file = StateFile(tmp_path / "state.db")
     writing = WaitingWrites(file)
     writing.start()
     file.put_off("a", last_hostid(1))
     wait_until(lambda: file.waiting("a") is None)
     assert stored(tmp_path / "state.db") == 1
-    monkeypatch.setattr("bsched_bridge.state_file.PUT_OFF_SECONDS", 600.0)
+    monkeypatch.setattr("bsched_bridge.common.state_file.PUT_OFF_SECONDS", 600.0)
     time.sleep(0.05)
     file.put_off("a", last_hostid(2))
     writing.end()

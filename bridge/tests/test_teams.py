@@ -11,8 +11,8 @@ from test_barring import done
 from test_pages import page_of, posted
 from test_volunteers import people
 
-from bsched_bridge import teams
-from bsched_bridge.names import fold
+from bsched_bridge.accounts import teams
+from bsched_bridge.people.names import fold
 
 
 def acted(bridge: Bridge, key: str, action: str, **fields: str) -> str:

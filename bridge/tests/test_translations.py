@@ -13,8 +13,8 @@ from babel.messages.pofile import read_po  # type: ignore[import]
 from bridges import BRIDGE
 from jinja2 import Environment, nodes
 
-from bsched_bridge.languages import FOLDER, NUMBER
-from bsched_bridge.templates import FOLDER as TEMPLATES
+from bsched_bridge.common.languages import FOLDER, NUMBER
+from bsched_bridge.pages.templates import FOLDER as TEMPLATES
 
 LANGUAGES = sorted(folder.parent.name for folder in FOLDER.glob("*/LC_MESSAGES"))
 PLACE = re.compile(r"%\(([a-z_]+)\)s|%.")
@@ -125,7 +125,7 @@ def test_german_words_of_pages() -> None:
     for message in messages_of(FOLDER / "de" / "LC_MESSAGES" / "bsched.po"):
         for text in forms(message.string):
             assert not re.search(r"\b(vergisst|Ablaufdatum|am Tag)\b", text), text
-            if all(file.startswith("templates/") for file, _ in message.locations):
+            if all(file.startswith("pages/templates/") for file, _ in message.locations):
                 assert "E-Mail" not in text, "its first hyphen is U+2011, at which no line ends"
 
 

@@ -6,9 +6,9 @@ import pytest
 from bridges import Bridge
 from messages import FIRST, jobs, request, value
 
-from bsched_bridge import client_requests
-from bsched_bridge.client_requests import ClientRequest
-from bsched_bridge.request_parts import RequestFault
+from bsched_bridge.requests import client_requests
+from bsched_bridge.requests.client_requests import ClientRequest
+from bsched_bridge.requests.parts import RequestFault
 
 # as client 7.20.5 sends it, after the last result and before <app_versions>
 MESSAGE = (

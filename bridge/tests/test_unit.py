@@ -5,7 +5,7 @@ from pathlib import Path
 import pytest
 
 from bsched_bridge.application import UPLOADS_WAITING
-from bsched_bridge.large_calls import MOST_AT_ONCE
+from bsched_bridge.exchange.large_calls import MOST_AT_ONCE
 
 DEBIAN = Path(__file__).resolve().parents[2] / "debian"
 UNIT = DEBIAN / "bsched-tools@.bsched-bridge.service"

@@ -14,12 +14,12 @@ from messages import FIRST, names, request
 from test_upload_sweep import later, ran
 from uploading import AGAIN, DONE, NEVER, on_disk, report, sent, sha256_of, upload, url_of
 
-from bsched_bridge.handed_out import HandedJob, HandedOut
-from bsched_bridge.hosts import Key
-from bsched_bridge.output_files import upload_name
-from bsched_bridge.state_file import StateFault
-from bsched_bridge.upload_sweep import Swept, sweep
-from bsched_bridge.upload_tables import UploadTables
+from bsched_bridge.catalogue.output_files import upload_name
+from bsched_bridge.common.state_file import StateFault
+from bsched_bridge.people.hosts import Key
+from bsched_bridge.uploads.handed_out import HandedJob, HandedOut
+from bsched_bridge.uploads.sweep import Swept, sweep
+from bsched_bridge.uploads.tables import UploadTables
 from bsched_files.moments import DAY
 
 SIZE, MOST = 20_000, 1_000_000  # max_nbytes of the file `out`, and most_bytes
@@ -355,7 +355,7 @@ def test_the_web_server_is_told_that_a_job_ended(file_bridge: Bridge, end: Calla
 def test_a_url_of_an_older_bridge_is_good_until_the_last_of_its_jobs_ends(
     file_bridge: Bridge, monkeypatch: pytest.MonkeyPatch
 ) -> None:
-    monkeypatch.setattr("bsched_bridge.upload_owners.LOOK_SECONDS", 0.0)
+    monkeypatch.setattr("bsched_bridge.uploads.owners.LOOK_SECONDS", 0.0)
     first, second = hand_out(file_bridge, "ann", 2)
     tables, plain = file_bridge.store.tables, "/p/file_upload_handler"
     with tables.transaction() as connection:

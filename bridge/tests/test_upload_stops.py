@@ -92,7 +92,7 @@ def check(bridge: Bridge, done: list[str]) -> None:
 def test_a_stop_between_each_two_steps(
     file_project: Path, monkeypatch: pytest.MonkeyPatch, is_after: bool, is_power: bool
 ) -> None:
-    monkeypatch.setattr("bsched_bridge.scheduler.PAUSE_SECONDS", 0.0)
+    monkeypatch.setattr("bsched_bridge.scheduler.messages.PAUSE_SECONDS", 0.0)
     at, kinds = 0, set[str]()
     while True:
         at += 1
@@ -142,7 +142,7 @@ def test_a_stop_between_each_two_steps(
 def test_a_stop_while_files_take_the_place_of_earlier_ones(
     file_project: Path, monkeypatch: pytest.MonkeyPatch, is_after: bool
 ) -> None:
-    monkeypatch.setattr("bsched_bridge.scheduler.PAUSE_SECONDS", 0.0)
+    monkeypatch.setattr("bsched_bridge.scheduler.messages.PAUSE_SECONDS", 0.0)
     at, is_stopped = 0, True
     while is_stopped:
         at += 1

@@ -6,11 +6,11 @@ from bridges import Bridge
 from messages import FIRST, jobs, names, request
 from uploading import file_info, on_disk, report, sent, sha256_of, tokens_of, upload
 
-from bsched_bridge import sweep_command
-from bsched_bridge.client_requests import read_request
-from bsched_bridge.hosts import Key
-from bsched_bridge.state_file import StateFault
-from bsched_bridge.upload_sweep import Decisions, Swept, sweep
+from bsched_bridge.common.state_file import StateFault
+from bsched_bridge.people.hosts import Key
+from bsched_bridge.requests.client_requests import read_request
+from bsched_bridge.uploads import sweep_command
+from bsched_bridge.uploads.sweep import Decisions, Swept, sweep
 from bsched_files.catalogue import OutputFile
 from bsched_files.moments import DAY
 from bsched_files.toml_entries import OperatorFault

@@ -31,11 +31,11 @@ from uploading import (
     url_of,
 )
 
-from bsched_bridge import uploads
 from bsched_bridge.application import UPLOADS_WAITING
-from bsched_bridge.catalogue import read_catalogue
-from bsched_bridge.limits import Places
-from bsched_bridge.upload_store import UploadStore, check_uploads
+from bsched_bridge.catalogue.contents import read_catalogue
+from bsched_bridge.common.limits import Places
+from bsched_bridge.uploads import messages as upload_messages
+from bsched_bridge.uploads.store import UploadStore, check_uploads
 from bsched_files.project_settings import read_settings
 from bsched_files.toml_entries import OperatorFault
 
@@ -255,7 +255,7 @@ def test_without_output_files_nothing_is_uploaded(bridge: Bridge) -> None:
 def test_thirty_uploads_under_one_name_leave_one_file(
     file_bridge: Bridge, monkeypatch: pytest.MonkeyPatch
 ) -> None:
-    monkeypatch.setattr("bsched_bridge.upload_tables.SECONDS", 600.0)  # a slow disk may take long
+    monkeypatch.setattr("bsched_bridge.uploads.tables.SECONDS", 600.0)  # a slow disk may take long
     tokens = given(file_bridge)
     answers: list[int] = []
     store = file_bridge.application.uploads
@@ -278,14 +278,14 @@ def test_thirty_uploads_under_one_name_leave_one_file(
 
 
 def test_an_upload_waits_for_a_place(file_bridge: Bridge, monkeypatch: pytest.MonkeyPatch) -> None:
-    monkeypatch.setattr(uploads, "PLACE_SECONDS", 0.01)
+    monkeypatch.setattr(upload_messages, "PLACE_SECONDS", 0.01)
     tokens = given(file_bridge)
     assert file_bridge.application.uploads is not None
     places = file_bridge.application.uploads.places
     message = upload("u1_0_0", DATA, tokens["u1_0_0"])
     with places.taken(), places.taken(), places.taken(), places.taken():
         assert sent(file_bridge, message) == AGAIN
-        monkeypatch.setattr(uploads, "PLACE_SECONDS", 30.0)
+        monkeypatch.setattr(upload_messages, "PLACE_SECONDS", 30.0)
         answers: list[int] = []
         waiting = threading.Thread(target=lambda: answers.append(sent(file_bridge, message)))
         waiting.start()
@@ -315,7 +315,7 @@ def test_a_body_is_read_before_its_upload_is_refused(
     """Else nginx, which still sends, makes a broken bridge of it: the client does not read that it shall give
     up, and sends the file for 90 days.
     """
-    monkeypatch.setattr(uploads, "PLACE_SECONDS", 0.01)
+    monkeypatch.setattr(upload_messages, "PLACE_SECONDS", 0.01)
     tokens, handler = given(file_bridge), file_bridge.application.uploads
     assert handler is not None
     if what == "without a place":
@@ -345,7 +345,7 @@ def test_uploads_that_wait_leave_threads_for_pages(
     """As many threads as the server has without the two for pages are taken: by calls, by uploads, and by
     uploads that wait. One more upload is asked at once to come again.
     """
-    monkeypatch.setattr(uploads, "PLACE_SECONDS", 60.0)
+    monkeypatch.setattr(upload_messages, "PLACE_SECONDS", 60.0)
     application, tokens = file_bridge.application, given(file_bridge)
     assert application.uploads is not None
     handler, answers = application.uploads, list[int]()
@@ -479,7 +479,7 @@ def test_a_secret_that_is_lost_is_not_replaced(file_bridge: Bridge) -> None:
 def test_a_process_that_keeps_its_turn_puts_uploads_off(
     file_bridge: Bridge, monkeypatch: pytest.MonkeyPatch
 ) -> None:
-    monkeypatch.setattr("bsched_bridge.upload_tables.SECONDS", 0.05)
+    monkeypatch.setattr("bsched_bridge.uploads.tables.SECONDS", 0.05)
     tokens = given(file_bridge)
     message = upload("u1_0_0", DATA, tokens["u1_0_0"])
     settings = file_bridge.application.settings.uploads

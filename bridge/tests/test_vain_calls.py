@@ -10,10 +10,12 @@ from messages import FIRST, jobs, names, request, value
 from test_digest_queue import Clock
 from twin import Twin
 
-from bsched_bridge import large_calls, scheduler, scheduler_messages
-from bsched_bridge.client_requests import ClientRequest
-from bsched_bridge.measurements import End
-from bsched_bridge.vain_calls import VainCalls
+from bsched_bridge.exchange import large_calls
+from bsched_bridge.exchange import messages as call_messages
+from bsched_bridge.exchange.vain_calls import VainCalls
+from bsched_bridge.people.measurements import End
+from bsched_bridge.requests.client_requests import ClientRequest
+from bsched_bridge.scheduler import messages as scheduler_messages
 from bsched_files.project_settings import Address, read_settings
 
 TOO_OFTEN = b"ask too often at the moment"
@@ -38,7 +40,7 @@ def took(bridge: Bridge, monkeypatch: pytest.MonkeyPatch) -> Callable[[float], C
     """Returns a function that says how many seconds each call takes from then on, and returns the clock."""
     clock = Clock()
     bridge.application.requests.vain = bridge.application.vain = VainCalls(lambda: 2, 60, clock)
-    monkeypatch.setattr(scheduler_messages, "Seconds", Counted)
+    monkeypatch.setattr(call_messages, "Seconds", Counted)
 
     def take(seconds: float) -> Clock:
         monkeypatch.setattr(Counted, "seconds", seconds)
@@ -134,8 +136,8 @@ def test_the_limit_is_a_setting(project: Path, twin: Twin) -> None:
 def test_bscheds_time_is_shared_among_the_messages_that_wait(monkeypatch: pytest.MonkeyPatch) -> None:
     """Two messages wait for bsched together: each took half of the time that it waited."""
     now, both, seconds = [100.0], threading.Barrier(2, timeout=60), list[float]()
-    monkeypatch.setattr("bsched_bridge.scheduler.time.monotonic", lambda: now[0])
-    made = scheduler.Scheduler(Address("127.0.0.1", 1), 10)
+    monkeypatch.setattr("bsched_bridge.scheduler.messages.time.monotonic", lambda: now[0])
+    made = scheduler_messages.Scheduler(Address("127.0.0.1", 1), 10)
 
     def exchanged(*_: Any) -> tuple[int, bytes]:
         both.wait()
@@ -143,7 +145,7 @@ def test_bscheds_time_is_shared_among_the_messages_that_wait(monkeypatch: pytest
         both.wait()
         return 200, b"{}"
 
-    monkeypatch.setattr(scheduler, "exchanged", exchanged)
+    monkeypatch.setattr(scheduler_messages, "exchanged", exchanged)
 
     def send() -> None:
         made.message("GET", "/")
@@ -193,7 +195,7 @@ def test_many_calls_of_accounts_that_do_not_exist_are_not_read(
 
 def test_strangers_are_few_again_after_a_minute(monkeypatch: pytest.MonkeyPatch) -> None:
     now, strangers = [0.0], large_calls.Strangers()
-    monkeypatch.setattr("bsched_bridge.large_calls.time.monotonic", lambda: now[0])
+    monkeypatch.setattr("bsched_bridge.exchange.large_calls.time.monotonic", lambda: now[0])
     for _ in range(large_calls.MANY_STRANGERS):
         assert not strangers.are_many()
         strangers.add()

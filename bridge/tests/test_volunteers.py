@@ -15,11 +15,11 @@ from numbering import NEW_HOSTID
 from test_pages import Page, page_of, posted, with_key
 from twin import Twin
 
-from bsched_bridge.charts import chart_of
-from bsched_bridge.credit_days import CreditDay, CreditDays
-from bsched_bridge.descriptions import Description, one_line, read_description, system_of
-from bsched_bridge.hosts import MOST_NUMBER, Key
-from bsched_bridge.scheduler import Reply
+from bsched_bridge.pages.charts import chart_of
+from bsched_bridge.people.credit_days import CreditDay, CreditDays
+from bsched_bridge.people.hosts import MOST_NUMBER, Key
+from bsched_bridge.requests.descriptions import Description, one_line, read_description, system_of
+from bsched_bridge.scheduler.messages import Reply
 from bsched_files.moments import DAY
 
 TODAY = 20_000

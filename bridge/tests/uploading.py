@@ -8,8 +8,8 @@ from typing import Any
 from bridges import Bridge
 from messages import FIRST, found, jobs, request
 
-from bsched_bridge.client_requests import read_request
-from bsched_bridge.hosts import Key
+from bsched_bridge.people.hosts import Key
+from bsched_bridge.requests.client_requests import read_request
 
 HEAD = """\
 <data_server_request>

@@ -10,7 +10,7 @@ import subprocess
 import time
 from pathlib import Path
 
-from bsched_bridge.upload_tokens import UploadTokens
+from bsched_bridge.uploads.tokens import UploadTokens
 from served import free_port
 from uploading import HEAD
 

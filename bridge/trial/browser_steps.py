@@ -11,7 +11,8 @@ from pathlib import Path
 from typing import Any
 from urllib.parse import urlencode
 
-from bsched_tools.month import FORMAT, new_plot
+from bsched_files.plots import FORMAT
+from bsched_tools.month_plots import new_plot
 from messages import jobs, request
 
 from .browser import LOOKS, Browser, Look

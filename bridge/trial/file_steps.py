@@ -11,7 +11,7 @@ from contextlib import closing, suppress
 from pathlib import Path
 from urllib.request import urlopen
 
-from bsched_bridge.upload_tokens import UploadTokens
+from bsched_bridge.uploads.tokens import UploadTokens
 from uploading import odd_messages
 
 from . import file_project, project

@@ -34,7 +34,7 @@ def imported(path: Path) -> Iterator[str]:
 
 @pytest.mark.parametrize("package", FOLDERS)
 def test_who_imports_whom(package: str) -> None:
-    for path in FOLDERS[package].glob("*.py"):
+    for path in FOLDERS[package].rglob("*.py"):
         assert {name for name in imported(path) if name in FOLDERS} <= MAY[package], path
 
 

@@ -18,8 +18,8 @@ from test_nginx import NGINX, URL, bridge_port, served, written
 from test_project import Machine
 from twin import Twin
 
-from bsched_bridge.code_signing import new_key
-from bsched_bridge.large_calls import LARGE
+from bsched_bridge.common.code_signing import new_key
+from bsched_bridge.exchange.large_calls import LARGE
 
 pytestmark = pytest.mark.skipif(NGINX is None, reason="nginx is not installed")
 HEAD = "POST /project/cgi HTTP/1.1\r\nHost: sums.example\r\nConnection: close\r\n"

@@ -57,9 +57,9 @@ LIMITS = limits()
 def constants_of(limit: Limit) -> dict[str, float]:
     """Returns the constants that a row names, with their values."""
     found: dict[str, float] = {}
-    for names, module in re.findall(r"((?:`[A-Z_]+`(?:, )?)+) in `(\w+)\.py`", limit.place):
+    for names, module in re.findall(r"((?:`[A-Z_]+`(?:, )?)+) in `([\w/]+)\.py`", limit.place):
         package = "bsched_files" if module == "project_settings" else "bsched_bridge"
-        code = importlib.import_module(f"{package}.{module}")
+        code = importlib.import_module(f"{package}.{module.replace('/', '.')}")
         found |= {name: getattr(code, name) for name in re.findall("[A-Z_]+", names)}
     return found
 

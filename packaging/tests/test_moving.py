@@ -30,7 +30,7 @@ systemctl() {{
 
 MAKE_STATE = """
 from pathlib import Path
-from bsched_bridge.state_file import StateFile
+from bsched_bridge.common.state_file import StateFile
 StateFile(Path("bridge.db")).close()
 """
 

@@ -22,8 +22,9 @@ from test_project import Machine
 PASSED, REFUSED, LENGTH_REQUIRED, TOO_LARGE, NO_ANSWER = 200, 503, 411, 413, 0
 MOST_OF_ADDRESS, MOST_OF_ACCOUNT, MOST_OF_SITE, MOST_OF_ALL, MOST_PLAIN = 8, 8, 16, 64, 4  # uploads
 LARGE, MOST_LARGE, LARGE_OF_ADDRESS, LARGE_OF_SITE = 100_000, 16, 2, 4  # calls
-BURST = 20
+BURST, CALL_BURST = 20, 40  # messages of one address at once, and calls
 NETWORK = ipaddress.IPv6Network("2001:db8:c328:ff0a::/64")
+CALLING_NETWORK = ipaddress.IPv6Network("2001:db8:c328:ff0b::/64")
 NEVER = (
     "<data_server_reply>\n<status>-1</status>\n<message>The project refuses this file.</message>\n"
     "</data_server_reply>\n"
@@ -59,6 +60,33 @@ def test_no_body_may_stay_away_for_long(machine: Machine) -> None:
     passed = [part for part in passed if "internal;" not in part and "return 404;" not in part]
     passed += [part for part in re.findall(r"^location .*?^}", text, re.M | re.S) if "large_call {" in part]
     assert len(passed) == 8 and all("client_body_timeout 10s;" in part for part in passed)
+
+
+@pytest.mark.parametrize("zone, refusal_seconds", [("client_calls", 0.00156), ("upload_checks", 0.00104)])
+def test_what_is_refused_of_four_addresses_takes_a_second_in_a_minute(
+    machine: Machine, zone: str, refusal_seconds: float
+) -> None:
+    """Also in the first minute, in which as many come at once as may. A refused message takes so many seconds
+    of a processor at most, at nginx and the bridge (docs/MEASURED.md).
+    """
+    files = written(machine, "sums", URL)
+    limits, locations = ((files / name).read_text() for name in ("limits.conf", "locations.conf"))
+    for name, addresses in ((f"bsched_{zone}", 4), (f"bsched_site_{zone}", 1)):
+        (rate,) = map(int, re.findall(rf"zone={name}:10m rate=(\d+)r/s;", limits))
+        (burst,) = set(map(int, re.findall(rf"limit_req zone={name} burst=(\d+) nodelay;", locations)))
+        assert addresses * (burst + 60 * rate) * refusal_seconds < 1, name
+
+
+def test_calls_of_all_lengths_count_together(machine: Machine) -> None:
+    """A large call is led to a location of its own."""
+    text = (written(machine, "sums", URL) / "locations.conf").read_text()
+    found = {
+        name: set(re.findall(r"limit_req zone=(\w+) ", part))
+        for name, part in re.findall(r"^location (.*?) \{(.*?)^\}", text, re.M | re.S)
+    }
+    own = {"bsched_client_calls", "bsched_site_client_calls"}
+    assert {name.rpartition("/")[2] for name, zones in found.items() if zones & own} == {"cgi", "large_call"}
+    assert found["= /project/cgi"] == found["= /project/large_call"] == own
 
 
 @pytest.mark.parametrize("url, is_strict", [(URL, True), ("https://sums.example:8443/", False)])
@@ -200,6 +228,20 @@ class Site:
         connection.close()
         return statuses
 
+    def called(self, addresses: list[str]) -> Counter[int]:
+        """Sends a call from each address, one after the other. Returns how often each status came."""
+        statuses = Counter[int]()
+        connection = self.connection()
+        for address in addresses:
+            connection.request(
+                "POST", "/project/cgi", b"call", headers={"Host": "sums.example", "X-Address": address}
+            )
+            response = connection.getresponse()
+            response.read()
+            statuses[response.status] += 1
+        connection.close()
+        return statuses
+
     def begun(self, sent: Sent, body: bytes) -> http.client.HTTPSConnection:
         """Sends a message, maybe only a part of its body. Returns the connection."""
         connection = self.connection()
@@ -309,6 +351,35 @@ def test_whom_an_address_counts_as(strict_site: Site, who: str) -> None:
         assert statuses[REFUSED] > 0 and statuses[PASSED] > BURST
     else:
         assert statuses == {PASSED: len(addresses)}
+
+
+# Who sends calls, and whether nginx takes them for one. No address is in two of them.
+CALLING_OFTEN = {
+    "forty computers of a department, behind one address": (["192.0.2.210"] * CALL_BURST, False),
+    "one address calls without end": (["192.0.2.211"] * 120, True),
+    "one IPv6 user takes another address of his /64 each time": (addresses_of(CALLING_NETWORK, 120), True),
+    "fifty IPv6 volunteers of a provider": (networks_of("2001:db8:3::1", 50), False),
+    "one customer takes another /64 of his /48 each time": (networks_of("2001:db8:4::1", 400), True),
+}
+
+
+@pytest.mark.parametrize("who", CALLING_OFTEN)
+def test_who_calls_too_often(strict_site: Site, who: str) -> None:
+    addresses, is_too_often = CALLING_OFTEN[who]
+    statuses = strict_site.called(addresses)
+    if is_too_often:
+        assert statuses[REFUSED] > 0 and statuses[PASSED] > CALL_BURST
+    else:
+        assert statuses == {PASSED: len(addresses)}
+
+
+def test_who_calls_too_often_still_reads_pages(strict_site: Site) -> None:
+    """Nor do those who read many pages take the calls of computers behind the same address."""
+    calling, reading = "192.0.2.212", "192.0.2.213"
+    assert strict_site.called([calling] * 120)[REFUSED] > 0
+    assert strict_site.asked([calling] * BURST) == {PASSED: BURST}
+    assert strict_site.asked([reading] * 100)[REFUSED] > 0
+    assert strict_site.called([reading] * CALL_BURST) == {PASSED: CALL_BURST}
 
 
 @contextmanager

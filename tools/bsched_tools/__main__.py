@@ -21,23 +21,23 @@ from bsched_files.texts import shown
 from .amounts import count_text
 from .catalogue_file import output_names_of
 from .command_line import NAME, new_parser
-from .copying import copy_tables
+from .copies.copying import copy_tables
+from .copies.faults import Ended
 from .counts import as_json, as_lines, as_metrics, counted
 from .doctor import examined
 from .exports import export
-from .faults import Ended
-from .handing import hand_on
 from .health import findings_of, write_findings
 from .history import History
 from .import_files import KINDS, ImportFile, checked
 from .imports import import_file
 from .jobs import host_lines, workunit_lines
 from .mailing import mail_changes
-from .members import agreed_in
+from .process import hand_on
 from .projects import PROGRAM, Project, project_of
 from .results import write_results
-from .starts import rows_in, start_text
+from .start_times import rows_in, start_text
 from .stuck import named
+from .users import agreed_in
 from .volunteers import Volunteers, ask_bridge, volunteers_of
 from .work_commands import WORK_COMMANDS, say_spoiled
 
@@ -225,7 +225,7 @@ def report(args: Arguments) -> None:
         title, all_copies = title or project.title, copies_of(args, project)
         replace_file(kept / COUNTS, [f"{counted(all_copies).text()}\n".encode()])
     try:
-        from .month import write_month
+        from .month_plots import write_month
         from .page import write_report
     except ModuleNotFoundError:
         raise Fault("report: it needs Debian's python3-matplotlib: install that") from None

@@ -25,7 +25,7 @@ from .catalogue_file import ProjectCatalogue, made_for_group, write_file
 from .import_files import AGREEMENT, MOST_DISTANCE, read_import
 from .imports import import_file
 from .inputs import digest_of
-from .looks import check_importing, tables_of
+from .project_access import check_importing, tables_of
 from .projects import Project
 from .volunteers import command_of_bridge
 

@@ -1,7 +1,7 @@
 """The average credit of users and hosts of the tables, in the file of averages."""
 from bsched_files.averages import AveragesFile, Kept
 
-from .members import Host, User
+from .users import Host, User
 
 
 class Averages(AveragesFile):

@@ -22,15 +22,15 @@ from bsched_files.workunits import IS_HELD, Workunit, decided
 
 from .catalogue_file import output_names_of
 from .cursors import Cursor, cursor_at
-from .looks import Look
-from .progress import names_in_batch
-from .projects import Project
 from .placing import OutputFolder, Spoiled
+from .progress import names_in_batch
+from .project_access import Look
+from .projects import Project
 from .results import Line, lines_of
 from .stuck import Stuck, named, stuck_in
 from .submitting import read_record
 from .texts import table_text
-from .uploaded import UploadedFile, Uploads, uploads_in
+from .uploaded import UploadedFile, UploadFolder, uploads_in
 
 RESULTS, FAILED, OPENED, CURSOR = "results.csv", "failed.csv", "open.csv", ".collected"
 RESULT_COLUMNS = ("workunit", "input", "result", "credit", "output", "files")
@@ -99,7 +99,7 @@ def csv_bytes(columns: tuple[str, ...], rows: list[tuple[str, ...]]) -> bytes:
 class Collector:
     """Collects the outputs of some tables into a folder."""
 
-    def __init__(self, project: Project, folder: OutputFolder, uploads: Uploads | None) -> None:
+    def __init__(self, project: Project, folder: OutputFolder, uploads: UploadFolder | None) -> None:
         self.folder, self.uploads = folder, uploads
         self.inputs, self.found = inputs_of(project), Collected()
 

@@ -22,8 +22,9 @@ from bsched_files.tables import (
     schema_fault,
 )
 
-from . import holders, starts
+from . import start_times
 from .checks import wrong_rows
+from .copies import holders
 from .settings_file import settings_faults
 
 MOST_ROWS = 50
@@ -71,7 +72,7 @@ def holder_faults(path: Path) -> Iterator[str]:
     """Yields which processes have the file."""
     identity = holders.identity_of(path)
     for one in holders.all_open_files(identity) if identity else []:
-        if one.lock == "WRITE" and (opening := starts.opening_text(one.pid, path)):
+        if one.lock == "WRITE" and (opening := start_times.opening_text(one.pid, path)):
             yield f"{one.process} has it, and {opening}: wait for it, or end it first"
         elif one.lock == "WRITE":
             yield (

@@ -17,8 +17,8 @@ from bsched_files.tables import all_opened
 from bsched_files.texts import credit_number, xml_text
 
 from .averages import Averages
-from .copies import turn
-from .members import Host, User, users_of
+from .copies.folder import turn
+from .users import Host, User, users_of
 from .volunteers import Team
 
 TURN_SECONDS = 60.0

@@ -13,16 +13,16 @@ from bsched_files.tables import Tables, opened
 from bsched_files.texts import credit_number
 
 from . import plots
-from .copies import turn
+from .copies.folder import turn
 from .counts import counted
-from .findings import (
+from .history import TURNAROUND_HOURS, Entry, History
+from .page_facts import (
     credit_by_user,
     deadlines_by_hour,
     hosts_with_errors,
     marked_by_class,
     stuck_workunits,
 )
-from .history import TURNAROUND_HOURS, Entry, History
 
 TURN_SECONDS = 60.0
 MOST_POINTS = 500

@@ -13,7 +13,7 @@ from bsched_files.workunits import IS_HELD, OPEN, REASONS
 from .amounts import count_text
 from .computers import BadComputer, bad_computers
 from .computers import named as named_computers
-from .looks import Look
+from .project_access import Look
 from .stuck import Stuck, named, stuck_in
 from .texts import main_line
 

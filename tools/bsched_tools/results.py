@@ -18,7 +18,7 @@ from .cursors import Cursor, Given, cursor_at
 from .placing import OutputFolder, Spoiled, check_stored
 from .stuck import Stuck, stuck_in
 from .texts import json_text, table_text
-from .uploaded import OutputNames, UploadedFile, Uploads, uploads_in
+from .uploaded import OutputNames, UploadedFile, UploadFolder, uploads_in
 
 COLUMNS = (
     "workunit",
@@ -139,7 +139,7 @@ class Output:
     """The form of the results, and where their files are and go."""
 
     as_lines: bool  # lines of JSON
-    uploads: Uploads | None  # the bridge's folder of uploads, if files are asked for
+    uploads: UploadFolder | None  # the bridge's folder of uploads, if files are asked for
     files_to: OutputFolder | None  # the folder that gets the files
     are_compared: bool = False  # each file is compared, also without such a folder
 

@@ -11,7 +11,7 @@ from typing import Any
 from bsched_files.tables import Tables
 
 from .amounts import count_text
-from .looks import check_importing, tables_of, turn_of
+from .project_access import check_importing, tables_of, turn_of
 from .projects import Project
 from .submitting import (
     batches_by,

@@ -22,13 +22,13 @@ from bsched_files.tables import Tables
 from bsched_files.texts import MILLICREDITS
 
 from .amounts import bytes_text, count_text
-from .bars import Bar
 from .catalogue_file import give_to_group, made_for_group, write_file
 from .import_files import KINDS, ImportFile, Row
 from .imports import Batch, Sender, batches_of, refusal_text
 from .inputs import Input, digest_of
-from .looks import check_importing, tables_of
 from .progress import begun, earlier, progress_of, span_text
+from .progress_bars import Bar
+from .project_access import check_importing, tables_of
 from .projects import Project
 from .stuck import stuck_in
 

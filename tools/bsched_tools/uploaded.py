@@ -34,7 +34,7 @@ class UploadedFile:
 
 
 @dataclass(frozen=True, slots=True)
-class Uploads:
+class UploadFolder:
     """A folder of uploads, opened read-only."""
 
     folder: Path
@@ -67,10 +67,10 @@ class Uploads:
 
 
 @contextmanager
-def uploads_in(folder: Path, output_names: OutputNames | None = None) -> Iterator[Uploads]:
+def uploads_in(folder: Path, output_names: OutputNames | None = None) -> Iterator[UploadFolder]:
     """Yields a folder of uploads. Without the names of output files no output names a file."""
     path = folder / DATABASE
     if not path.is_file():
         raise Fault(f"{folder}: it has no uploads.db, so it is not the folder of a bridge's uploads")
     with UPLOADS.opened(path, BUSY_SECONDS) as connection:
-        yield Uploads(folder, connection, output_names or {})
+        yield UploadFolder(folder, connection, output_names or {})

@@ -10,12 +10,12 @@ from bsched_files.texts import shown
 
 from .amounts import MOST_CREDIT, count_text
 from .apps import LINE_FOLDER, NewApp, add_app, input_member, output_member, read_files
-from .bars import Bar
 from .catalogue_file import ProjectCatalogue
 from .collecting import collect_files, collected_lines
 from .inputs import Input, check_batch, combinations, lines_in, of_files, of_texts
-from .looks import check_member, looked_at, tables_of, turn_of
 from .progress import earlier, names_in_batch, progress_lines, progress_of, trouble_in
+from .progress_bars import Bar
+from .project_access import check_member, looked_at, tables_of, turn_of
 from .projects import Project, project_of
 from .slices import feed, left_in
 from .submitting import CREDIT_OF_HOUR, Amounts, Plan, app_of, check_sizes, errors_of, places_of, submit_work

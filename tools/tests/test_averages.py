@@ -7,7 +7,7 @@ import pytest
 from bsched_files.faults import Fault
 from bsched_files.moments import DAY
 from bsched_tools.averages import Averages
-from bsched_tools.members import Host, User
+from bsched_tools.users import Host, User
 
 
 def user(name: str, *hosts: Host) -> User:

@@ -13,10 +13,10 @@ import pytest
 from work_project import WorkProject
 
 from bsched_bridge.application import Application
-from bsched_bridge.current_catalogue import CatalogueReader
-from bsched_bridge.scheduler import Scheduler
-from bsched_bridge.state_file import StateFile
-from bsched_bridge.upload_store import open_store
+from bsched_bridge.common.state_file import StateFile
+from bsched_bridge.scheduler.messages import Scheduler
+from bsched_bridge.uploads.current_catalogue import CatalogueReader
+from bsched_bridge.uploads.store import open_store
 from bsched_files.findings import Finding, Level
 from bsched_files.project_settings import read_settings
 from bsched_tools import bridge_state

@@ -7,7 +7,7 @@ from pathlib import Path
 import pytest
 from small_project import make_tables
 
-from bsched_bridge.upload_tables import UploadTables
+from bsched_bridge.uploads.tables import UploadTables
 from bsched_tools import comparing
 from bsched_tools.comparing import compared
 from bsched_tools.projects import Project

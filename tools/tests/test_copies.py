@@ -6,9 +6,9 @@ from pathlib import Path
 import pytest
 
 from bsched_files.copies import give_to
-from bsched_tools import copies
-from bsched_tools.holders import identity_of
-from bsched_tools.taking import Source, Taken
+from bsched_tools.copies.folder import place, remove_older, work_folder
+from bsched_tools.copies.holders import identity_of
+from bsched_tools.copies.taking import Source, Taken
 
 MOMENT = 1_000_000.5
 
@@ -29,7 +29,7 @@ def taken(project: Path, tmp_path: Path) -> Taken:
 
 
 def test_a_copy_has_the_time_at_which_it_was_taken(taken: Taken, source: Source, tmp_path: Path) -> None:
-    copies.place(taken, source, tmp_path / "copy.db")
+    place(taken, source, tmp_path / "copy.db")
     assert (tmp_path / "copy.db").stat().st_mtime == MOMENT
 
 
@@ -43,9 +43,9 @@ def test_a_copy_is_synced_before_it_has_its_name_and_its_folder_after(
         rename(old, new)
         done.append("rename")
 
-    monkeypatch.setattr(copies, "sync", done.append)
+    monkeypatch.setattr("bsched_tools.copies.folder.sync", done.append)
     monkeypatch.setattr(os, "rename", renamed)
-    copies.place(taken, source, tmp_path / "copy.db")
+    place(taken, source, tmp_path / "copy.db")
     assert done == [taken.path, "rename", tmp_path]
 
 
@@ -58,13 +58,15 @@ def test_the_folder_is_synced_after_older_copies_are_removed(
     for name in names:
         shutil.copy(project, name)
     left: list[tuple[object, list[Path]]] = []
-    monkeypatch.setattr(copies, "sync", lambda path: left.append((path, sorted(folder.glob("*.db")))))
-    assert sorted(copies.remove_older(names[-1], "project", 1)) == names[:-1]
+    monkeypatch.setattr(
+        "bsched_tools.copies.folder.sync", lambda path: left.append((path, sorted(folder.glob("*.db"))))
+    )
+    assert sorted(remove_older(names[-1], "project", 1)) == names[:-1]
     assert left == [(folder, names[-1:])]
 
 
 def test_a_work_folder_that_somebody_removed_is_no_fault(tmp_path: Path) -> None:
-    with copies.work_folder(tmp_path) as made:
+    with work_folder(tmp_path) as made:
         shutil.rmtree(made)
     assert list(tmp_path.iterdir()) == []
 

@@ -18,8 +18,8 @@ from small_project import END, PACKAGES, SETTINGS, Twin, make_tables, rows_of, t
 
 from bsched_files.copies import copy_name, found_copy, give_to
 from bsched_files.faults import Fault
-from bsched_tools import copying, holders, stopping, taking
-from bsched_tools.faults import Retry
+from bsched_tools.copies import copying, holders, stopping, taking
+from bsched_tools.copies.faults import Retry
 
 
 def identity_of(path: Path) -> holders.Identity:
@@ -198,7 +198,7 @@ def test_serving_goes_on_where_the_tool_is_killed(project: Path, twin: Twin, cop
 def test_serving_goes_on_where_the_tool_is_killed_while_it_stands_still(project: Path, twin: Twin) -> None:
     """The parent is killed during the stop. Its child continues the process."""
     script = (
-        "import sys, time; from bsched_tools import stopping\n"
+        "import sys, time; from bsched_tools.copies import stopping\n"
         f"with stopping.process_of({twin.process.pid}) as process, stopping.stopped(process):\n"
         "    print('still', flush=True); time.sleep(60)\n"
     )
@@ -251,7 +251,7 @@ def test_a_process_that_does_not_stop_goes_on(
 
 LIKE_THE_PROGRAM = """
 import sys, time
-from bsched_tools import taking
+from bsched_tools.copies import taking
 files = [open(path, "rb+") for path in sys.argv[1:]]
 assert all(taking.lock(file.fileno()) for file in files)
 print("locked", flush=True)

@@ -11,7 +11,8 @@ from hypothesis import given, settings, strategies
 from lives import Stored, life_of, stored_life
 from small_project import Twin, made_anew, make_tables, rows_of, tools
 
-from bsched_tools import copying, counts
+from bsched_tools import counts
+from bsched_tools.copies import copying
 
 STATUSES = {
     "open": "open",

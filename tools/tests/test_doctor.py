@@ -15,7 +15,7 @@ from hypothesis import given, settings, strategies
 from lives import life_of, stored_life
 from small_project import SETTINGS, TOOLS, WORKUNITS, Twin, make_tables, request, tools
 
-from bsched_tools import doctor, starts
+from bsched_tools import doctor, start_times
 
 STORED_TESTS = TOOLS.parent / "crates" / "bsched" / "src" / "tests" / "stored.rt"
 
@@ -169,8 +169,8 @@ def test_a_start_that_goes_on(tmp_path: Path) -> None:
     "rows, seconds", [(50, "a second or two"), (500_000, "some 10 seconds, and two or three times")]
 )
 def test_how_long_a_start_takes(rows: int, seconds: str, monkeypatch: pytest.MonkeyPatch) -> None:
-    monkeypatch.setattr(starts, "ROWS_A_SECOND", 50_000)
-    assert seconds in starts.start_text(rows)
+    monkeypatch.setattr(start_times, "ROWS_A_SECOND", 50_000)
+    assert seconds in start_times.start_text(rows)
 
 
 def test_rows_of_an_opening(tmp_path: Path) -> None:
@@ -181,8 +181,8 @@ def test_rows_of_an_opening(tmp_path: Path) -> None:
             connection.execute(f"SELECT count(*) FROM {name}").fetchone()[0]
             for name in ("unit", "instance", "host", "kept4")
         ]
-    assert counts[0] == 2 and starts.rows_in(path) == sum(counts)
-    assert starts.rows_in(tmp_path / "none.db") is None
+    assert counts[0] == 2 and start_times.rows_in(path) == sum(counts)
+    assert start_times.rows_in(tmp_path / "none.db") is None
 
 
 def test_files(tmp_path: Path) -> None:

@@ -10,13 +10,13 @@ import pytest
 from made_project import SETTINGS, TWIN, MadeProject
 from small_project import LIMITS, WORKUNITS, rows_of, tools
 
-from bsched_bridge.barring import Barring
-from bsched_bridge.members import Members, first_heard
-from bsched_bridge.state_file import StateFile
-from bsched_bridge.teams import Teams
+from bsched_bridge.accounts.teams import Teams
+from bsched_bridge.common.state_file import StateFile
+from bsched_bridge.people.barring import Barring
+from bsched_bridge.people.members import Members, first_heard
 from bsched_files.faults import Fault
 from bsched_tools import imports, projects
-from bsched_tools.copies import turn
+from bsched_tools.copies.folder import turn
 from bsched_tools.import_files import read_import
 
 

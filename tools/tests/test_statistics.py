@@ -16,7 +16,7 @@ from bsched_files import atomic as files
 from bsched_files.averages import average_after
 from bsched_files.faults import Fault
 from bsched_tools import exports
-from bsched_tools.members import agreed_in
+from bsched_tools.users import agreed_in
 from bsched_tools.volunteers import Team
 
 DAY = 86400

@@ -6,7 +6,7 @@ from pathlib import Path
 import pytest
 
 from bsched_files.faults import Fault
-from bsched_tools.copies import turn
+from bsched_tools.copies.folder import turn
 
 
 def test_others_wait_for_a_turn(tmp_path: Path) -> None:

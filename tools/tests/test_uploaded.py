@@ -14,7 +14,7 @@ from lives import life_of, stored_life
 from small_project import tools
 from test_results import lines_of, rows_of
 
-from bsched_bridge.upload_tables import UploadTables
+from bsched_bridge.uploads.tables import UploadTables
 from bsched_files import atomic as files
 from bsched_files.faults import Fault
 from bsched_files.workunits import Workunit

@@ -21,14 +21,14 @@ from served import free_port
 from small_project import TOOLS, rows_of, tools
 from work_project import CATALOGUE, PLATFORM, WorkProject
 
-from bsched_bridge.code_signing import file_md5, read_private_key, signature_text, write_new_keys
+from bsched_bridge.common.code_signing import file_md5, read_private_key, signature_text, write_new_keys
 from bsched_files import counts
 from bsched_files.faults import Fault
-from bsched_tools import __main__, apps, catalogue_file, looks, projects, submitting
-from bsched_tools.bars import Bar
+from bsched_tools import __main__, apps, catalogue_file, project_access, projects, submitting
 from bsched_tools.catalogue_file import ProjectCatalogue
 from bsched_tools.import_files import KINDS, ImportFile, Row
 from bsched_tools.imports import Sender, import_file
+from bsched_tools.progress_bars import Bar
 
 NAME = f"count_1_{PLATFORM}.py"
 
@@ -408,7 +408,7 @@ def test_a_signal_while_the_tables_are_copied_ends_the_command(
     def copy(*_args: object) -> Any:
         os.kill(os.getpid(), number)
 
-    monkeypatch.setattr(looks, "copy_tables", copy)
+    monkeypatch.setattr(project_access, "copy_tables", copy)
     words = "submit", "--project", f"{work.folder}/", "--app", "count", "--batch", "run", work.inputs
     ended = run_here(capsys, *words)
     assert ended == (1, "", f"bsched-tools: ended by {number.name}\n")
@@ -574,7 +574,7 @@ def test_a_scheduler_that_gives_no_answer(
     work.make_inputs(1)
     work.end()
     before = work.state()
-    monkeypatch.setattr(looks, "ASK_SECONDS", 0.3)
+    monkeypatch.setattr(project_access, "ASK_SECONDS", 0.3)
     words = "submit", "--project", f"{work.folder}/", "--app", "count", "--batch", "run", work.inputs
     with socket.create_server(("127.0.0.1", work.port)):
         is_refused(
@@ -618,14 +618,14 @@ def test_a_stopped_project_imports_by_the_program(
 def test_who_may_use_a_project(tmp_path: Path, monkeypatch: pytest.MonkeyPatch) -> None:
     project = projects.Project(tmp_path)
     project.settings.write_text(SETTINGS)
-    looks.check_member(project)
+    project_access.check_member(project)
     monkeypatch.setattr(os, "geteuid", lambda: 12345)
     monkeypatch.setattr(os, "getegid", lambda: 12345)
     monkeypatch.setattr(os, "getgroups", lambda: [12345])
     with pytest.raises(Fault, match="only root and members of the group bsched may use this project"):
-        looks.check_member(project)
+        project_access.check_member(project)
     monkeypatch.setattr(os, "getgroups", lambda: [12345, project.settings.stat().st_gid])
-    looks.check_member(project)
+    project_access.check_member(project)
 
 
 @pytest.mark.skipif(os.geteuid() != 0, reason="only root can become another user")
@@ -786,7 +786,7 @@ def test_a_stop_of_app_at_each_step(
 
 
 def test_one_command_at_a_time(bare: WorkProject) -> None:
-    with looks.turn_of(projects.Project(bare.folder)):
+    with project_access.turn_of(projects.Project(bare.folder)):
         fault = (
             f"bsched-tools: {bare.folder}: another `app` or `submit` is at work: wait until it has ended\n"
         )
@@ -805,7 +805,7 @@ def test_a_bar_is_drawn_on_a_terminal_alone(
     Bar("importing").seen(5, 10)
     assert capsys.readouterr().err == ""
     monkeypatch.setattr(sys.stderr, "isatty", lambda: True, raising=False)
-    monkeypatch.setattr("bsched_tools.bars.PAUSE_SECONDS", 600.0)
+    monkeypatch.setattr("bsched_tools.progress_bars.PAUSE_SECONDS", 600.0)
     bar = Bar("importing")
     bar.seen(5, 10)
     bar.seen(6, 10)  # too soon
@@ -974,7 +974,7 @@ def test_why_no_copy_can_be_taken_is_said_if_there_is_no_older_one(
     def refuse(*_args: object) -> None:
         raise Fault("project.db: the disk is full")
 
-    monkeypatch.setattr("bsched_tools.looks.copy_tables", refuse)
+    monkeypatch.setattr("bsched_tools.project_access.copy_tables", refuse)
     status, output, fault = run_here(capsys, "progress", "--project", f"{bare.folder}/")
     advice = "make one by `bsched-tools copy --project sums`, as root"
     assert (status, output) == (1, "")

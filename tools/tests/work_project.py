@@ -1,7 +1,7 @@
 """A project with a bridge for the tests: its scheduler is the twin, and nobody serves its bridge."""
 from pathlib import Path
 
-from bsched_bridge.code_signing import write_new_keys
+from bsched_bridge.common.code_signing import write_new_keys
 from made_project import MadeProject
 from small_project import KEY
 

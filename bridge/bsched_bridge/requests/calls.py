@@ -1,0 +1,106 @@
+"""The JSON text of a call (docs/PROFILE.md, "The request")."""
+import json
+
+from .client_requests import ClientRequest, Report
+
+MOST_BYTES = 262_144
+MOST_REPORTS = 256
+MOST_OTHER_RESULTS = 1024
+COMMA = 1
+
+_written = json.JSONEncoder(ensure_ascii=False, separators=(",", ":")).encode
+
+
+def written_length(value: object) -> int:
+    """Returns how many bytes a value takes in a list."""
+    return len(_written(value).encode()) + COMMA
+
+
+def profile_report(report: Report) -> dict[str, object]:
+    """Returns a report as the profile writes it."""
+    return {"name": report.name, "exit_status": report.exit_status, "output": report.output}
+
+
+def reports_that_fit(request: ClientRequest, room: int, by_name: bool) -> int:
+    """Returns how many reports, from the first on, fit into this many bytes. With by_name the others still
+    need room for their names.
+    """
+    names = [written_length(report.name) if by_name else 0 for report in request.results]
+    room -= sum(names)
+    for count, (report, name) in enumerate(zip(request.results[:MOST_REPORTS], names)):
+        room -= written_length(profile_report(report)) - name
+        if room < 0:
+            return count
+    return min(len(request.results), MOST_REPORTS)
+
+
+def call_text(
+    request: ClientRequest, host_cpid: str, number: int, in_hand: list[str], seconds_in_hand: int
+) -> bytes:
+    """Returns the text of a call for a request, under the bridge's own number.
+
+    The names in hand are those of jobs that the bridge has for the client. They are listed as if the client
+    had them, and their seconds count as received. What the profile has no room for is put off. Reports that
+    don't fit are listed by their names, so that they don't count as lost. If there are too many names, or
+    they leave no room for a single report, all names are left out.
+    """
+    record: dict[str, object] = {
+        "authenticator": request.authenticator,
+        "hostid": 0,
+        "rpc_seqno": number,
+        "host_info": {
+            "host_cpid": host_cpid,
+            "p_fpops": request.p_fpops,
+            "m_nbytes": request.m_nbytes,
+            "d_free": request.d_free,
+        },
+        "platform_name": request.platform_name,
+        "alt_platforms": request.alt_platforms,
+        "work_req_seconds": max(0, request.work_req_seconds - seconds_in_hand),
+        "other_results": [],
+        "results": [],
+    }
+    other = None if request.other_results is None else list(dict.fromkeys([*request.other_results, *in_hand]))
+    text = whole_text(record, request.results, other)
+    if text is None:
+        text = text_that_fits(record, request, other)
+    return text
+
+
+def whole_text(
+    record: dict[str, object], results: tuple[Report, ...], other: list[str] | None
+) -> bytes | None:
+    """Returns the text of a call with all reports and all names. If they don't fit, returns None."""
+    if len(results) > MOST_REPORTS or len(other or ()) > MOST_OTHER_RESULTS:
+        return None
+    whole: dict[str, object] = {
+        **record,
+        "other_results": other,
+        "results": list(map(profile_report, results)),
+    }
+    if other is None:
+        del whole["other_results"]
+    text = _written(whole).encode()
+    return text if len(text) <= MOST_BYTES else None
+
+
+def text_that_fits(record: dict[str, object], request: ClientRequest, other: list[str] | None) -> bytes:
+    """Returns the text of a call with what the profile has room for."""
+    room = MOST_BYTES - written_length(record)
+    if other is not None:
+        names_room = room - sum(map(written_length, other))
+        count = reports_that_fit(request, names_room, True)
+        other += [report.name for report in request.results[count:]]
+        if (
+            len(other) > MOST_OTHER_RESULTS
+            or sum(map(written_length, other)) > room
+            or count == 0 < len(request.results)
+        ):
+            other = None
+    if other is None:
+        count = reports_that_fit(request, room, False)
+        del record["other_results"]
+    else:
+        record["other_results"] = other
+    record["results"] = [profile_report(report) for report in request.results[:count]]
+    return _written(record).encode()
