@@ -27,6 +27,7 @@ amounts, inputs                 amounts as a person writes them, and what a batc
 submitting                      a batch of work: its record, its staged inputs, and its imports
 slices                          batches that are imported a slice at a time
 progress, collecting            how far the work is, and its outputs in a folder
+watching                        how far the work is, once or on a screen that stays
 progress_bars                   progress bars on a terminal
 health                          what answers, and what is old or nearly full
 answers, bridge_state           what answers over HTTP, and what the bridge says of itself

@@ -23,11 +23,10 @@ from .catalogue_file import output_names_of
 from .command_line import NAME, new_parser
 from .copies.copying import copy_tables
 from .copies.faults import Ended
-from .counts import as_json, as_lines, as_metrics, counted
+from .counts import as_json, as_lines, as_metrics, counted, files_counted, total
 from .doctor import examined
 from .exports import export
 from .health import findings_of, write_findings
-from .history import History
 from .import_files import KINDS, ImportFile, checked
 from .imports import import_file
 from .jobs import host_lines, workunit_lines
@@ -219,21 +218,23 @@ def report(args: Arguments) -> None:
     """Writes the page. For a project it also writes the counts and the plots that the bridge shows on its own
     pages."""
     project = project_named(args)
-    to, title, kept, copies = args.to, args.title, None, copies_of(args, project, False)
+    to, title, kept, counts, copies = args.to, args.title, None, None, copies_of(args, project)
+    copy = copies[-1]
     if project is not None:
         kept, to = project.made(project.work, 0o700), to or project.made(project.units().page, 0o755)
-        title, all_copies = title or project.title, copies_of(args, project)
-        replace_file(kept / COUNTS, [f"{counted(all_copies).text()}\n".encode()])
+        title, files = title or project.title, files_counted(copies)
+        replace_file(kept / COUNTS, [f"{total(files).text()}\n".encode()])
+        copy, counts = files[-1].path, total(files[-1:])
     try:
         from .month_plots import write_month
         from .page import write_report
     except ModuleNotFoundError:
         raise Fault("report: it needs Debian's python3-matplotlib: install that") from None
-    written = write_report(copies[0], needed(args, "to", to), title, chosen(project).names, kept)
+    names = chosen(project).names
+    written = write_report(copy, needed(args, "to", to), title, names, kept, counts)
     if project is not None and kept is not None:
-        entries = History(kept).entries
-        write_month(project.made(kept / "plots", 0o700), entries, entries[-1].moment)
-    print(written)
+        write_month(project.made(kept / "plots", 0o700), written.entries, written.entries[-1].moment)
+    print(written.path)
 
 
 def health(args: Arguments) -> int:

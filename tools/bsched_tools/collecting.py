@@ -21,12 +21,12 @@ from bsched_files.tables import Tables, all_opened
 from bsched_files.workunits import IS_HELD, Workunit, decided
 
 from .catalogue_file import output_names_of
-from .cursors import Cursor, cursor_at
+from .cursors import Cursor, Given, cursor_at
 from .placing import OutputFolder, Spoiled
 from .progress import names_in_batch
 from .project_access import Look
 from .projects import Project
-from .results import Line, lines_of
+from .results import new_line
 from .stuck import Stuck, named, stuck_in
 from .submitting import read_record
 from .texts import table_text
@@ -112,28 +112,34 @@ class Collector:
         units = {name for name, in tables.rows("SELECT name FROM unit")}
         self.found.seen |= units if names is None else names & units
         given = cursor.given(tables)
-        for line in lines_of(tables, 0, given, names):
-            if not line.is_late and not line.workunit.reason:
-                try:
-                    self.put(line)
-                    self.found.fresh += 1
-                except Spoiled as what:
-                    given.take_back(line.workunit.id)
-                    self.found.spoiled[line.workunit.name] = str(what)
         for unit in decided(tables):
-            if unit.name not in self.found.spoiled and (names is None or unit.name in names):
-                shown = self.inputs.get(unit.name, "")
-                if unit.reason:
-                    self.found.failed.append((unit.name, shown, f"too many {unit.reason}"))
-                else:
-                    self.found.rows.append(row_of(unit, shown, self.files_of(unit)))
+            if names is None or unit.name in names:
+                self.take_decided(unit, given)
 
-    def put(self, line: Line) -> None:
+    def take_decided(self, unit: Workunit, given: Given) -> None:
+        """Takes a workunit that is done or has failed. If it is newly done, its files get their place."""
+        shown = self.inputs.get(unit.name, "")
+        files = [] if unit.reason else self.files_of(unit)
+        line = new_line(unit, given)
+        if line is not None and not line.is_late and not unit.reason:
+            try:
+                self.put(unit, files)
+                self.found.fresh += 1
+            except Spoiled as what:
+                given.take_back(unit.id)
+                self.found.spoiled[unit.name] = str(what)
+        if unit.name in self.found.spoiled:
+            return
+        if unit.reason:
+            self.found.failed.append((unit.name, shown, f"too many {unit.reason}"))
+        else:
+            self.found.rows.append(row_of(unit, shown, files))
+
+    def put(self, unit: Workunit, files: list[UploadedFile]) -> None:
         """Puts the files of a workunit into a folder of its own."""
-        files = self.files_of(line.workunit)
-        if files and line.workunit.name in (RESULTS, FAILED, OPENED):
-            raise Fault(f"{self.folder.path / line.workunit.name}: a workunit has the name of this file")
-        self.folder.place(files, line.workunit.name)
+        if files and unit.name in (RESULTS, FAILED, OPENED):
+            raise Fault(f"{self.folder.path / unit.name}: a workunit has the name of this file")
+        self.folder.place(files, unit.name)
 
     def take_open(self, tables: Tables, names: set[str] | None) -> None:
         """Takes the open workunits with these names."""

@@ -1,7 +1,7 @@
 """How many there are of each thing in some tables, as lines and as Prometheus metrics."""
 from collections import Counter
-from collections.abc import Iterable, Iterator
-from contextlib import ExitStack
+from collections.abc import Iterable, Iterator, Sequence
+from dataclasses import dataclass
 from pathlib import Path
 
 from bsched_files.copies import COPY_NAME, copies_in, moment_of
@@ -70,56 +70,96 @@ def calls_of_a_day_before(tables: Tables) -> dict[HostKey, int]:
         raise Fault(f"{before} is of another schema, or can't be read") from None
 
 
-def count_people(all_tables: list[Tables], counts: Counts) -> None:
-    """Counts hosts and users: all, those with a job of the last day, and those that called. Each counts once
-    over all files."""
-    hosts: set[HostKey] = set()
-    given: set[HostKey] = set()
-    called: set[HostKey] = set()
-    users: set[str] = set()
-    for tables in all_tables:
-        hosts |= host_keys(tables, OWNERS)
-        users |= {user for user, in tables.rows("SELECT auth FROM account")}
-        given |= host_keys(tables, GIVEN, tables.moment - DAY)
-        try:
-            known = calls_of_a_day_before(tables)
-        except Fault as fault:
-            counts.calls_unknown = str(fault)
-            continue
-        called |= {host for host, number in last_calls(tables).items() if known.get(host) != number}
+@dataclass(frozen=True, slots=True)
+class People:
+    """The hosts and users of one file. Those that are in several files count once."""
+
+    hosts: set[HostKey]
+    users: set[str]
+    given: set[HostKey]  # hosts with a job of the last day
+    called: set[HostKey]  # hosts that called in the last day
+    calls_unknown: str = ""  # why it is not known who called
+
+
+@dataclass(frozen=True, slots=True)
+class FileCounts:
+    """What is counted in one file."""
+
+    path: Path
+    rows: Counts  # without its people
+    people: People
+
+
+def people_of(tables: Tables) -> People:
+    """Returns the hosts and users of one file, also those with a job of the last day, and who called."""
+    hosts = host_keys(tables, OWNERS)
+    users = {user for user, in tables.rows("SELECT auth FROM account")}
+    given = host_keys(tables, GIVEN, tables.moment - DAY)
+    try:
+        known = calls_of_a_day_before(tables)
+    except Fault as fault:
+        return People(hosts, users, given, set(), str(fault))
+    called = {host for host, number in last_calls(tables).items() if known.get(host) != number}
+    return People(hosts, users, given, called)
+
+
+def rows_of(tables: Tables) -> Counts:
+    """Counts the rows of one file."""
+    counts = Counts(SCHEMA_NUMBER, tables.moment)
+    for status, number in tables.rows("SELECT status, count(*) FROM unit GROUP BY status"):
+        counts.workunits[STATUSES.get(status, "of no status")] += number
+    counts.out = tables.number(OUT)
+    numbers = next(tables.rows(INSTANCES, tables.moment))
+    counts.instances.update({state: number or 0 for state, number in zip(STATES, numbers)})
+    counts.stuck = len(list(stuck_in(tables)))
+    counts.millicredits = tables.number("SELECT sum(credit) FROM host")
+    most = {**MOST, "host": int(tables.settings["max_hosts"])}
+    used = {table: tables.number(f"SELECT count(*) FROM {table}") for table in NOUNS}
+    counts.limits = {noun: Limit(used[table], most[table]) for table, noun in NOUNS.items()}
+    counts.bytes = tables.path.stat().st_size
+    return counts
+
+
+def total_of_people(files: Sequence[People], counts: Counts) -> None:
+    """Counts the people of some files."""
+    hosts: set[HostKey] = set().union(*(one.hosts for one in files))
+    users: set[str] = set().union(*(one.users for one in files))
+    given: set[HostKey] = set().union(*(one.given for one in files))
+    called: set[HostKey] = set().union(*(one.called for one in files))
     counts.people = {"hosts": len(hosts), "users": len(users)}
     counts.people |= {"hosts with a job of the last day": len(given)}
     counts.people |= {"users with a job of the last day": len(users_of(given))}
+    counts.calls_unknown = next((one.calls_unknown for one in reversed(files) if one.calls_unknown), "")
     if not counts.calls_unknown:
         counts.people |= {"hosts that called in the last day": len(called)}
         counts.people |= {"users that called in the last day": len(users_of(called))}
 
 
-def count_rows(tables: Tables, counts: Counts) -> None:
-    """Counts the rows of one file."""
-    for status, number in tables.rows("SELECT status, count(*) FROM unit GROUP BY status"):
-        counts.workunits[STATUSES.get(status, "of no status")] += number
-    counts.out += tables.number(OUT)
-    numbers = next(tables.rows(INSTANCES, tables.moment))
-    counts.instances.update({state: number or 0 for state, number in zip(STATES, numbers)})
-    counts.stuck += len(list(stuck_in(tables)))
-    counts.millicredits += tables.number("SELECT sum(credit) FROM host")
-    most = {**MOST, "host": int(tables.settings["max_hosts"])}
-    used = {table: tables.number(f"SELECT count(*) FROM {table}") for table in NOUNS}
-    counts.limits = {noun: Limit(used[table], most[table]) for table, noun in NOUNS.items()}
-    counts.bytes += tables.path.stat().st_size
+def total(files: Sequence[FileCounts]) -> Counts:
+    """Returns the counts over some files, at least one. The limits are those of the last one."""
+    counts = Counts(SCHEMA_NUMBER, workunits=Counter(dict.fromkeys(STATUSES.values(), 0)))
+    for rows in (file.rows for file in files):
+        counts.moment = max(counts.moment, rows.moment)
+        counts.workunits.update(rows.workunits)
+        counts.out += rows.out
+        counts.instances.update(rows.instances)
+        counts.stuck += rows.stuck
+        counts.millicredits += rows.millicredits
+        counts.limits = rows.limits
+        counts.bytes += rows.bytes
+    total_of_people([file.people for file in files], counts)
+    return counts
+
+
+def files_counted(paths: Iterable[Path]) -> list[FileCounts]:
+    """Returns the counts of each of some files of tables."""
+    with all_opened(paths) as all_tables:
+        return [FileCounts(tables.path, rows_of(tables), people_of(tables)) for tables in all_tables]
 
 
 def counted(paths: Iterable[Path]) -> Counts:
     """Returns the counts over files of tables."""
-    counts = Counts(SCHEMA_NUMBER, workunits=Counter(dict.fromkeys(STATUSES.values(), 0)))
-    with ExitStack() as stack:
-        all_tables = stack.enter_context(all_opened(paths))
-        counts.moment = max(tables.moment for tables in all_tables)
-        for tables in all_tables:
-            count_rows(tables, counts)
-        count_people(all_tables, counts)
-    return counts
+    return total(files_counted(paths))
 
 
 # ---- Forms

@@ -1,6 +1,7 @@
 """The page with the project's status, as HTML with plots. Each plot has its numbers in a table."""
 import re
 from collections.abc import Iterable, Mapping, Sequence
+from dataclasses import dataclass
 from html import escape
 from pathlib import Path
 
@@ -258,24 +259,35 @@ def clean(text: str) -> str:
     return re.sub("[\x00-\x08\x0b\x0c\x0e-\x1f\x7f-\x9f\ufffe\uffff]", "\ufffd", text)
 
 
+@dataclass(frozen=True, slots=True)
+class Report:
+    """A page that was written."""
+
+    path: Path
+    entries: list[Entry]  # the history, with what this page counted
+
+
 def write_report(
     path: Path,
     folder: Path,
     title: str | None = None,
     names: Mapping[str, str] | None = None,
     kept: Path | None = None,
-) -> Path:
+    counts: Counts | None = None,
+) -> Report:
     """Writes the page of a copy into a folder. The history is appended in the folder `kept`, or in the same
-    one. Without a title the page has the name of the tables."""
+    one. Without a title the page has the name of the tables. Without the counts of the copy they are counted.
+    """
     for one in (folder, kept):
         if one is not None and not one.is_dir():
             raise Fault(f"{one}: no such folder: make it first")
     with opened(path, names=names) as tables, turn(folder, TURN_SECONDS):
         match = COPY_NAME.fullmatch(tables.path.name)
-        counts, history = counted([tables.path]), History(kept or folder)
+        counts = counted([tables.path]) if counts is None else counts
+        history = History(kept or folder)
         history.add(tables, counts)
         name = title or (match["stem"] if match else tables.path.stem)
         text = page(tables, counts, history.entries, name)
         target = folder / "index.html"
         replace_file(target, [clean(text).encode(errors="replace")])
-    return target
+    return Report(target, history.entries)

@@ -13,7 +13,6 @@ from bsched_files.workunits import IS_HELD, OPEN, REASONS
 from .amounts import count_text
 from .computers import BadComputer, bad_computers
 from .computers import named as named_computers
-from .project_access import Look
 from .stuck import Stuck, named, stuck_in
 from .texts import main_line
 
@@ -183,11 +182,8 @@ def rate_lines(now: Progress, before: Progress | None, stuck: int, later: int = 
         yield f"end      may be at {moment} UTC, at this rate{of}"
 
 
-def progress_lines(
-    look: Look, now: Progress, before: Progress | None, trouble: Trouble, later: int
-) -> Iterator[str]:
+def progress_lines(now: Progress, before: Progress | None, trouble: Trouble, later: int) -> Iterator[str]:
     """Yields the progress for a person. Some workunits are not imported yet."""
-    yield look.moment_line
     yield f"waiting  {now.waiting:,}"
     yield f"out      {now.out:,}"
     yield f"done     {now.done:,} of {now.all:,}"

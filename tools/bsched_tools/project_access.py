@@ -33,9 +33,14 @@ class Look:
 
     @property
     def moment_line(self) -> str:
+        """Of when the copy is, for who reads it now."""
+        return f"{self.as_of} (now)" if self.is_fresh else self.as_of
+
+    @property
+    def as_of(self) -> str:
         """Of when the copy is."""
-        what = "now" if self.is_fresh else f"by the newest copy: {self.why_older}"
-        return f"as of {moment_text(moment_of(self.path))} UTC ({what})"
+        why = "" if self.is_fresh else f" (by the newest copy: {self.why_older})"
+        return f"as of {moment_text(moment_of(self.path))} UTC{why}"
 
 
 def check_member(project: Project) -> None:

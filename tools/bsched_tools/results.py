@@ -87,31 +87,31 @@ def as_json(line: Line) -> str:
     return f"{json_text(fields)}\n"
 
 
-def lines_of(
-    tables: Tables, after: int, given: Given | None, names: set[str] | None = None
-) -> Iterator[Line]:
-    """Yields the lines of some tables: all of them, or those that were not given out before. With names only
-    the workunits with these names are looked at."""
+def new_line(unit: Workunit, given: Given) -> Line | None:
+    """Returns the line of a workunit with what was not given out before, and counts it as given out. Returns
+    None if nothing is new."""
+    if unit.id in given.closed:
+        given.left_out += 1
+        return None
+    last = given.places.pop(unit.id, None)
+    fresh = tuple(one for one in unit.results if last is None or one.place > last)
+    if unit.is_closed:
+        given.closed.add(unit.id)
+    else:
+        given.places[unit.id] = max([last or 0, *(one.place for one in fresh)])
+    if fresh or last is None:
+        given.printed += 1
+        return Line(replace(unit, results=fresh), last is not None)
+    given.left_out += 1
+    return None
+
+
+def lines_of(tables: Tables, after: int, given: Given | None) -> Iterator[Line]:
+    """Yields the lines of some tables: all of them, or those that were not given out before."""
     for unit in decided(tables, after):
-        if names is not None and unit.name not in names:
-            continue
-        if given is None:
-            yield Line(unit, False)
-            continue
-        if unit.id in given.closed:
-            given.left_out += 1
-            continue
-        last = given.places.pop(unit.id, None)
-        fresh = tuple(one for one in unit.results if last is None or one.place > last)
-        if unit.is_closed:
-            given.closed.add(unit.id)
-        else:
-            given.places[unit.id] = max([last or 0, *(one.place for one in fresh)])
-        if fresh or last is None:
-            given.printed += 1
-            yield Line(replace(unit, results=fresh), last is not None)
-        else:
-            given.left_out += 1
+        line = Line(unit, False) if given is None else new_line(unit, given)
+        if line is not None:
+            yield line
 
 
 def places_after(all_tables: list[Tables], name: str) -> dict[Path, int]:

@@ -2,7 +2,6 @@
 import argparse
 import signal
 import sys
-import time
 from collections.abc import Callable, Iterable
 
 from bsched_files.faults import Fault
@@ -13,15 +12,14 @@ from .apps import LINE_FOLDER, NewApp, add_app, input_member, output_member, rea
 from .catalogue_file import ProjectCatalogue
 from .collecting import collect_files, collected_lines
 from .inputs import Input, check_batch, combinations, lines_in, of_files, of_texts
-from .progress import earlier, names_in_batch, progress_lines, progress_of, trouble_in
 from .progress_bars import Bar
 from .project_access import check_member, looked_at, tables_of, turn_of
 from .projects import Project, project_of
-from .slices import feed, left_in
+from .slices import feed
 from .submitting import CREDIT_OF_HOUR, Amounts, Plan, app_of, check_sizes, errors_of, places_of, submit_work
+from .watching import lines_now, screens
 
 Arguments = argparse.Namespace
-WATCH_SECONDS = 10.0
 MOST_SPOILED = 20  # that are named
 CLEAR = "\033[H\033[2J"
 Printer = Callable[[Iterable[str]], None]
@@ -111,21 +109,14 @@ def plan_of(args: Arguments, project: Project) -> Plan:
 def progress(args: Arguments, printed: Printer) -> None:
     """Prints how far the work is."""
     project = member_project(args)
-    if args.watch:
-        signal.signal(signal.SIGINT, lambda _number, _frame: sys.exit(0))
-    while True:
+    if not args.watch:
         with tables_of(project) as (look, tables):
-            names = None if args.batch is None else names_in_batch(tables, args.batch)
-            now = progress_of(tables, names)
-            before = earlier(project.units().copies, now, names)
-            later = left_in(project, tables, args.batch)
-            lines = list(progress_lines(look, now, before, trouble_in(tables, names), later))
-        if args.watch:
-            print(CLEAR, end="")
-        printed(lines)
-        if not args.watch:
-            return
-        time.sleep(WATCH_SECONDS)
+            printed([look.moment_line, *lines_now(project, tables, args.batch)])
+        return
+    signal.signal(signal.SIGINT, lambda _number, _frame: sys.exit(0))
+    for screen in screens(project, args.batch):
+        print(CLEAR, end="")
+        printed(screen)
 
 
 def say_spoiled(spoiled: list[str]) -> int:

@@ -77,7 +77,7 @@ def reported(path: Path, folder: Path, moment: float | None = None) -> Read:
     """Writes the page of a copy, and reads it."""
     if moment is not None:
         os.utime(path, (moment, moment))
-    return Read(page.write_report(path, folder).read_text())
+    return Read(page.write_report(path, folder).path.read_text())
 
 
 def called(path: Path, now: int, call: bytes) -> None:

@@ -25,6 +25,8 @@ NANOSECONDS = 1_000_000_000
 # how often a file is copied early, and how long to wait for a pause in its writes
 EARLY_COPIES, SETTLE_SECONDS = 3, 0.5
 MOST_IN_MEMORY = 1 << 26
+FileMark = tuple[int, ...]  # when a file was written last, and its size
+TablesMark = tuple[Identity | FileMark, ...]  # the identity of the tables, their mark, and that of their log
 FROM_ANOTHER_FILE_SYSTEM = (errno.EXDEV, errno.EINVAL, errno.ENOSYS, errno.EOPNOTSUPP)
 
 
@@ -84,9 +86,10 @@ def copy_bytes(source: int, target: int) -> None:
         at += done
 
 
-def write_mark(descriptor: int) -> tuple[int, ...] | None:
-    """Returns a mark that each write to a file changes, or None if the last write is too recent for that."""
-    found = os.fstat(descriptor)
+def write_mark(file: int | Path) -> FileMark | None:
+    """Returns a mark that each write to a file changes, or None if the last write is too recent for that. The
+    file is given by a descriptor or by its path."""
+    found = os.stat(file)
     is_fine = all(one % NANOSECONDS for one in (found.st_mtime_ns, found.st_ctime_ns))
     age = time.time() - max(found.st_mtime, found.st_ctime)
     if age <= (FINE_SECONDS if is_fine else SETTLED_SECONDS):
@@ -94,7 +97,20 @@ def write_mark(descriptor: int) -> tuple[int, ...] | None:
     return found.st_mtime_ns, found.st_ctime_ns, found.st_size
 
 
-def settled_mark(descriptor: int) -> tuple[int, ...] | None:
+def tables_mark(path: Path) -> TablesMark | None:
+    """Returns a mark that each write to the tables at a path and to their log changes, also if another file
+    takes their place. It is None if the last write is too recent for that, or if there are no tables. Take it
+    before a copy: then the copy has all writes up to the mark."""
+    try:
+        source = source_of(path)
+        marks = [write_mark(file) for file in (source.path, source.log) if file.exists()]
+    except (OSError, Fault):
+        return None
+    known = tuple(mark for mark in marks if mark is not None)
+    return (source.identity, *known) if len(known) == len(marks) else None
+
+
+def settled_mark(descriptor: int) -> FileMark | None:
     """Returns the same mark after a pause in the writes, or None if there is no pause soon."""
     ends = time.monotonic() + SETTLE_SECONDS
     while (mark := write_mark(descriptor)) is None and time.monotonic() < ends:
@@ -118,7 +134,7 @@ class Work:
         self.target = opened_file(self.path, create, stack)
         self.target_log = opened_file(folder / "copy.db-wal", create, stack)
 
-    def copy_early(self, descriptor: int) -> tuple[int, ...] | None:
+    def copy_early(self, descriptor: int) -> FileMark | None:
         """Copies the file before the process stands still. The mark shows later whether the file was written
         since. If it is written meanwhile, it is copied again, a few times."""
         for _ in range(EARLY_COPIES):
@@ -130,7 +146,7 @@ class Work:
                 return mark
         return None
 
-    def copy_rest(self, descriptor: int, log: int | None, mark: tuple[int, ...] | None) -> bytes:
+    def copy_rest(self, descriptor: int, log: int | None, mark: FileMark | None) -> bytes:
         """Copies what was not copied early, while nobody writes. The bytes of a short log are returned
         instead."""
         if mark is None or mark != write_mark(descriptor):
