@@ -40,7 +40,7 @@ paths_outside() {
 copy_upload_tables() {
   local path
   find "$1" -name uploads.db -type f -printf '%P\n' | while IFS= read -r path; do
-    mkdir -p "$2/${path%/*}" && python3 -c '
+    mkdir -p "$2/${path%/*}" && python3 -I -c '
 import sqlite3, sys
 from contextlib import closing
 with closing(sqlite3.connect(sys.argv[1])) as tables, closing(sqlite3.connect(sys.argv[2])) as copy:
