@@ -62,7 +62,7 @@ def test_no_body_may_stay_away_for_long(machine: Machine) -> None:
     assert len(passed) == 8 and all("client_body_timeout 10s;" in part for part in passed)
 
 
-@pytest.mark.parametrize("zone, refusal_seconds", [("client_calls", 0.00156), ("upload_checks", 0.00104)])
+@pytest.mark.parametrize("zone, refusal_seconds", [("client_calls", 0.00156), ("upload_checks", 0.0012)])
 def test_what_is_refused_of_four_addresses_takes_a_second_in_a_minute(
     machine: Machine, zone: str, refusal_seconds: float
 ) -> None:
