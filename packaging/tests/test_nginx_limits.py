@@ -355,7 +355,7 @@ def test_whom_an_address_counts_as(strict_site: Site, who: str) -> None:
 
 # Who sends calls, and whether nginx takes them for one. No address is in two of them.
 CALLING_OFTEN = {
-    "forty computers of a department, behind one address": (["192.0.2.210"] * CALL_BURST, False),
+    "forty computers of a department, which share an address": (["192.0.2.210"] * CALL_BURST, False),
     "one address calls without end": (["192.0.2.211"] * 120, True),
     "one IPv6 user takes another address of his /64 each time": (addresses_of(CALLING_NETWORK, 120), True),
     "fifty IPv6 volunteers of a provider": (networks_of("2001:db8:3::1", 50), False),
@@ -374,7 +374,7 @@ def test_who_calls_too_often(strict_site: Site, who: str) -> None:
 
 
 def test_who_calls_too_often_still_reads_pages(strict_site: Site) -> None:
-    """Nor do those who read many pages take the calls of computers behind the same address."""
+    """Nor do those who read many pages take the calls of computers that share the address."""
     calling, reading = "192.0.2.212", "192.0.2.213"
     assert strict_site.called([calling] * 120)[REFUSED] > 0
     assert strict_site.asked([calling] * BURST) == {PASSED: BURST}
