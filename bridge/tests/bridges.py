@@ -86,6 +86,7 @@ class Bridge:
         self.application.statements.wait_seconds = 60  # tests look at what a page shows after the reading
         self.hosts, self.numbers = self.application.exchange.hosts, self.application.exchange.numbers
         self.members: Any = self.application.members
+        self.accounts: Any = self.application.accounts  # None without [accounts]
 
     def restart(self) -> None:
         """Kills the bridge, which loses the writes that it put off, and starts it again from what is on the
@@ -102,7 +103,7 @@ class Bridge:
             self.store.close()
 
     def got(
-        self, path: str, method: str = "GET", body: bytes = b"", **more: str
+        self, path: str, method: str = "GET", body: bytes = b"", /, **more: str
     ) -> tuple[str, dict[str, str], bytes]:
         """Sends a message, and returns the status, the fields and the body of the answer."""
         # a character for each byte, as in WSGI

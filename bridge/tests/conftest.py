@@ -8,6 +8,7 @@ from typing import Any
 
 import pytest
 from bridges import ACCOUNTS, Bridge, new_project
+from messages import jobs, request
 from numbering import NEW_HOSTID, rising
 from tool_outputs import KEYS, write_tool_outputs
 from twin import Twin
@@ -60,6 +61,15 @@ def bridge(project: Path, twin: Twin, monkeypatch: pytest.MonkeyPatch) -> Iterat
     made = Bridge(project, twin)
     yield made
     made.file.close()
+
+
+@pytest.fixture
+def two(bridge: Bridge, twin: Twin) -> Bridge:
+    """A bridge with two computers of Ann: A has u1_0, and B has u2_0."""
+    twin.statement = None
+    assert jobs(bridge.call(request(cpid="a"))) == ["u1_0"]
+    assert jobs(bridge.call(request(cpid="b"))) == ["u2_0"]
+    return bridge
 
 
 UPLOADS = '\n[uploads]\nfolder = "uploads"\nfree_bytes = 0\nmost_bytes = 1_000_000\n'

@@ -215,7 +215,7 @@ class Project:
 
     def call(self, host: str) -> None:
         """Sends a call."""
-        recorded = (BRIDGE / "tests" / "requests" / "first.xml").read_text()
+        recorded = (BRIDGE / "tests" / "requests" / "recorded" / "first.xml").read_text()
         text = recorded.replace("0fb84cfbc167689574d58ef96c0de1b7", host).replace("0.250000", "0.000000")
         self.sent("/cgi", text.encode(), 0, b"", b"<user_name>")
 

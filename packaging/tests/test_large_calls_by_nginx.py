@@ -13,7 +13,7 @@ from bridges import new_project
 from joining import wait_until
 from messages import names, request, value
 from served import free_port
-from test_gunicorn import served as bridge_served
+from gunicorn_served import served as bridge_served
 from test_nginx import NGINX, URL, bridge_port, served, written
 from test_project import Machine
 from twin import Twin

@@ -1,0 +1,519 @@
+"""The state file: only one bridge has it, older formats are upgraded, and other files are refused."""
+import itertools
+import os
+import re
+import sqlite3
+import threading
+import time
+from collections.abc import Callable
+from pathlib import Path
+from typing import cast
+
+import pytest
+from bridges import Bridge
+from joining import create, wait_until
+
+from bsched_bridge.common.state_file import StateFault, StateFile, WaitingWrites
+from bsched_bridge.exchange.call_numbers import CallNumbers
+from bsched_bridge.people.directory import Directory
+from bsched_bridge.people.hosts import Hosts, Key
+from bsched_bridge.people.members import Members
+from bsched_bridge.requests.descriptions import Description
+from bsched_files.bridge_state import STATE, UPGRADES
+
+# the tables of version 1, as a bridge of 2026-11-27 made them
+VERSION_1 = """
+CREATE TABLE host (
+  authenticator TEXT NOT NULL, host_cpid TEXT NOT NULL,  -- the key
+  hostid INTEGER,             -- bsched's number of the host, once a reply told it
+  last_number INTEGER NOT NULL,  -- the rpc_seqno of the last call
+  open_call BLOB,             -- its bytes, where no answer came yet
+  jobs_in_hand TEXT NOT NULL DEFAULT '[]',  -- as JSON, as replies have them
+  user_name TEXT, user_credit INTEGER, host_credit INTEGER, heard_at INTEGER,
+  PRIMARY KEY (authenticator, host_cpid)
+) STRICT;
+CREATE UNIQUE INDEX host_by_number ON host (authenticator, hostid);
+CREATE INDEX host_with_open_call ON host (authenticator, host_cpid) WHERE open_call IS NOT NULL;
+CREATE INDEX host_heard ON host (heard_at) WHERE hostid IS NOT NULL;
+PRAGMA application_id = 1651729250;
+PRAGMA user_version = 1;
+"""
+# what version 2 had besides
+VERSION_2 = """
+CREATE TABLE member (
+  id INTEGER PRIMARY KEY AUTOINCREMENT,  -- the user's number for statistics sites
+  authenticator TEXT NOT NULL UNIQUE,
+  email TEXT UNIQUE, salt BLOB, secret BLOB, cost TEXT,  -- NULL for an operator's account without a password
+  name TEXT NOT NULL,
+  batch TEXT UNIQUE,          -- the name of the import that makes the account; NULL for an operator's account
+  is_imported INTEGER NOT NULL,  -- 0 until bsched answered that import
+  cpid TEXT NOT NULL,         -- a random text, by which statistics sites know a user of several projects
+  consent_at INTEGER,         -- when the user agreed to the terms
+  is_exported INTEGER NOT NULL DEFAULT 0,  -- whether the user agreed to be shown by statistics sites
+  created_at INTEGER NOT NULL
+) STRICT;
+CREATE INDEX member_open ON member (id) WHERE is_imported = 0;
+CREATE INDEX member_created ON member (created_at) WHERE batch IS NOT NULL;
+INSERT INTO member (authenticator, name, is_imported, cpid, created_at)
+  VALUES ('ann-key', 'Ann', 1, 'x', 100);
+PRAGMA user_version = 2;
+"""
+# the tables of version 4, as a bridge of 2026-11-28 made them
+VERSION_4 = """
+CREATE TABLE host (
+  -- the key; the host_cpid is the one with which the host was made
+  authenticator TEXT NOT NULL, host_cpid TEXT NOT NULL,
+  hostid INTEGER,             -- the bridge's number of the host, once a client was told it
+  -- the client's rpc_seqno in its last request with that number; NULL before the first one
+  client_seqno INTEGER,
+  copy_of INTEGER,            -- the hostid of the computer that the host is a copy of
+  has_former_number INTEGER NOT NULL DEFAULT 0,  -- 1: a former version told a number, which is not known
+  scheduler_hostid INTEGER,   -- bsched's number of the host in its tables, by the last reply
+  last_number INTEGER NOT NULL,  -- the rpc_seqno of the last call
+  open_call BLOB,             -- its bytes, where no answer came yet
+  jobs_in_hand TEXT NOT NULL DEFAULT '[]',  -- those that the client may lack, as JSON, as replies have them
+  -- as the last reply told them, and when
+  user_name TEXT, user_credit INTEGER, host_credit INTEGER, heard_at INTEGER,
+  PRIMARY KEY (authenticator, host_cpid)
+) STRICT;
+CREATE UNIQUE INDEX host_by_number ON host (hostid);
+CREATE UNIQUE INDEX host_by_scheduler_number ON host (authenticator, scheduler_hostid);
+CREATE INDEX host_of_copy ON host (authenticator, copy_of) WHERE copy_of IS NOT NULL;
+CREATE INDEX host_with_open_call ON host (authenticator, host_cpid) WHERE open_call IS NOT NULL;
+CREATE INDEX host_of_stranger ON host (authenticator)
+  WHERE open_call IS NOT NULL AND scheduler_hostid IS NULL AND hostid IS NULL;
+CREATE INDEX host_heard ON host (heard_at) WHERE scheduler_hostid IS NOT NULL;
+
+CREATE TABLE numbers (last_hostid INTEGER NOT NULL) STRICT;
+INSERT INTO numbers (last_hostid) VALUES (100000);
+
+CREATE TABLE member (
+  id INTEGER PRIMARY KEY AUTOINCREMENT,  -- the user's number for statistics sites
+  authenticator TEXT NOT NULL UNIQUE,
+  email TEXT UNIQUE, salt BLOB, secret BLOB, cost TEXT,  -- NULL for an operator's account without a password
+  name TEXT NOT NULL,
+  batch TEXT UNIQUE,          -- the name of the import that makes the account; NULL for an operator's account
+  is_imported INTEGER NOT NULL,  -- 0 until bsched answered that import
+  cpid TEXT NOT NULL,         -- a random text, by which statistics sites know a user of several projects
+  consent_at INTEGER,         -- when the user agreed to the terms
+  is_exported INTEGER NOT NULL DEFAULT 0,  -- whether the user agreed to be shown by statistics sites
+  created_at INTEGER NOT NULL
+) STRICT;
+CREATE INDEX member_open ON member (id) WHERE is_imported = 0;
+CREATE INDEX member_created ON member (created_at) WHERE batch IS NOT NULL;
+
+CREATE TABLE barred (            -- accounts whose computers are refused
+  authenticator TEXT PRIMARY KEY, barred_at INTEGER NOT NULL,
+  is_deleted INTEGER NOT NULL    -- 1 if the account was deleted, 0 if the operator barred it
+) STRICT, WITHOUT ROWID;
+-- a message that was in work when its account was deleted writes nothing of what was forgotten
+CREATE TRIGGER host_of_deleted BEFORE INSERT ON host
+  WHEN EXISTS (SELECT 1 FROM barred WHERE authenticator = NEW.authenticator AND is_deleted = 1)
+  BEGIN SELECT RAISE(IGNORE); END;
+CREATE TRIGGER member_of_deleted BEFORE UPDATE ON member
+  WHEN EXISTS (SELECT 1 FROM barred WHERE authenticator = NEW.authenticator AND is_deleted = 1)
+  BEGIN SELECT RAISE(IGNORE); END;
+PRAGMA application_id = 1651729250;
+PRAGMA user_version = 4;
+INSERT INTO member (authenticator, name, is_imported, cpid, created_at, is_exported)
+  VALUES ('ann-key', 'Ann', 1, 'x', 100, 1), ('bob-key', 'Bob', 1, 'y', 100, 0),
+    ('new-key', 'New', 1, 'z', 100, 0);
+INSERT INTO host (authenticator, host_cpid, hostid, client_seqno, scheduler_hostid, last_number, user_name,
+    user_credit, host_credit, heard_at)
+  VALUES ('ann-key', 'c1', 100001, 3, 1, 7, 'Ann', 5000, 4000, 300),
+    ('ann-key', 'c2', 100002, 0, 2, 9, 'Ann', 6000, 2000, 400),
+    ('bob-key', 'c3', 100003, 0, 3, 1, 'Bob', 0, 0, 100),
+    ('new-key', 'c4', NULL, NULL, NULL, 1, NULL, NULL, NULL, NULL);
+"""
+ROWS = [
+    ("ann-key", "c1", 1, 7, None, "Ann", 5000, 5000, 200),
+    ("ann-key", "c2", 3, 9, b"call 9", "Ann", 4000, 0, 100),
+    ("bob-key", "c3", 2, 1, None, "Bob", 0, 0, 100),
+    ("eve-key", "c4", None, 1, b"call 1", None, None, None, None),
+]
+
+
+def old_file(path: Path, version: int = 1) -> None:
+    """Makes a state file of an older version."""
+    connection = sqlite3.connect(path)
+    connection.executescript(VERSION_1 if version == 1 else VERSION_1 + VERSION_2)
+    connection.executemany(
+        "INSERT INTO host (authenticator, host_cpid, hostid, last_number, open_call, user_name, "
+        "user_credit, host_credit, "
+        "heard_at) VALUES (?, ?, ?, ?, ?, ?, ?, ?, ?)",
+        ROWS,
+    )
+    connection.commit()
+    connection.close()
+
+
+def contents(path: Path) -> tuple[list[str], int]:
+    """Returns what a file has."""
+    connection = sqlite3.connect(path)
+    try:
+        return list(connection.iterdump()), connection.execute("PRAGMA user_version").fetchone()[0]
+    finally:
+        connection.close()
+
+
+def test_one_bridge_has_the_file(tmp_path: Path) -> None:
+    file = StateFile(tmp_path / "state.db")
+    with pytest.raises(StateFault, match="no other bridge"):
+        StateFile(tmp_path / "state.db")
+    file.close()
+
+
+def test_one_bridge_has_the_file_by_any_name(tmp_path: Path) -> None:
+    """A symbolic link leads to the same lock, and a file with a second name is refused."""
+    path, link, other = (tmp_path / name for name in ("state.db", "link.db", "other.db"))
+    file = StateFile(path)
+    link.symlink_to(path)
+    with pytest.raises(StateFault, match="no other bridge"):
+        StateFile(link)
+    other.hardlink_to(path)
+    with pytest.raises(StateFault, match=r"other\.db: the file has a second name \(a hard link\): remove"):
+        StateFile(other)
+    file.close()
+    with pytest.raises(StateFault, match="second name"):
+        StateFile(path)
+    other.unlink()
+    StateFile(link).close()
+    assert not (tmp_path / "link.db.lock").exists()
+
+
+def test_a_spoiled_file_is_told_at_the_start(tmp_path: Path) -> None:
+    path = tmp_path / "state.db"
+    file = StateFile(path)
+    numbers = CallNumbers(file)
+    for number in range(60):
+        numbers.open(Key("ann-key", f"c{number}"), lambda number: b"x" * 2000)
+    file.close()
+    good = path.read_bytes()
+    size = int.from_bytes(good[16:18], "big")
+    faults = []
+    for page in range(1, len(good) // size):
+        path.write_bytes(good[: page * size] + bytes(size) + good[(page + 1) * size :])
+        try:
+            StateFile(path).close()
+        except StateFault as fault:
+            faults.append(str(fault))
+    # pages that only have parts of calls may look good
+    assert len(faults) > 20 and all(
+        "it is spoiled or no state file: see docs/VOLUNTEERS.md" in one for one in faults
+    )
+    assert not any("no other bridge" in one for one in faults)
+    path.write_bytes(good)
+    StateFile(path).close()
+
+
+def last_hostid(number: int) -> Callable[[sqlite3.Connection], None]:
+    """Returns a write."""
+
+    def write(connection: sqlite3.Connection) -> None:
+        connection.execute("UPDATE numbers SET last_hostid = ?", (number,))
+
+    return write
+
+
+READ = "SELECT last_hostid FROM numbers"
+
+
+def stored(path: Path) -> int:
+    """Returns what such a write has stored, as another process sees it."""
+    file = StateFile(path, is_guest=True)
+    try:
+        return cast(int, file.rows(READ)[0][0])
+    finally:
+        file.close()
+
+
+def test_a_write_that_is_put_off(tmp_path: Path) -> None:
+    """It is done before somebody reads, in the next transaction, or at the end."""
+    path = tmp_path / "state.db"
+    file = StateFile(path)
+    file.put_off("a", last_hostid(1))
+    assert stored(path) == 100_000 and file.waiting("a") is not None
+    assert file.row(READ) == (1,) and file.waiting("a") is None
+    file.put_off("a", last_hostid(2))
+    assert file.looked(READ) == [(2,)]
+    file.put_off("a", last_hostid(3))
+    with file.transaction() as connection:
+        assert connection.execute(READ).fetchone() == (3,) and file.waiting("a") is not None
+    assert stored(path) == 3 and file.waiting("a") is None
+    file.put_off("a", last_hostid(4))
+    file.put_off("b", last_hostid(5))
+    assert file.stored_row(READ) == (3,)
+    with file.transaction(only="a") as connection:
+        assert connection.execute(READ).fetchone() == (4,)
+    assert file.waiting("a") is None and file.waiting("b") is not None
+    with file.transaction(only="a"):
+        pass
+    assert stored(path) == 4
+    file.backup(tmp_path / "copy.db")
+    assert contents(tmp_path / "copy.db") == contents(path)
+    file.put_off("a", last_hostid(6))
+    file.close()
+    assert stored(path) == 6
+
+
+def test_only_so_many_writes_are_put_off(tmp_path: Path, monkeypatch: pytest.MonkeyPatch) -> None:
+    monkeypatch.setattr("bsched_bridge.common.state_file.MOST_WAITING", 3)
+    file = StateFile(tmp_path / "state.db")
+    for number in range(1, 5):
+        assert file.stored_row(READ) == (100_000,)
+        file.put_off(number, last_hostid(number))
+    assert file.stored_row(READ) == (4,)
+    file.close()
+
+
+def test_a_write_that_is_put_off_waits_if_its_transaction_is_undone(tmp_path: Path) -> None:
+    file = StateFile(tmp_path / "state.db")
+    file.put_off("a", last_hostid(1))
+    with pytest.raises(ZeroDivisionError), file.transaction():
+        raise ZeroDivisionError
+    assert file.waiting("a") is not None and stored(tmp_path / "state.db") == 100_000
+    assert file.row(READ) == (1,)
+    file.close()
+
+
+def test_a_write_that_is_put_off_and_fails(tmp_path: Path, caplog: pytest.LogCaptureFixture) -> None:
+    """It is forgotten, and the next transaction is as good as ever."""
+    file = StateFile(tmp_path / "state.db")
+    for number, fails in ((1, True), (2, False)):
+        file.put_off("a", last_hostid(number))
+        if fails:
+            file.put_off("b", lambda connection: connection.execute("none"))  # type: ignore[arg-type]
+        assert file.row(READ) == (100_000 if fails else number,)
+        assert file.waiting("a") is file.waiting("b") is None
+    assert [record.getMessage() for record in caplog.records] == [
+        'what was put off could not be stored: near "none": syntax error'
+    ]
+    file.close()
+
+
+class SlowKey:
+    """A key whose hash is Python code, as that of a host's key is, so other threads may run meanwhile."""
+
+    def __init__(self) -> None:
+        self.meanwhile: Callable[[], None] = lambda: None
+
+    def __hash__(self) -> int:
+        self.meanwhile()
+        return 1
+
+
+@pytest.mark.parametrize("at", range(1, 6))
+def test_a_write_that_is_put_off_while_an_earlier_one_is_done(tmp_path: Path, at: int) -> None:
+    file, key, passed = StateFile(tmp_path / "state.db"), SlowKey(), itertools.count(1)
+    file.put_off(key, last_hostid(1))
+    other = threading.Thread(target=lambda: file.put_off(key, last_hostid(2)))
+
+    def meanwhile() -> None:
+        if threading.current_thread() is not other and next(passed) == at:
+            other.start()
+            other.join(0.1)
+
+    key.meanwhile = meanwhile
+    with file.transaction():
+        pass
+    key.meanwhile = lambda: None
+    if other.ident is None:  # there were fewer steps
+        other.start()
+    other.join()
+    assert file.row(READ) == (2,)
+    file.close()
+
+
+def test_a_transaction_that_can_not_begin_leaves_none_open(tmp_path: Path) -> None:
+    file, key = StateFile(tmp_path / "state.db"), SlowKey()
+    file.put_off(key, last_hostid(1))
+
+    def fails() -> None:
+        raise ZeroDivisionError
+
+    key.meanwhile = fails
+    with pytest.raises(ZeroDivisionError), file.transaction(only=key):
+        pass
+    key.meanwhile = lambda: None
+    with file.transaction(is_synced=False):
+        pass
+    assert file.row(READ) == (1,)
+    file.close()
+
+
+def test_a_write_waits_for_a_second_at_most(tmp_path: Path, monkeypatch: pytest.MonkeyPatch) -> None:
+    monkeypatch.setattr("bsched_bridge.common.state_file.PUT_OFF_SECONDS", 0.01)
+    file = StateFile(tmp_path / "state.db")
+    writing = WaitingWrites(file)
+    writing.start()
+    file.put_off("a", last_hostid(1))
+    wait_until(lambda: file.waiting("a") is None)
+    assert stored(tmp_path / "state.db") == 1
+    monkeypatch.setattr("bsched_bridge.common.state_file.PUT_OFF_SECONDS", 600.0)
+    time.sleep(0.05)
+    file.put_off("a", last_hostid(2))
+    writing.end()
+    assert stored(tmp_path / "state.db") == 2
+    file.close()
+
+
+def test_only_the_owner_can_read_a_new_file(tmp_path: Path) -> None:
+    mask = os.umask(0)
+    try:
+        file = StateFile(tmp_path / "state.db")
+    finally:
+        os.umask(mask)
+    modes = {path.name: path.stat().st_mode & 0o777 for path in tmp_path.iterdir()}
+    names = "state.db", "state.db-wal", "state.db-shm", "state.db.lock"
+    assert modes == dict.fromkeys(names, 0o600)
+    file.close()
+    (tmp_path / "state.db").chmod(0o640)  # as an operator wants it
+    StateFile(tmp_path / "state.db").close()
+    assert (tmp_path / "state.db").stat().st_mode & 0o777 == 0o640
+
+
+def test_another_file_is_refused(tmp_path: Path) -> None:
+    connection = sqlite3.connect(tmp_path / "other.db")
+    connection.execute("CREATE TABLE host (id)")
+    connection.close()
+    with pytest.raises(StateFault, match="is not the state file of a bridge"):
+        StateFile(tmp_path / "other.db")
+    (tmp_path / "text").write_text("no database " * 100)
+    with pytest.raises(StateFault):
+        StateFile(tmp_path / "text")
+    with pytest.raises(StateFault):
+        StateFile(tmp_path / "no folder" / "state.db")
+
+
+def test_a_newer_file_is_refused_and_not_changed(tmp_path: Path) -> None:
+    path = tmp_path / "state.db"
+    StateFile(path).close()
+    connection = sqlite3.connect(path)
+    connection.execute(f"PRAGMA user_version = {STATE.version + 1}")
+    connection.close()
+    before = contents(path)
+    with pytest.raises(StateFault) as raised:
+        StateFile(path)
+    assert str(raised.value) == (
+        f"{path}: a newer bridge wrote this file (format 8, and this bridge knows 7): run that bridge"
+    )
+    assert contents(path) == before
+
+
+@pytest.mark.parametrize("version", [1, 2])
+def test_a_file_of_an_older_version_keeps_its_hosts(tmp_path: Path, version: int) -> None:
+    path = tmp_path / "state.db"
+    old_file(path, version)
+    file = StateFile(path)
+    numbers, hosts = CallNumbers(file), Hosts(file)
+    assert [numbers.open_call(Key("ann-key", cpid)) for cpid in ("c1", "c2")] == [None, b"call 9"]
+    assert numbers.open_call(Key("eve-key", "c4")) == b"call 1"
+    assert numbers.open(Key("ann-key", "c1"), lambda number: b"%d" % number) == b"8"
+    # which numbers the clients were told is not known: they may be from earlier tables
+    assert [numbers.of_number("ann-key", number) for number in (1, 2, 3)] == [None] * 3
+    assert [host.scheduler_hostid for host in hosts.heard(9)] == [1, 3, 2]
+    assert numbers.give_hostid(Key("ann-key", "c2")) == 100_001
+    known = numbers.of_number("ann-key", 100_001)
+    assert known is not None and known.key == Key("ann-key", "c2")
+    assert hosts.count() == 3
+    file.close()
+
+
+def test_a_file_of_version_1_gets_accounts(tmp_path: Path) -> None:
+    path = tmp_path / "state.db"
+    old_file(path)
+    file = StateFile(path)
+    members = Members(file)
+    # the accounts whose hosts had a reply are known, in the order of the first replies; they have no batch
+    ann, bob = members.of_key("ann-key"), members.of_key("bob-key")
+    assert ann is not None and bob is not None
+    assert (ann.name, ann.created_at, ann.email, ann.batch, ann.is_imported) == ("Ann", 100, None, None, True)
+    assert (bob.name, bob.id) == ("Bob", 1)
+    assert re.fullmatch("[0-9a-f]{32}", ann.cpid) and ann.cpid != bob.cpid
+    assert members.of_key("eve-key") is None
+    assert list(members.open_ones()) == []
+    file.close()
+    kept = contents(path)
+    StateFile(path).close()  # no upgrade is needed
+    assert contents(path) == kept
+    assert kept[1] == 7
+
+
+@pytest.mark.parametrize("version", [1, 2])
+def test_an_upgrade_that_is_stopped_changes_nothing(
+    tmp_path: Path, monkeypatch: pytest.MonkeyPatch, version: int
+) -> None:
+    path = tmp_path / "state.db"
+    old_file(path, version)
+    before = contents(path)
+    statements = [part for part in UPGRADES[version].split(";\n") if part.strip()]
+    for count in range(len(statements) + 1):
+        monkeypatch.setitem(UPGRADES, version, ";\n".join([*statements[:count], "SELECT stop()"]))
+        with pytest.raises(StateFault):
+            StateFile(path)
+        assert contents(path) == before
+
+
+def test_a_new_file_and_an_upgraded_one_have_the_same_tables(tmp_path: Path) -> None:
+    old_file(tmp_path / "1.db")
+    old_file(tmp_path / "2.db", 2)
+    file_of_version_4(tmp_path / "4.db")
+    shapes = []
+    for name in ("1.db", "2.db", "4.db", "new.db"):
+        file = StateFile(tmp_path / name)
+        kept = file.rows("SELECT type, name FROM sqlite_schema WHERE name NOT LIKE 'sqlite_%' ORDER BY name")
+        shapes.append([(kind, table, file.rows(f"PRAGMA table_xinfo({table})")) for kind, table in kept])
+        file.close()
+    assert shapes[0] == shapes[1] == shapes[2] == shapes[3] and len(shapes[0]) == 20
+
+
+def file_of_version_4(path: Path) -> None:
+    """Makes a state file of version 4."""
+    connection = sqlite3.connect(path)
+    connection.executescript(VERSION_4)
+    connection.close()
+
+
+def test_a_file_of_version_4_gets_what_pages_show(tmp_path: Path) -> None:
+    path = tmp_path / "state.db"
+    file_of_version_4(path)
+    file = StateFile(path)
+    people = Directory(file)
+    # the credit of the latest reply
+    assert [(user.name, user.credit, user.computers) for user in people.users(0, 9)] == [
+        ("Ann", 6000, 2),
+        ("Bob", 0, 1),
+    ]
+    assert [computer.number for computer in people.computers(0, 9)] == [100_001, 100_002, 100_003]
+    computer, ann = people.computer(100_001), Members(file).of_key("ann-key")
+    known = CallNumbers(file).of_number("ann-key", 100_001)
+    assert computer is not None and ann is not None and known is not None
+    assert computer.about == Description()
+    assert (ann.is_exported, ann.is_anonymous, ann.shown_name) == (True, False, "Ann")
+    assert known.client_seqno == 3
+    file.close()
+    kept = contents(path)
+    StateFile(path).close()
+    assert contents(path) == kept
+
+
+def test_a_stopped_upgrade_of_version_4_changes_nothing(
+    tmp_path: Path, monkeypatch: pytest.MonkeyPatch
+) -> None:
+    path = tmp_path / "state.db"
+    file_of_version_4(path)
+    before = contents(path)
+    statements = [part for part in UPGRADES[4].split(";\n") if part.strip()]
+    for count in range(len(statements) + 1):
+        monkeypatch.setitem(UPGRADES, 4, ";\n".join([*statements[:count], "SELECT stop()"]))
+        with pytest.raises(StateFault):
+            StateFile(path)
+        assert contents(path) == before
+
+
+def test_a_second_bridge_is_refused_while_a_command_works(project: Path, open_bridge: Bridge) -> None:
+    guest = StateFile(project / "bridge.db", is_guest=True)
+    with pytest.raises(StateFault, match="no other bridge may have it"):
+        StateFile(project / "bridge.db")
+    guest.close()
+    assert create(open_bridge)
