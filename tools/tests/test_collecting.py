@@ -7,8 +7,8 @@ from pathlib import Path
 from typing import Any
 
 import pytest
+from files_uploaded import files_below, spoil
 from lives import life_of, stored_life
-from test_uploaded import files_below, spoil, tables, uploads
 from work_project import WorkProject
 
 from bsched_files import workunits
@@ -18,9 +18,8 @@ from bsched_tools.collecting import Collected, collect_files
 from bsched_tools.project_access import Look
 from bsched_tools.projects import Project
 from bsched_tools.texts import table_text
-from bsched_tools.uploaded import UploadedFile, UploadFolder
+from bsched_tools.uploaded import UploadFolder, UploadedFile
 
-__all__ = ["tables", "uploads"]  # fixtures
 RESULTS = ("workunit", "input", "result", "credit", "output", "files")
 FAILED = ("workunit", "input", "reason")
 

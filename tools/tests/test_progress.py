@@ -1,5 +1,11 @@
 """Tests the rate of the work, its end, and what keeps it from its end."""
+import json
+import re
+import sqlite3
+from datetime import datetime, timedelta, timezone
+
 import pytest
+from work_project import PLATFORM, WorkProject
 
 from bsched_tools.progress import Progress, Trouble, rate_lines
 from bsched_tools.stuck import Stuck
@@ -67,3 +73,28 @@ def test_what_keeps_the_work_from_its_end() -> None:
         "errors   1,138, 138 of them by computer 4 of Eve",
         "stuck    1: w1 (it waits for a computer of a further user; 1 client error, exit status 3)",
     ]
+
+
+# ---- Progress and outputs
+
+
+def test_the_rate_follows_from_an_older_copy(bare: WorkProject) -> None:
+    assert bare.app()[0] == 0
+    bare.make_inputs(4)
+    words = "--quorum", "1", "--hours", "0.001", "--memory", "1k", "--disk", "100k"
+    assert bare.submit(*words, bare.inputs)[0] == 0
+    assert bare.tools("copy")[0] == 0
+    (copy,) = (bare.folder / "copies").iterdir()
+    moment = datetime.now(timezone.utc) - timedelta(hours=2)
+    copy.rename(copy.with_name(f"project-{moment:%Y%m%dT%H%M%S}.000Z.db"))
+    assert "rate     unknown: no job went out yet\n" in bare.tools("progress")[1]
+    reply = json.loads(bare.call(1, 1, platform_name=PLATFORM, work_req_seconds=1))
+    reports = [{"name": job["name"], "exit_status": 0, "output": "1"} for job in reply["results"]]
+    bare.call(1, 2, platform_name=PLATFORM, results=reports)
+    bare.end()
+    connection = sqlite3.connect(bare.folder / "project.db")
+    connection.execute("UPDATE instance SET sent = sent - 10000 WHERE sent IS NOT NULL")
+    connection.commit()
+    connection.close()
+    output = bare.tools("progress", "--batch", "run")[1]
+    assert re.search(r"rate     1 workunit in 2\.[0-9] hours\nend      may be at ", output)

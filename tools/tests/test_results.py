@@ -4,11 +4,11 @@ import io
 import json
 import sqlite3
 from pathlib import Path
-from typing import Any
 
 import pytest
 from hypothesis import given, settings, strategies
 from lives import Stored, decided_by, life_of, stored_life
+from results_read import lines_of, rows_of
 from small_project import TOOLS, WORKUNITS, made_anew, tools
 from small_project import rows_of as stored_rows
 
@@ -23,23 +23,9 @@ NOW, NEXT = "1970-01-01T00:16:40Z", "\n"
 REASONS = {"errors": "errors", "success": "successes", "total": "total"}
 
 
-def rows_of(*paths: Path, **more: Any) -> list[dict[str, str]]:
-    """Returns the rows of comma-separated results."""
-    file = io.StringIO()
-    results.write_results(paths, file=file, **more)
-    return list(csv.DictReader(io.StringIO(file.getvalue())))
-
-
 def verdicts_of(unit: workunits.Workunit) -> dict[str, bool | None]:
     """Returns the verdict of each result of a workunit."""
     return {one.name: one.is_valid for one in unit.results}
-
-
-def lines_of(*paths: Path, **more: Any) -> list[dict[str, Any]]:
-    """Returns the lines of results as JSON."""
-    file = io.StringIO()
-    results.write_results(paths, as_lines=True, file=file, **more)
-    return [json.loads(line) for line in file.getvalue().splitlines()]
 
 
 @settings(max_examples=10, database=None)

@@ -9,36 +9,22 @@ from xml.etree import ElementTree
 
 import plain_tables
 import pytest
-from lives import Stored, life_of, stored_life
-from small_project import SETTINGS, made_anew, make_tables, tools
+from exports_read import read
+from lives import life_of, stored_life
+from small_project import SETTINGS, make_tables, tools
 
 from bsched_files import atomic as files
 from bsched_files.averages import average_after
 from bsched_files.faults import Fault
 from bsched_tools import exports
-from bsched_tools.users import agreed_in
 from bsched_tools.volunteers import Team
 
 DAY = 86400
 
 
-def read(folder: Path, name: str) -> list[dict[str, str]]:
-    """Returns the elements of a file, each with its members."""
-    root = ElementTree.fromstring(gzip.decompress((folder / name).read_bytes()))
-    return [{member.tag: member.text or "" for member in one} for one in root]
-
-
 def totals(folder: Path) -> dict[str, str | None]:
     """Returns what tables.xml says."""
     return {member.tag: member.text for member in ElementTree.fromstring((folder / "tables.xml").read_text())}
-
-
-@pytest.fixture
-def folder(tmp_path: Path) -> Path:
-    """Makes the folder of the files."""
-    made = tmp_path / "stats"
-    made.mkdir()
-    return made
 
 
 def test_averages_as_worked_out() -> None:
@@ -105,21 +91,6 @@ def test_averages_over_runs(tmp_path: Path, folder: Path) -> None:
     assert run(18 * DAY, 15_000, 2) == (4.76431, 10 * DAY, 11 * DAY)
 
 
-def test_nobody_is_named_who_did_not_agree(tmp_path: Path, folder: Path) -> None:
-    lived = life_of(11)
-    path = stored_life(lived, tmp_path / "project.db")
-    assert exports.export([path], folder, frozenset()).agreed == 0
-    assert read(folder, "user.gz") == [] and not any("userid" in host for host in read(folder, "host.gz"))
-    agreed = tmp_path / "agreed"
-    agreed.write_text("user1\n\nnobody\n")
-    assert exports.export([path], folder, agreed_in(agreed)).agreed == 1
-    (user,) = read(folder, "user.gz")
-    assert user["name"] == "User 1"
-    assert {host["userid"] for host in read(folder, "host.gz") if "userid" in host} == {user["id"]}
-    with pytest.raises(Fault, match="No such file"):
-        agreed_in(tmp_path / "none")
-
-
 def test_teams_have_the_credit_of_their_members(tmp_path: Path, folder: Path) -> None:
     path = stored_life(life_of(11, calls=600), tmp_path / "project.db")
     exports.export([path], folder, None)
@@ -147,28 +118,6 @@ def test_teams_have_the_credit_of_their_members(tmp_path: Path, folder: Path) ->
     # no member of the second has an account in the tables
     assert (second["total_credit"], second["nusers"], "userid" in second) == ("0.000", "1", False)
     assert totals(folder)["nteams_total"] == "2"
-
-
-def test_a_founder_is_named_with_consent_alone(tmp_path: Path, folder: Path) -> None:
-    path = stored_life(life_of(11), tmp_path / "project.db")
-    teams = (Team(1, "Summers", 1000, "user1", frozenset({"user1"})),)
-    exports.export([path], folder, frozenset(), teams=teams)
-    (team,) = read(folder, "team.gz")
-    assert team["name"] == "Summers" and "userid" not in team
-    assert read(folder, "user.gz") == []
-
-
-def test_several_files_are_summed_by_authenticator(tmp_path: Path, folder: Path) -> None:
-    stored = Stored(tmp_path / "2025.db")
-    stored.answer(life_of(11).lines)
-    second = made_anew(stored.copy(tmp_path / "2026.db"))
-    first = stored.close()
-    exports.export([first], folder, None)
-    alone = {user["id"]: float(user["total_credit"]) for user in read(folder, "user.gz")}
-    exports.export([first, second], folder, None)
-    both = {user["id"]: float(user["total_credit"]) for user in read(folder, "user.gz")}
-    assert both == pytest.approx({number: 2 * credit for number, credit in alone.items()})
-    assert sum(alone.values()) > 0
 
 
 def test_names_are_text(tmp_path: Path, folder: Path) -> None:
