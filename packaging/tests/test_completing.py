@@ -7,7 +7,7 @@ from pathlib import Path
 import pytest
 from hypothesis import HealthCheck, given, settings
 from hypothesis import strategies as st
-from test_project import Machine
+from project_machine import Machine
 
 KEYS = {"operator_key", "counts", "averages", "plots", "health"}
 # as an operator may have written it: comments, a text and a list with what looks like a table

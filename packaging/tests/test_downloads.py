@@ -8,9 +8,9 @@ from http.server import BaseHTTPRequestHandler, ThreadingHTTPServer
 from pathlib import Path
 
 import pytest
+from nginx_tried import NGINX, URL, bridge_port, served, written
+from project_machine import Machine
 from served import free_port
-from test_nginx import NGINX, URL, bridge_port, served, written
-from test_project import Machine
 
 CHANGED = "Sun, 29 Nov 2026 12:00:00 GMT"
 

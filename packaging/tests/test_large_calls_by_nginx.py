@@ -10,12 +10,12 @@ from pathlib import Path
 
 import pytest
 from bridges import new_project
+from gunicorn_served import served as bridge_served
 from joining import wait_until
 from messages import names, request, value
+from nginx_tried import NGINX, URL, bridge_port, served, written
+from project_machine import Machine
 from served import free_port
-from gunicorn_served import served as bridge_served
-from test_nginx import NGINX, URL, bridge_port, served, written
-from test_project import Machine
 from twin import Twin
 
 from bsched_bridge.common.code_signing import new_key

@@ -14,10 +14,10 @@ from http.server import BaseHTTPRequestHandler, ThreadingHTTPServer
 from pathlib import Path
 
 import pytest
-from served import free_port
 from joining import wait_until
-from test_nginx import NGINX, URL, bridge_port, served, written
-from test_project import Machine
+from nginx_tried import NGINX, URL, bridge_port, served, written
+from project_machine import Machine
+from served import free_port
 
 PASSED, REFUSED, LENGTH_REQUIRED, TOO_LARGE, NO_ANSWER = 200, 503, 411, 413, 0
 MOST_OF_ADDRESS, MOST_OF_ACCOUNT, MOST_OF_SITE, MOST_OF_ALL, MOST_PLAIN = 8, 8, 16, 64, 4  # uploads

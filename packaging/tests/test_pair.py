@@ -11,32 +11,23 @@ from ipaddress import IPv4Address, IPv4Interface
 from pathlib import Path
 
 import pytest
+from hypothesis import given
+from hypothesis import strategies as st
+from pair_made import ALPHA, BETA, HOME, PAIR
+from project_machine import Machine as Projects
+
 from bsched_pair import check, command, machine
 from bsched_pair.check import State, differences, faults_of_set_up, files_outside, installed_times
 from bsched_pair.files import ANYWHERE, BLIND, STAY, files_of
-from bsched_pair.pair import Fault, Machine, Pair, Times, Vote
+from bsched_pair.pair import Fault, Times, Vote
 from bsched_pair.steps import CLUSTER, INSTALLED, KEY, PACKAGES, steps
 from bsched_pair.units import Unit, possible_units, used_units
-from hypothesis import given
-from hypothesis import strategies as st
-from test_project import Machine as Projects
 
 EXPECTED = Path(__file__).resolve().parent / "pair"
-HOME = Path("/var/lib/bsched/sums")
 WORDS = [
     *("sums", "--machine", "alpha=10.77.0.1,10.77.1.1", "--machine", "beta=10.77.0.2,10.77.1.2"),
     *("--vote", "gamma=10.77.0.3", "--address", "10.77.0.100/24", "--disk", "/dev/vg0/sums"),
 ]
-ALPHA = Machine("alpha", IPv4Address("10.77.0.1"), IPv4Address("10.77.1.1"))
-BETA = Machine("beta", IPv4Address("10.77.0.2"), IPv4Address("10.77.1.2"))
-PAIR = Pair(
-    "sums",
-    (ALPHA, BETA),
-    Vote("gamma", IPv4Address("10.77.0.3")),
-    IPv4Interface("10.77.0.100/24"),
-    Path("/dev/vg0/sums"),
-    Path("/dev/watchdog"),
-)
 Programs = Callable[[str, str], None]
 
 

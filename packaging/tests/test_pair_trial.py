@@ -6,11 +6,10 @@ import subprocess
 from pathlib import Path
 
 import pytest
-from bsched_pair.steps import PACKAGES, steps
-from bsched_pair.units import possible_units
 from debian_trial.debian import TrialFault
 from hypothesis import given
 from hypothesis import strategies as st
+from pair_made import HOME, PAIR
 from pair_trial import page
 from pair_trial.comparing import UPLOADED
 from pair_trial.events import EVENTS, NAMES
@@ -30,7 +29,9 @@ from pair_trial.page import (
     steps_of,
 )
 from pair_trial.volunteers import Computer, Unanswered, element, jobs_of
-from test_pair import HOME, PAIR
+
+from bsched_pair.steps import PACKAGES, steps
+from bsched_pair.units import possible_units
 
 PAIR_PAGE = page.PAIR_PAGE.read_text(encoding="utf-8")
 USAGE = (Path(page.__file__).resolve().parent.parent / "try_pair").read_text(encoding="utf-8")
@@ -229,6 +230,7 @@ def test_a_look_is_read() -> None:
 
 
 # ---- Clients
+
 
 REPLY = """\
 <scheduler_reply>

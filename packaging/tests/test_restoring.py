@@ -12,8 +12,8 @@ from contextlib import closing
 from pathlib import Path
 
 import pytest
-from test_moving import MAKE_STATE, MORE_STUBS
-from test_project import TOP, Machine
+from moved_projects import MAKE_STATE, MORE_STUBS
+from project_machine import TOP, Machine
 
 NEWEST, OLDER = "project-20261128T120000.123Z.db", "project-20261127T120000.123Z.db"
 UNITS = ["bsched@sums", "bsched-tick@sums.timer", "bsched-bridge@sums"]

@@ -9,8 +9,8 @@ from contextlib import closing
 from pathlib import Path
 
 import pytest
-from test_moving import MORE_STUBS
-from test_project import STUBS, TOP, Machine
+from moved_projects import MORE_STUBS
+from project_machine import STUBS, TOP, Machine
 
 TWIN = TOP / "bridge" / "trial" / "twin"
 OWN_WORDS = {"APP": "squares", "BATCH": "first"}
