@@ -15,6 +15,7 @@ BUILT = os.path.join(
     os.path.dirname(os.path.dirname(os.path.abspath(__file__))), "crates", "bsched", "out", "bsched"
 )
 USAGE = 64  # the status of a script that lacks what it needs
+PORTS = range(10_000, 32_000)
 RETURNED: set[int] = set()  # the ports that were chosen so far
 
 
@@ -34,7 +35,7 @@ def program_at(script: str, path: str) -> str:
     return os.path.abspath(path)
 
 
-def free_port(first: int = 10_000, count: int = 22_000) -> int:
+def free_port(first: int = PORTS.start, count: int = len(PORTS)) -> int:
     """Returns a port on which nothing listens, at no address, chosen from some ports. They are below those
     that the system gives to clients: from one of these a client that waits for a server could connect to
     itself. No port is returned twice."""
