@@ -180,7 +180,10 @@ class Project:
     def sent(self, path: str, head: bytes, blocks: int, rest: bytes, good: bytes) -> None:
         """Sends a message of a head, some megabytes and a rest, and checks the answer."""
         length = len(head) + blocks * len(BLOCK) + len(rest)
-        lines = f"POST {path} HTTP/1.1\r\nhost: localhost\r\nconnection: close\r\ncontent-length: {length}\r\n\r\n"
+        lines = (
+            f"POST {path} HTTP/1.1\r\nhost: localhost\r\nconnection: close\r\n"
+            f"content-length: {length}\r\n\r\n"
+        )
         with socket.create_connection(("127.0.0.1", self.port), timeout=ANSWER_SECONDS) as connection:
             connection.sendall(lines.encode() + head)
             for _ in range(blocks):

@@ -213,7 +213,8 @@ class Browser:
         yield
         # Chromium's driver may fail while one page replaces the other, so it is asked again
         wait = WebDriverWait(self.driver, LOAD_SECONDS, ignored_exceptions=[WebDriverException])
-        wait.until(staleness_of(before))  # type: ignore[no-untyped-call]
+        gone: Any = staleness_of
+        wait.until(gone(before))
 
     def forge(self, form: str, name: str, text: str) -> None:
         """Changes a hidden field of a form, as no user can."""

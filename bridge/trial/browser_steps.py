@@ -190,7 +190,7 @@ class BrowserTrial(Run):
         ]
         listed = [{"file": plot.file, "title": plot.title, "text": plot.text} for plot in plots]
         for plot in plots:
-            (self.folder / "plots" / plot.file).write_text(plot.svg)
+            (self.folder / "plots" / plot.file).write_bytes(plot.svg)
         (self.folder / "plots" / "plots.json").write_text(json.dumps({"format": FORMAT, "plots": listed}))
 
     @property

@@ -38,7 +38,7 @@ class Calls(Run):
             return next((name for name in client.tasks() if name.rpartition("_")[0] == workunit), None)
 
         self.until(held, f"{client.name} has a job of {workunit}", client)
-        return held()
+        return held() or ""
 
     def result_of(self, client: Client, workunit: str) -> tuple[str, list[str]] | None:
         """Returns the result of a workunit in the statement of a client's host."""
@@ -46,6 +46,12 @@ class Calls(Run):
         return next(
             ((name, line) for name, line in statement.items() if name.rpartition("_")[0] == workunit), None
         )
+
+    def line_of(self, client: Client, workunit: str) -> list[str]:
+        """Returns the line of that result."""
+        result = self.result_of(client, workunit)
+        assert result is not None
+        return result[1]
 
     def credit(self, client: Client) -> str:
         """Returns the credit of a client's host."""
@@ -67,11 +73,11 @@ class Calls(Run):
             client.attach()
         for client, fault in zip(self.clients, faults):
             self.until(fault.met.is_set, f"a first reply to {client.name} is lost")
-            lost = self.before_bridge_messages(client)[0].answer.decode()
+            lost = self.before_bridge_messages(client)[0].answered.decode()
             seen(f"{client.name}: attached, and the first reply, with {lost.count('<result>')} job, is lost")
         for client in self.clients:
             name = self.until_it_has(client, "first")
-            lost = self.before_bridge_messages(client)[0].answer.decode()
+            lost = self.before_bridge_messages(client)[0].answered.decode()
             wants(f"<name>{name}</name>" in lost, f"{client.name} has the job of the lost reply")
             hostid = lost.partition("<hostid>")[2].partition("<")[0]
             self.hosts[client] = next(host for host in (1, 2) if name in self.scheduler.statement(host))
@@ -111,12 +117,12 @@ class Calls(Run):
         """Ann's client loses its jobs and gets them again."""
         self.give("lost", 2)
         name = self.until_it_has(self.ann, "lost")
-        before = self.result_of(self.ann, "lost")[1]
+        before = self.line_of(self.ann, "lost")
         seen(f"ann: has {name}; its client loses all jobs (reset)")
         self.ann.command("--project", URL, "reset")
         wants(not self.ann.tasks(), "the reset took all jobs")
         wants(self.until_it_has(self.ann, "lost") == name, "the same job comes again")
-        wants(self.result_of(self.ann, "lost")[1] == before, "the job is sent again as it was")
+        wants(self.line_of(self.ann, "lost") == before, "the job is sent again as it was")
         seen(f"ann: has {name} again, with the same deadline")
 
     def aborted(self) -> None:
@@ -127,9 +133,7 @@ class Calls(Run):
         self.ann.command("--project", URL, "allowmorework")
         other = self.until_it_has(self.ann, "given_up")
         wants(other != name, "another instance goes to Ann")
-        self.until(
-            lambda: self.result_of(self.ann, "given_up")[1][5] == "1", "Ann's result is valid", self.ann
-        )
+        self.until(lambda: self.line_of(self.ann, "given_up")[5] == "1", "Ann's result is valid", self.ann)
         seen(f"ann: was given {other} in its place, and it is valid")
 
     def abort(self, client: Client, workunit: str) -> str:
@@ -137,7 +141,7 @@ class Calls(Run):
         name = self.until_it_has(client, workunit)
         client.command("--task", URL, name, "abort")
         self.until(
-            lambda: self.result_of(client, workunit)[1][4] == "3", "the abort is reported as an error", client
+            lambda: self.line_of(client, workunit)[4] == "3", "the abort is reported as an error", client
         )
         self.until(lambda: name not in client.tasks(), "the abort is acknowledged", client)
         seen(f"{client.name}: aborted {name}, which counts as an error")
@@ -150,7 +154,7 @@ class Calls(Run):
         self.abort(self.bob, "failing")
         self.until(lambda: name not in self.ann.tasks(), "Ann's client stops and reports", self.ann)
         wants(
-            self.result_of(self.ann, "failing")[1][4:6] == ["3", "3"],
+            self.line_of(self.ann, "failing")[4:6] == ["3", "3"],
             "Ann's report is an error that is not judged",
         )
         seen(f"ann: was told to stop {name}, since its workunit has failed, and reported it")
@@ -180,7 +184,7 @@ class Calls(Run):
         """
         fits = is_request_of(self.ann)
         return self.behind_bridge.plan(
-            Fault(lambda message: fits(message) and text.encode() in message.answer, is_held=True)
+            Fault(lambda message: fits(message) and text.encode() in (message.answer or b""), is_held=True)
         )
 
     def killed_at(self, fault: Fault, what: str) -> bytes:
@@ -188,7 +192,7 @@ class Calls(Run):
         self.until(fault.met.is_set, f"bsched gives Ann an answer {what}", self.ann)
         self.until(lambda: not any(client.downloads() for client in self.clients), "no client downloads")
         self.bridge.kill()
-        held = fault.message
+        held = fault.hit
         seen(
             f"bridge: killed, when bsched had answered call {json.loads(held.body)['rpc_seqno']} of Ann "
             f"by one {what}"
@@ -206,7 +210,7 @@ class Calls(Run):
         wants(again.body == held.body, "the call comes again with the same bytes")
         wants(again.answer == held.answer, "it gets the kept answer")
         seen("bridge: started again; it sent the same bytes again, and got the same bytes as answer")
-        return again.answer
+        return again.answered
 
     def renamed(self) -> None:
         """Changes the host_cpid of Bob's client."""
@@ -277,6 +281,7 @@ class Calls(Run):
         self.created_while_killed(carol)
         key = carol.create_account(EMAIL, PASSWORD, "Carol")
         wants(key is not None, f"carol has a key: {carol.output}")
+        assert key is not None
         imports = [one for one in self.behind_bridge.messages if one.path.startswith("/import/accounts/")]
         wants(
             len({(one.path, one.body) for one in imports}) == 1, "the import has one name and the same bytes"
@@ -328,13 +333,13 @@ class Calls(Run):
             return [
                 one
                 for one in self.behind_bridge.messages[count:]
-                if one.path == fault.message.path and one.answer
+                if one.path == fault.hit.path and one.answer
             ]
 
         self.until(sent_again, "the import is sent again")
         again = sent_again()[0]
         wants(
-            (again.body, again.answer) == (fault.message.body, fault.message.answer),
+            (again.body, again.answer) == (fault.hit.body, fault.hit.answer),
             "it gets the kept answer",
         )
         seen("bridge: started again; it sent the same import again, and got the same answer")

@@ -90,7 +90,9 @@ def further(name: str, more: str = "") -> str:
 
 
 def libraries() -> list[str]:
-    """Returns the names of BOINC's libraries in the folder of the programs. Their number is that of this system's BOINC."""
+    """Returns the names of BOINC's libraries in the folder of the programs. Their number is that of this
+    system's BOINC.
+    """
     return sorted(path.name for path in EXAMPLES.glob("libboinc*.so.[0-9]"))
 
 

@@ -1,5 +1,5 @@
-"""What BOINC's client does with output files, programs with BOINC's library and plan classes: the second part of
-`bridge/try`, whose head lists the steps.
+"""What BOINC's client does with output files, programs with BOINC's library and plan classes: the second part
+of `bridge/try`, whose head lists the steps.
 """
 import hashlib
 import json
@@ -7,8 +7,10 @@ import re
 import sqlite3
 import subprocess
 import sys
+from collections.abc import Callable
 from contextlib import closing, suppress
 from pathlib import Path
+from typing import Any
 from urllib.request import urlopen
 
 from bsched_bridge.uploads.tokens import UploadTokens
@@ -16,7 +18,7 @@ from uploading import odd_messages
 
 from . import file_project, project
 from .programs import BRIDGE, Bridge, Client, Program, Scheduler
-from .proxy import Fault, Proxy
+from .proxy import Fault, Message, Proxy
 from .runs import BRIDGE_PORT, CALLS_PORT, CLIENTS_PORT, SCHEDULER_PORT, URL, Run, seen, wants
 
 DISK = 8_000_000  # bytes of the disk on which the uploads are
@@ -56,7 +58,10 @@ PRIMES = {
     "full": 211,
     "after": 222,
 }
-COPROC = "<coproc><type>fakegpu</type><count>2</count><peak_flops>1e12</peak_flops><device_nums>0 1</device_nums></coproc>"
+COPROC = (
+    "<coproc><type>fakegpu</type><count>2</count><peak_flops>1e12</peak_flops>"
+    "<device_nums>0 1</device_nums></coproc>"
+)
 PREFERENCES = (
     "<global_preferences><suspend_cpu_usage>0</suspend_cpu_usage><disk_interval>1</disk_interval>"
     "</global_preferences>\n"
@@ -67,7 +72,7 @@ SMALL_BUFFER = (
 )
 
 
-def uploads_of(name: str):
+def uploads_of(name: str) -> Callable[[Message], bool]:
     """Returns the test for an upload of a file of a workunit, with its bytes."""
     return lambda message: message.path.startswith(UPLOAD) and f"<name>{name}_".encode() in message.body
 
@@ -120,7 +125,7 @@ class Files(Run):
             f"/import/workunits/{name}", project.workunit(name, quorum, errors).replace(",sum,", f",{app},")
         )
 
-    def plan(self, fits, **more: object) -> Fault:
+    def plan(self, fits: Callable[[Message], bool], **more: Any) -> Fault:
         """Plans a fault between the clients and the bridge."""
         return self.before_bridge.plan(Fault(fits, **more))
 
@@ -233,7 +238,8 @@ class Files(Run):
         self.until_done("given_up", 1)
         wants(self.store("78\n"), "the file of the other result is stored")
         seen(
-            f"a client gave up an upload, and its success became an error ({first['output']}); another did the work"
+            f"a client gave up an upload, and its success became an error ({first['output']}); "
+            "another did the work"
         )
 
     def on_disk(self) -> list[str]:
@@ -297,7 +303,8 @@ class Files(Run):
         self.until_done("after", 2)
         wants(self.store("222\n"), "the file is stored")
         seen(
-            "bridge: with a full disk it refused for a while; then the client sent the file again, and nothing is lost"
+            "bridge: with a full disk it refused for a while; then the client sent the file again, "
+            "and nothing is lost"
         )
 
     def stopped(self) -> None:
@@ -348,7 +355,8 @@ class Files(Run):
         )
         wants(not list(self.folder.glob("*/projects/*/trickle_up*")), "no client has it any more")
         seen(
-            f"a program sent `a<b`; it came {len(messages)} times, was acknowledged, and the result was reported"
+            f"a program sent `a<b`; it came {len(messages)} times, was acknowledged, "
+            "and the result was reported"
         )
 
     def classes(self) -> None:

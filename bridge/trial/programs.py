@@ -80,7 +80,8 @@ class Scheduler(Program):
         )
         if completed.returncode:
             raise TrialFault(
-                f"bsched {' '.join(words)}: status {completed.returncode}, {completed.stdout}{completed.stderr}"
+                f"bsched {' '.join(words)}: status {completed.returncode}, "
+                f"{completed.stdout}{completed.stderr}"
             )
         return completed.stdout
 

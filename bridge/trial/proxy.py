@@ -18,12 +18,18 @@ class Message:
     answer: bytes | None = None  # what the other program answered
     was_handed_on: bool = False
 
+    @property
+    def answered(self) -> bytes:
+        """The answer, once the other program has given it."""
+        assert self.answer is not None
+        return self.answer
+
 
 @dataclass
 class Fault:
     """A fault for the first message that fits: its answer is lost. If is_held is true, the connection stays
-    open until let_go is set. With is_cut the other program gets a half of the message, before let_go is set. With
-    another answer, which may have a status of its own, the other program gets nothing.
+    open until let_go is set. With is_cut the other program gets a half of the message, before let_go is set.
+    With another answer, which may have a status of its own, the other program gets nothing.
     """
 
     fits: Callable[[Message], bool]
@@ -35,6 +41,12 @@ class Fault:
     met: threading.Event = field(default_factory=threading.Event)
     let_go: threading.Event = field(default_factory=threading.Event)
     message: Message | None = None  # that message
+
+    @property
+    def hit(self) -> Message:
+        """That message, once it has come."""
+        assert self.message is not None
+        return self.message
 
 
 class Server(ThreadingHTTPServer):
@@ -142,7 +154,9 @@ class Proxy:
         return fault
 
     def fault_of(self, message: Message, is_before: bool = False) -> Fault | None:
-        """Takes and returns the first planned fault that a message fits, of those for messages or for answers."""
+        """Takes and returns the first planned fault that a message fits, of those for messages or for
+        answers.
+        """
         with self._lock:
             planned = [one for one in self._faults if is_before == (one.is_cut or one.another is not None)]
             fault = next((one for one in planned if one.fits(message)), None)
