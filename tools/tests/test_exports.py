@@ -140,7 +140,7 @@ def test_no_half_file(tmp_path: Path, folder: Path, monkeypatch: pytest.MonkeyPa
         raise OSError(28, "No space left on device")
 
     monkeypatch.setattr("bsched_files.atomic.os.fsync", full)
-    with pytest.raises(Fault, match="stats-averages.json: No space left on device"):
+    with pytest.raises(Fault, match="written-averages.json: No space left on device"):
         exports.export([path], folder, frozenset())
     assert {one.name: one.read_bytes() for one in folder.iterdir()} == before
     assert exports.state_of(folder).read_bytes() == kept
