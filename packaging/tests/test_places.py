@@ -9,7 +9,6 @@ TOP = Path(__file__).resolve().parents[2]
 PACKAGES = ("bridge/bsched_bridge", "files/bsched_files", "tools/bsched_tools")
 # These have none: tests of other modules try them. A module that gets its own test leaves the list.
 WITHOUT = {
-    "bridge/bsched_bridge/requests/xml_lines.py",
     "bridge/bsched_bridge/scheduler/probe.py",
     "files/bsched_files/bridge_state.py",
     "files/bsched_files/faults.py",
