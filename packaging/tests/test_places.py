@@ -1,4 +1,4 @@
-"""Tests that each module has a test of its name, in a folder of its subpackage, and that no test uses another."""
+"""Tests that each module has a test of its name, and that no test imports another one."""
 import ast
 from collections.abc import Iterator
 from pathlib import Path
