@@ -10,8 +10,8 @@ import re
 from dataclasses import dataclass
 
 # Not an `@`: in the URL of an upload, BOINC's client takes what follows an `@` for the name of the host. So a
-# proxy gets the upload, even if the client has an exception for the project's host. `~` means nothing in a
-# URL, and no shell, page or file system reads it within a name.
+# proxy gets the upload, even if the client has an exception for the project's host. `~` needs no escape in a
+# URL, in HTML, or within a name in bash.
 MARK = "~"
 FIRST, MOST_FILES = 1, 99_999
 WORKUNIT = rf"([A-Za-z0-9_.-]{{1,64}}){MARK}([1-9][0-9]{{0,4}})"
