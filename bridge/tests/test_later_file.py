@@ -1,9 +1,13 @@
 """Tests a bridge whose bsched serves a later file of the project: clients know its results by other names."""
+import random
+import re
+from pathlib import Path
 from typing import Any
 
 import pytest
 from bridges import Bridge
 from messages import FIRST, jobs, names, request, value
+from random_lives import LIFE_SETTINGS, Life, SimulatedClock, life_twin
 from twin import Twin
 from uploading import DATA, DONE, NEVER, file_info, report, sent, sha256_of, tokens_of, upload, url_of
 
@@ -181,3 +185,42 @@ def test_a_job_that_the_bridge_forgot_is_found_in_the_statement(file_bridge: Bri
     reply = file_bridge.call(report("u1~12_0", [file_info(NAME, DATA)]))
     assert names(reply, "result_ack") == ["u1~12_0"]
     assert [one["exit_status"] for one in call_of(twin)["results"]] == [0]
+
+
+# ---- Random lives
+
+
+class LaterBridge(Bridge):
+    """A bridge over file 12. It gives bsched's names to the clients of a life, which compares them with the
+    tables, and takes them from these clients.
+    """
+
+    def start(self) -> None:
+        """Starts the bridge with what its file has."""
+        super().start()
+        self.application.scheduler.file = FILE
+
+    def call(self, body: bytes | str) -> bytes:
+        """Returns the reply to a scheduler_request."""
+        text = body if isinstance(body, str) else body.decode()
+        reply = super().call(re.sub("_([0-9]+)</name>", rf"~{FILE}_\1</name>", text))
+        known = [name for what in ("result", "result_ack", "result_abort") for name in names(reply, what)]
+        assert all(f"~{FILE}_" in name for name in known), known
+        return reply.replace(f"~{FILE}".encode(), b"")
+
+
+@pytest.mark.parametrize("seed", range(4))
+def test_a_life_in_a_later_file(project: Path, monkeypatch: pytest.MonkeyPatch, seed: int) -> None:
+    clock, twin = SimulatedClock(), life_twin()
+    clock.replaces(monkeypatch.setattr)
+    with (project / "bridge.toml").open("a") as file:
+        file.write(LIFE_SETTINGS)
+    bridge = LaterBridge(project, twin)
+    life = Life(bridge, twin, random.Random(seed), clock)
+    for _ in range(120):
+        life.step()
+    life.end()
+    assert life.counts["acknowledged"] > 0
+    assert not any(b"~" in body for body in twin.heard)
+    bridge.file.close()
+    twin.close()
