@@ -109,7 +109,7 @@ def test_a_result_of_another_file_is_not_reported(later: Bridge, twin: Twin, oth
 
 def test_a_listed_result_of_another_file_needs_no_notice(later: Bridge, twin: Twin) -> None:
     later.call(request())
-    reply = later.call(request(hostid=FIRST, listed=["u1~12_0", "u1~13_0"], seconds=0))
+    reply = later.call(request(hostid=FIRST, listed=["u1~12_0", "u5~13_0", "u6_0"], seconds=0))
     assert names(reply, "result_abort") == [] and b"<message" not in reply
     assert call_of(twin)["other_results"] == ["u1_0"]
 
@@ -117,9 +117,10 @@ def test_a_listed_result_of_another_file_needs_no_notice(later: Bridge, twin: Tw
 def test_in_file_1_a_name_with_a_mark_is_of_another_file(bridge: Bridge, twin: Twin) -> None:
     bridge.call(request())
     reply = bridge.call(
-        request(hostid=FIRST, listed=["u1~2_0"], seconds=0, reports=[("u1~2_0", "1"), ("u1_0", "42")])
+        request(hostid=FIRST, listed=["u5~2_0"], seconds=0, reports=[("u1~2_0", "1"), ("u1_0", "42")])
     )
     assert names(reply, "result_ack") == ["u1_0"]
+    assert names(reply, "result_abort") == []
     call = call_of(twin)
     assert (reported(call), call["other_results"]) == (["u1_0"], [])
 
