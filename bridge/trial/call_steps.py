@@ -7,7 +7,7 @@ from pathlib import Path
 from . import project
 from .programs import Client
 from .proxy import Fault, Message
-from .runs import URL, Run, is_request_of, seen, wants
+from .runs import URL, Run, is_request_of, known, seen, wants, workunit_of
 
 NEW_NAME = "ab" * 16
 EMAIL, PASSWORD, WRONG = "carol@sums.example", "secret 1", "secret 2"
@@ -35,7 +35,7 @@ class Calls(Run):
         """Waits until a client has a job of a workunit, and returns the job's name."""
 
         def held() -> str | None:
-            return next((name for name in client.tasks() if name.rpartition("_")[0] == workunit), None)
+            return next((name for name in client.tasks() if workunit_of(name) == workunit), None)
 
         self.until(held, f"{client.name} has a job of {workunit}", client)
         return held() or ""
@@ -43,9 +43,7 @@ class Calls(Run):
     def result_of(self, client: Client, workunit: str) -> tuple[str, list[str]] | None:
         """Returns the result of a workunit in the statement of a client's host."""
         statement = self.scheduler.statement(self.hosts[client])
-        return next(
-            ((name, line) for name, line in statement.items() if name.rpartition("_")[0] == workunit), None
-        )
+        return next(((name, line) for name, line in statement.items() if workunit_of(name) == workunit), None)
 
     def line_of(self, client: Client, workunit: str) -> list[str]:
         """Returns the line of that result."""
@@ -168,13 +166,13 @@ class Calls(Run):
         for client in self.clients:
             self.until_it_has(client, "held")
         answer = self.killed_at(fault, "that acknowledges a report")
-        name = json.loads(answer)["result_ack"][0]
+        name = known(json.loads(answer)["result_ack"][0])
         self.until(lambda: name not in self.ann.tasks(), "the report is acknowledged", self.ann)
         seen(f"ann: reported {name} again; it was recorded once, and is acknowledged")
         fault = self.held_answer('"name":"next_')
         self.give("next", 2)
         answer = self.killed_at(fault, "that brings a job")
-        name = json.loads(answer)["results"][0]["name"]
+        name = known(json.loads(answer)["results"][0]["name"])
         wants(self.until_it_has(self.ann, "next") == name, "Ann has the job of the answer that nobody heard")
         seen(f"ann: has {name}, the job of that answer")
 
@@ -258,7 +256,7 @@ class Calls(Run):
             (self.bob, both, "25.000"),
         ):
             statement = self.scheduler.statement(self.hosts[client])
-            valid = sorted(name.rpartition("_")[0] for name, line in statement.items() if line[5] == "1")
+            valid = sorted(workunit_of(name) for name, line in statement.items() if line[5] == "1")
             wants(valid == wanted, f"{client.name}: valid are {valid}")
             wants(self.credit(client) == credit, f"{client.name} has {self.credit(client)}")
             wants(not any(line[3] == "4" for line in statement.values()), f"{client.name}: nothing is out")

@@ -19,7 +19,18 @@ from uploading import odd_messages
 from . import file_project, project
 from .programs import BRIDGE, Bridge, Client, Program, Scheduler
 from .proxy import Fault, Message, Proxy
-from .runs import BRIDGE_PORT, CALLS_PORT, CLIENTS_PORT, SCHEDULER_PORT, URL, Run, seen, wants
+from .runs import (
+    BRIDGE_PORT,
+    CALLS_PORT,
+    CLIENTS_PORT,
+    FILE,
+    SCHEDULER_PORT,
+    URL,
+    Run,
+    known,
+    seen,
+    wants,
+)
 
 DISK = 8_000_000  # bytes of the disk on which the uploads are
 PAUSE = 40  # milliseconds of a hundredth of a job
@@ -74,7 +85,8 @@ SMALL_BUFFER = (
 
 def uploads_of(name: str) -> Callable[[Message], bool]:
     """Returns the test for an upload of a file of a workunit, with its bytes."""
-    return lambda message: message.path.startswith(UPLOAD) and f"<name>{name}_".encode() in message.body
+    begin = f"<name>{known(f'{name}_')}".encode()
+    return lambda message: message.path.startswith(UPLOAD) and begin in message.body
 
 
 def sha256_of(text: str) -> str:
@@ -92,8 +104,8 @@ class Files(Run):
             (folder / "files" / f"{name}.in").write_text(f"{limit}\n")
         (folder / "uploads").mkdir()
         subprocess.run(["mount", "-t", "tmpfs", "-o", f"size={DISK}", "disk", folder / "uploads"], check=True)
-        self.scheduler = Scheduler(program, folder, SCHEDULER_PORT, project.OPERATOR_KEY)
-        self.bridge = Bridge(folder, BRIDGE_PORT)
+        self.scheduler = Scheduler(program, folder, SCHEDULER_PORT, project.OPERATOR_KEY, FILE)
+        self.bridge = Bridge(folder, BRIDGE_PORT, file=FILE)
         self.programs: list[Program] = [self.bridge, self.scheduler]
         self.ann = self.client("ann", project.ACCOUNTS["Ann"])
         self.bob = self.client("bob", project.ACCOUNTS["Bob"])
@@ -202,7 +214,9 @@ class Files(Run):
         )
         wants(self.store("25\n"), "the file is stored")
         report = self.plan(
-            lambda one: b"<name>between_0</name>" in one.body and b"<stderr_out>" in one.body, is_cut=True
+            lambda one: f"<name>{known('between_0')}</name>".encode() in one.body
+            and b"<stderr_out>" in one.body,
+            is_cut=True,
         )
         self.give("between", 1)
         self.until(report.met.is_set, "a report is half way", *self.clients)
@@ -215,7 +229,10 @@ class Files(Run):
 
     def repeated(self) -> None:
         """The reply to a report is lost."""
-        fault = self.plan(lambda one: b"<name>again_0</name>" in one.body and b"<stderr_out>" in one.body)
+        fault = self.plan(
+            lambda one: f"<name>{known('again_0')}</name>".encode() in one.body
+            and b"<stderr_out>" in one.body
+        )
         self.give("again", 1)
         self.until(fault.met.is_set, "the reply to a report is lost", *self.clients)
         count = len(self.reports("again"))
@@ -255,7 +272,7 @@ class Files(Run):
     def forged(self) -> None:
         """Odd and forged messages store nothing."""
         tokens = UploadTokens((self.folder / "uploads" / "secret").read_bytes())
-        names = ("forged_0_0", "forged_0_1")
+        names = (f"{known('forged_0')}_0", f"{known('forged_0')}_1")
         messages = list(odd_messages(names, *(tokens.token(name, 20_000) for name in names)))
         before, path = self.on_disk(), f"{UPLOAD}/{names[0]}/{tokens.url_token(names[0])}"
         for what, message, status in messages:
@@ -270,7 +287,7 @@ class Files(Run):
         before = self.on_disk()
         self.give("full", 1)
         self.until(
-            lambda: any("full_0" in client.tasks() for client in self.clients),
+            lambda: any(known("full_0") in client.tasks() for client in self.clients),
             "a client has it",
             *self.clients,
         )
@@ -389,14 +406,14 @@ class Files(Run):
         """A client whose processors have enough to do asks for its coprocessor alone."""
         line = project.workunit("busy", 1, 3).replace(",sum,", ",several,")
         self.scheduler.asked("/import/workunits/busy", line.replace(",10000000000,", ",4000000000000,"))
-        self.until(lambda: "busy_0" in client.tasks(), "the processors have enough to do", client)
+        self.until(lambda: known("busy_0") in client.tasks(), "the processors have enough to do", client)
         count = len(self.before_bridge.messages)
         self.give("alone", 1, app="card")
         self.until_done("alone", 1)
         asked = [
             one
             for one in self.before_bridge.messages[count:]
-            if b"<name>alone_0</name>" in (one.answer or b"").partition(b"<result>")[2]
+            if f"<name>{known('alone_0')}</name>".encode() in (one.answer or b"").partition(b"<result>")[2]
         ]
         wants(
             asked and b"<cpu_req_secs>0.000000</cpu_req_secs>" in asked[0].body, "it asked for no processor"

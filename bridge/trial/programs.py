@@ -6,6 +6,7 @@ import sys
 import urllib.request
 from pathlib import Path
 
+from bsched_bridge.common.file_names import FIRST, result_in_file
 from served import NotStarted, start, stop
 
 START_SECONDS, ORDER_SECONDS = 120, 120
@@ -66,12 +67,12 @@ class Program:
 
 
 class Scheduler(Program):
-    """A bsched with its tables in a file."""
+    """A bsched with its tables in a file, which has a number in the project."""
 
-    def __init__(self, program: str, folder: Path, port: int, operator_key: str):
+    def __init__(self, program: str, folder: Path, port: int, operator_key: str, file: int = FIRST):
         words = [program, "serve", "--tables", "project.db", "--port", str(port), "--count", "100000"]
         super().__init__("bsched", words, folder, port)
-        self.program, self.operator_key = program, operator_key
+        self.program, self.operator_key, self.file = program, operator_key, file
 
     def order(self, *words: str) -> str:
         """Runs a subcommand, and returns what it prints."""
@@ -97,16 +98,20 @@ class Scheduler(Program):
         return answer.decode()
 
     def statement(self, host: int) -> dict[str, list[str]]:
-        """Returns the lines of a host's statement, by result."""
-        lines = [line.split(",") for line in self.asked(f"/hosts/{host}").splitlines()]
-        return {line[0]: line[1:] for line in lines[1:]}
+        """Returns the lines of a host's statement, by the names by which clients know the results. The last
+        one is that of the total.
+        """
+        *lines, total = [line.split(",") for line in self.asked(f"/hosts/{host}").splitlines()[1:]]
+        found = {result_in_file(line[0], self.file): line[1:] for line in lines}
+        return {**found, total[0]: total[1:]}
 
 
 class Bridge(Program):
     """The bridge."""
 
-    def __init__(self, folder: Path, port: int, code: Path = BRIDGE):
-        words = [sys.executable, "-m", "bsched_bridge", "--config", "bridge.toml"]
+    def __init__(self, folder: Path, port: int, code: Path = BRIDGE, file: int = FIRST):
+        module = ["bsched_bridge"] if file == FIRST else ["trial.later_file", str(file)]
+        words = [sys.executable, "-m", *module, "--config", "bridge.toml"]
         super().__init__(
             "bridge",
             words,
@@ -118,7 +123,7 @@ class Bridge(Program):
     def order(self, *words: str) -> str:
         """Runs a subcommand, and returns what it prints."""
         return subprocess.run(
-            [*self.words[:3], *words],
+            [sys.executable, "-m", "bsched_bridge", *words],
             cwd=self.folder,
             env=self.environment,
             check=True,
@@ -129,14 +134,17 @@ class Bridge(Program):
 
 
 class Client(Program):
-    """BOINC's client of a user."""
+    """BOINC's client of a user. It may be that of another Debian, in a root folder."""
 
-    def __init__(self, name: str, authenticator: str, url: str, folder: Path, port: int):
+    def __init__(
+        self, name: str, authenticator: str, url: str, folder: Path, port: int, root: str | None = None
+    ):
+        self.within = [] if root is None else ["chroot", root]
         self.home = folder / name
         self.home.mkdir()
         (self.home / "cc_config.xml").write_text(CLIENT_CONFIG)
         (self.home / "global_prefs_override.xml").write_text(PREFERENCES)
-        words = ["boinc", "--dir", str(self.home), "--gui_rpc_port", str(port), *CLIENT_OPTIONS]
+        words = [*self.within, "boinc", "--dir", str(self.home), "--gui_rpc_port", str(port), *CLIENT_OPTIONS]
         super().__init__(name, words, folder, port)
         self.authenticator, self.url = authenticator, url
         self.output = ""  # what boinccmd printed about an account
@@ -145,7 +153,7 @@ class Client(Program):
         """Runs boinccmd, and returns what it prints."""
         password = (self.home / "gui_rpc_auth.cfg").read_text().strip()
         completed = subprocess.run(
-            ["boinccmd", "--host", f"127.0.0.1:{self.port}", "--passwd", password, *words],
+            [*self.within, "boinccmd", "--host", f"127.0.0.1:{self.port}", "--passwd", password, *words],
             cwd=self.home,
             capture_output=True,
             text=True,

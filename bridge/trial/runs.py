@@ -9,6 +9,8 @@ import time
 from collections.abc import Callable
 from pathlib import Path
 
+from bsched_bridge.common.file_names import FIRST, plain_result, result_in_file
+
 from . import project
 from .needs import missing
 from .programs import Bridge, Client, Program, Scheduler, TrialFault
@@ -16,10 +18,20 @@ from .proxy import Message, Proxy
 
 CLIENTS_PORT, BRIDGE_PORT, CALLS_PORT, SCHEDULER_PORT, GUI_PORT = 8081, 8082, 8083, 8084, 31501
 URL = f"http://127.0.0.1:{CLIENTS_PORT}/"
-STEP_SECONDS = 60  # how long a client may take for one step
+STEP_SECONDS = 300  # how long a client may take for one step
 MOST_SECONDS, END_SECONDS = 1800, 60  # for the steps of a trial, and for its end
 NEEDED = {"boinc": "boinc-client", "boinccmd": "boinc-client", "unshare": "util-linux", "ip": "iproute2"}
 INSIDE, KEEP = "--inside", "--keep"
+VALUED = "--file=", "--root="
+
+
+def value_of(option: str) -> str | None:
+    """Returns the value of an option such as `--file=`, or None."""
+    return next((word.removeprefix(option) for word in sys.argv[1:] if word.startswith(option)), None)
+
+
+FILE = int(value_of("--file=") or FIRST)  # the number of bsched's file in the project
+ROOT = value_of("--root=")  # the folder of another Debian, whose client is tried
 began = time.monotonic()
 
 
@@ -40,14 +52,26 @@ def is_request_of(client: Client, part: str = "") -> Callable[[Message], bool]:
     return lambda message: key in message.body and text in message.body
 
 
+def known(result: str) -> str:
+    """Returns the name by which clients know a result."""
+    return result_in_file(result, FILE)
+
+
+def workunit_of(result: str) -> str:
+    """Returns bsched's name of the workunit of a result that has a client's name."""
+    return plain_result(result).rpartition("_")[0]
+
+
 class Run:
     """The programs of a trial: bsched, the bridge between two proxies, and clients."""
+
+    proxy_port = CLIENTS_PORT  # of the proxy before the bridge
 
     def __init__(self, program: str, folder: Path):
         self.folder = folder
         project.make(folder, URL, BRIDGE_PORT, CALLS_PORT)
-        self.scheduler = Scheduler(program, folder, SCHEDULER_PORT, project.OPERATOR_KEY)
-        self.bridge = Bridge(folder, BRIDGE_PORT)
+        self.scheduler = Scheduler(program, folder, SCHEDULER_PORT, project.OPERATOR_KEY, FILE)
+        self.bridge = Bridge(folder, BRIDGE_PORT, file=FILE)
         self.programs: list[Program] = [self.bridge, self.scheduler]
 
     def begin(self) -> None:
@@ -70,14 +94,14 @@ class Run:
         signature = self.bridge.order("sign", "files/sum_1", "--key", "code_sign_private")
         (self.folder / "sum_1.signature").write_text(signature)
         self.scheduler.start()
-        self.before_bridge = Proxy(CLIENTS_PORT, BRIDGE_PORT)
+        self.before_bridge = Proxy(self.proxy_port, BRIDGE_PORT)
         self.behind_bridge = Proxy(CALLS_PORT, SCHEDULER_PORT)
         self.bridge.start()
 
     def client(self, name: str, authenticator: str) -> Client:
         """Returns a new client, which ends with the other programs."""
         count = sum(isinstance(program, Client) for program in self.programs)
-        made = Client(name, authenticator, URL, self.folder, GUI_PORT + count)
+        made = Client(name, authenticator, URL, self.folder, GUI_PORT + count, ROOT)
         self.programs.insert(0, made)
         return made
 
@@ -129,6 +153,8 @@ def status_inside(script: str) -> int:
 def enter_network() -> None:
     """Makes the network ready that belongs to this process alone, and limits how long the trial takes."""
     subprocess.run(["ip", "link", "set", "lo", "up"], check=True, timeout=10)
+    for place in ("/tmp", "/proc", "/dev") if ROOT is not None else ():
+        subprocess.run(["mount", "--bind", place, f"{ROOT}{place}"], check=True, timeout=10)
     signal.signal(signal.SIGALRM, too_long)
     signal.alarm(MOST_SECONDS)
 
@@ -158,7 +184,7 @@ def main(
     script: str, usage: str | None, kinds: dict[str, type[Run]], more_needed: dict[str, str] | None = None
 ) -> int:
     """Runs the parts of a trial, or one of them, in a network of its own."""
-    words = [word for word in sys.argv[1:] if word not in (INSIDE, KEEP)]
+    words = [word for word in sys.argv[1:] if word not in (INSIDE, KEEP) and not word.startswith(VALUED)]
     program, chosen = words[:1], words[1:] or list(kinds)
     is_program = bool(program) and os.access(program[0], os.X_OK) and not os.path.isdir(program[0])
     if not is_program or not set(chosen) <= kinds.keys():

@@ -27,7 +27,7 @@ from ..people.barring import Barred, Barring
 from ..people.held_back import HeldBack
 from ..people.hosts import FIRST_KEY, Hosts, Key
 from ..people.measurements import End, Reports
-from ..requests.calls import call_text
+from ..requests.calls import call_text, of_file
 from ..requests.client_requests import ClientRequest, Report
 from ..scheduler.messages import Job, NoAnswer, Refusal, Reply, Scheduler
 from ..uploads.report_checks import ReportChecks
@@ -204,11 +204,26 @@ class Exchange:
         self._locks = KeyLocks(wait_seconds=2 * scheduler.answer_seconds)
         self._cpids = KnownPairs(MOST_CPIDS)
         self._logged = RecentCounts(1, LOG_SECONDS)  # accounts whose hosts were refused lately
+        self._logged_files = RecentCounts(1, LOG_SECONDS)  # those with results of other files
 
     def answer(self, request: ClientRequest) -> Answered | PutOff:
         """Returns the reply to a request, with the jobs that were in hand. If the request is put off, returns
         why and for how long.
+
+        Results of other files of the project are not reported, so the client keeps them. Nor are those that
+        it lists aborted.
         """
+        mine, others = of_file(request, self.scheduler.file)
+        answered = self._answer(mine)
+        if not others:
+            return answered
+        if self._logged_files.take(request.authenticator):
+            key = shown_key(request.authenticator)
+            log.warning("account %s reports %r, which is of another file", key, others[0])
+        return replace(answered, notice=not_taken(others)) if isinstance(answered, Answered) else answered
+
+    def _answer(self, request: ClientRequest) -> Answered | PutOff:
+        """Returns the reply to a request that has no names of other files."""
         known = self.numbers.of_number(request.authenticator, request.hostid)
         reason = self.barring.reason(request.authenticator) if known is None else known.barred
         refused = self._refused(request.authenticator, reason)
@@ -490,7 +505,7 @@ class Exchange:
         state = self.numbers.state(key)
         if state.open_call is None:
             return state
-        answer = self._answer(key, state.open_call)
+        answer = self._answer_to(key, state.open_call)
         if isinstance(answer, Refusal):
             log.warning("a call of %s that was sent again is refused as %s", key.host_cpid, answer.error)
             self.numbers.record_refusal(key)
@@ -498,7 +513,7 @@ class Exchange:
             self.numbers.record_answer(key, answer, jobs_with(answer, state.jobs_in_hand), state)
         return self.numbers.state(key)
 
-    def _answer(self, key: Key, call: bytes) -> Reply | Refusal:
+    def _answer_to(self, key: Key, call: bytes) -> Reply | Refusal:
         """Returns the answer to a call, with the credit of the archives added."""
         answer = self.scheduler.call(call)
         return self.archives.added_to(key, answer) if isinstance(answer, Reply) else answer
@@ -559,7 +574,7 @@ class Exchange:
         names, seconds = [job.name for job in in_hand], sum(job.estimate for job in in_hand)
 
         def text(number: int) -> bytes:
-            return call_text(request, key.host_cpid, number, names, seconds)
+            return call_text(request, key.host_cpid, number, names, seconds, self.scheduler.file)
 
         last = 0
         refusal = Refusal("stale")
@@ -569,7 +584,7 @@ class Exchange:
                 return call
             seqno = None if is_sure else client.seqno
             is_sure = True  # nobody else changes the state from now on
-            answer = self._answer(key, call)
+            answer = self._answer_to(key, call)
             if isinstance(answer, Reply):
                 jobs = [] if request.other_results is None else answer.results
                 self.numbers.record_answer(key, answer, jobs, state, request.about, seqno)

@@ -13,6 +13,7 @@ from bsched_files.texts import credit_number
 
 from ..catalogue.contents import App, Catalogue, DownloadFile, MissingFile, Version, Work
 from ..catalogue.output_files import upload_name
+from ..common.file_names import plain_workunit
 from ..common.languages import ENGLISH, LANGUAGES, Language, Text, gettext_lazy, gettext_noop
 from ..people.recent_credit import Recent
 from ..requests.client_requests import ClientRequest
@@ -247,7 +248,7 @@ class ReplyWriter:
         app, version = self.catalogue.apps.get(job.app_name), self.catalogue.versions.get(key)
         if app is None or version is None:
             raise MissingFile(f"version {job.version_num} of {job.app_name} for {job.platform}")
-        work = self.catalogue.work(app, job.wu_name)
+        work = self.catalogue.work(app, plain_workunit(job.wu_name))
         inputs = [self.catalogue.folder.stored(file.name) for file in work.input_files]
         apps[app.name], versions[key] = app, version
         for item in version.files:

@@ -1,6 +1,8 @@
 """The JSON text of a call (docs/PROFILE.md, "The request")."""
 import json
+from dataclasses import replace
 
+from ..common.file_names import FIRST, is_result_of, plain_result
 from .client_requests import ClientRequest, Report
 
 MOST_BYTES = 262_144
@@ -34,16 +36,46 @@ def reports_that_fit(request: ClientRequest, room: int, by_name: bool) -> int:
     return min(len(request.results), MOST_REPORTS)
 
 
+def of_file(request: ClientRequest, file: int) -> tuple[ClientRequest, list[str]]:
+    """Returns the part of a request that is for a file, and the names of the other results that it reports.
+    A file must not see these: it would acknowledge them, and could not record them.
+    """
+    others = [report.name for report in request.results if not is_result_of(report.name, file)]
+    listed = request.other_results or ()
+    if not others and all(is_result_of(name, file) for name in listed):
+        return request, []
+    results = tuple(report for report in request.results if is_result_of(report.name, file))
+    other = None
+    if request.other_results is not None:
+        other = tuple(name for name in listed if is_result_of(name, file))
+    return replace(request, results=results, other_results=other), others
+
+
+def with_plain_names(request: ClientRequest) -> ClientRequest:
+    """Returns a request with bsched's names of the results, in place of those that clients know."""
+    results = tuple(replace(report, name=plain_result(report.name)) for report in request.results)
+    other = None if request.other_results is None else tuple(map(plain_result, request.other_results))
+    return replace(request, results=results, other_results=other)
+
+
 def call_text(
-    request: ClientRequest, host_cpid: str, number: int, in_hand: list[str], seconds_in_hand: int
+    request: ClientRequest,
+    host_cpid: str,
+    number: int,
+    in_hand: list[str],
+    seconds_in_hand: int,
+    file: int = FIRST,
 ) -> bytes:
-    """Returns the text of a call for a request, under the bridge's own number.
+    """Returns the text of a call to a file for a request, under the bridge's own number. All names must be
+    those of the file.
 
     The names in hand are those of jobs that the bridge has for the client. They are listed as if the client
     had them, and their seconds count as received. What the profile has no room for is put off. Reports that
     don't fit are listed by their names, so that they don't count as lost. If there are too many names, or
     they leave no room for a single report, all names are left out.
     """
+    if file != FIRST:
+        request, in_hand = with_plain_names(request), list(map(plain_result, in_hand))
     record: dict[str, object] = {
         "authenticator": request.authenticator,
         "hostid": 0,

@@ -5,13 +5,14 @@ import json
 import logging
 import threading
 import time
-from dataclasses import dataclass, field, fields
+from dataclasses import dataclass, field, fields, replace
 from operator import itemgetter
 from typing import Any, NoReturn
 
 from bsched_files.counts import NO_HOST
 from bsched_files.project_settings import Address
 
+from ..common.file_names import FIRST, result_in_file, workunit_in_file
 from .connection import FaultyAnswer, exchanged, message_of
 
 ATTEMPTS = 3
@@ -91,6 +92,33 @@ def read_reply(response: dict[str, Any]) -> Reply:
     return Reply(*members_of_reply({**response, "results": jobs}))
 
 
+def reply_in_file(reply: Reply, file: int) -> Reply:
+    """Returns a reply of a file with the names by which clients know its workunits and results."""
+    if file == FIRST:
+        return reply
+    jobs = [
+        replace(job, name=result_in_file(job.name, file), wu_name=workunit_in_file(job.wu_name, file))
+        for job in reply.results
+    ]
+    acknowledged = [result_in_file(name, file) for name in reply.result_ack]
+    aborted = [result_in_file(name, file) for name in reply.result_abort]
+    return replace(reply, result_ack=acknowledged, result_abort=aborted, results=jobs)
+
+
+def statement_in_file(statement: str, file: int) -> str:
+    """Returns a statement of a file with the names by which clients know its results. Its first line is the
+    header, and the line of the total has no name.
+    """
+    if file == FIRST:
+        return statement
+    head, *lines = statement.split("\n")
+    for place, line in enumerate(lines):
+        name, comma, rest = line.partition(",")
+        if "_" in name:
+            lines[place] = f"{result_in_file(name, file)}{comma}{rest}"
+    return "\n".join([head, *lines])
+
+
 def read_refusal(status: int, body: object) -> Refusal:
     """Returns the refusal in a JSON object. Raises NoAnswer if it is none, or says that bsched was
     unavailable.
@@ -118,10 +146,15 @@ class Scheduler:
     With the operator's key it first asks whether what has the port knows that key. Otherwise it may be the
     scheduler of another project, whose jobs would go to this one's computers. It asks again after each
     message without an answer, since another program may have the port then.
+
+    bsched serves a file of the project. Replies and statements have the names by which clients know its
+    workunits and results, which say the number of the file.
     """
 
-    def __init__(self, address: Address, answer_seconds: int, operator_key: str | None = None) -> None:
-        self.address, self.answer_seconds = address, answer_seconds
+    def __init__(
+        self, address: Address, answer_seconds: int, operator_key: str | None = None, file: int = FIRST
+    ) -> None:
+        self.address, self.answer_seconds, self.file = address, answer_seconds, file
         self.silent_since: float | None = None  # since when bsched gives no answer; None after an answer
         self._key_to_check, self._is_checked = operator_key, operator_key is None
         self._lock = threading.Lock()
@@ -247,7 +280,7 @@ class Scheduler:
         try:
             response = _read(answer.decode())
             if status == 200:
-                return read_reply(response)
+                return reply_in_file(read_reply(response), self.file)
         except (ValueError, KeyError, TypeError, AttributeError):
             raise NoAnswer(f"status {status} with a body that is no answer of bsched") from None
         return read_refusal(status, response)
@@ -286,7 +319,7 @@ class Scheduler:
     def statement(self, hostid: int, operator_key: str) -> str | None:
         """Returns the statement of a host, or None if bsched refuses it."""
         status, answer = self.message("GET", f"/hosts/{hostid}", None, {"x-operator-key": operator_key})
-        return answer.decode(errors="replace") if status == 200 else None
+        return statement_in_file(answer.decode(errors="replace"), self.file) if status == 200 else None
 
     # The next two functions send a call that changes nothing. If the host's number is not the one in the
     # call, bsched refuses the call as bad_host. It does so only after it has found the account. No host ever
