@@ -1,10 +1,11 @@
 """The command line of `./run`."""
 import argparse
+import os
 import shlex
 import shutil
 import signal
 import sys
-from contextlib import ExitStack
+from contextlib import ExitStack, suppress
 from pathlib import Path
 from types import FrameType
 from typing import NoReturn
@@ -14,6 +15,7 @@ from bsched_files.faults import Fault
 
 from . import needs
 from .program import TOP, chosen
+from .questions import is_confirmed
 
 TRIAL = TOP / "trial"
 SIGNALS = (signal.SIGINT, signal.SIGTERM, signal.SIGHUP)
@@ -55,11 +57,6 @@ def parsed(words: list[str]) -> argparse.Namespace:
         "--yes", action="store_true", help="asks nothing: installs packages, and removes the project"
     )
     return parser.parse_args(words)
-
-
-def is_confirmed(question: str) -> bool:
-    """Asks on a terminal. Without one nobody confirms."""
-    return sys.stdin.isatty() and input(f"{question} [y/N] ").strip().lower() in ("y", "yes")
 
 
 def remove(path: Path, is_agreed: bool) -> None:
@@ -112,8 +109,12 @@ def main() -> int:
     try:
         run(args)
     except Ended:
-        print("ended in order")
+        with suppress(OSError):  # the terminal may be gone
+            print("ended in order", flush=True)
         return 0
+    except BrokenPipeError:  # who read the output has enough
+        os.dup2(os.open(os.devnull, os.O_WRONLY), 1)
+        return 128 + signal.SIGPIPE
     except Fault as fault:
         print(f"run: {fault}", file=sys.stderr)
         return 1

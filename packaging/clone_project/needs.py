@@ -3,10 +3,11 @@ import os
 import shlex
 import shutil
 import subprocess
-import sys
 
 from bsched_files.faults import Fault
 from trial.needs import MODULES, missing
+
+from .questions import is_confirmed
 
 PACKAGES_OF_MODULES = {**MODULES, "prometheus_client": "python3-prometheus-client"}
 COMMANDS = {"setsid": "util-linux", "setpriv": "util-linux", "git": "git"}
@@ -35,14 +36,6 @@ def advice(packages: list[str]) -> str:
 def can_install() -> bool:
     """Returns whether this process may install packages of Debian."""
     return os.geteuid() == 0 and shutil.which("apt-get") is not None
-
-
-def is_wanted(packages: list[str]) -> bool:
-    """Asks on a terminal whether packages may be installed."""
-    if not sys.stdin.isatty():
-        return False
-    answer = input(f"Install {' '.join(packages)}? [y/N] ")
-    return answer.strip().lower() in ("y", "yes")
 
 
 def mask_client() -> None:
@@ -85,7 +78,7 @@ def provide(has_client: bool, is_agreed: bool) -> None:
     packages = missing_packages(has_client)
     if not packages:
         return
-    if not can_install() or not (is_agreed or is_wanted(packages)):
+    if not can_install() or not (is_agreed or is_confirmed(f"Install {' '.join(packages)}?")):
         more = "; or run it again with --yes" if can_install() else ""
         raise Fault(advice(packages) + more)
     install(packages)

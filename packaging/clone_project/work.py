@@ -22,9 +22,10 @@ def write_inputs(folder: Path) -> None:
 
 
 def ordered(tools: Path, *words: str | Path) -> None:
-    """Runs a command of the operator's tools."""
+    """Runs a command of the operator's tools. If this process is killed, so is the command."""
+    guarded: list[str | Path] = ["setpriv", "--pdeathsig", "KILL", "--", tools, *words]
     try:
-        done = subprocess.run([tools, *words], capture_output=True, text=True, timeout=STEP_SECONDS)
+        done = subprocess.run(guarded, capture_output=True, text=True, timeout=STEP_SECONDS)
     except subprocess.TimeoutExpired:
         raise Fault(f"{tools.name} {words[0]} has run for {STEP_SECONDS} seconds, and was stopped") from None
     if done.returncode:

@@ -64,7 +64,7 @@ def test_what_is_missing_is_named_with_the_command(monkeypatch: pytest.MonkeyPat
 def test_nothing_is_installed_without_a_yes(monkeypatch: pytest.MonkeyPatch) -> None:
     monkeypatch.setattr(needs, "missing_packages", lambda _: ["python3-jinja2"])
     monkeypatch.setattr(needs, "can_install", lambda: True)
-    monkeypatch.setattr(needs, "is_wanted", lambda _: False)
+    monkeypatch.setattr(needs, "is_confirmed", lambda _: False)
     with pytest.raises(Fault, match="or run it again with --yes"):
         needs.provide(False, False)
 
