@@ -15,7 +15,7 @@ from bsched_files.faults import Fault
 
 from . import needs
 from .program import TOP, chosen
-from .questions import is_confirmed
+from .terminal import is_confirmed
 
 TRIAL = TOP / "trial"
 SIGNALS = (signal.SIGINT, signal.SIGTERM, signal.SIGHUP)

@@ -47,7 +47,7 @@ set -eu
 folder=$(cd "$(dirname "$0")" && pwd)/
 command=${{1:---help}}
 [ "$#" -eq 0 ] || shift
-case $command in -*) set -- "$command" "$@" ;; *) set -- "$command" --project "$folder" "$@" ;; esac
+case $command in -* | check) set -- "$command" "$@" ;; *) set -- "$command" --project "$folder" "$@" ;; esac
 PYTHONPATH='{path}' PYTHONDONTWRITEBYTECODE=1 exec {python} -P -m bsched_tools "$@"
 """
 

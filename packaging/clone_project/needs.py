@@ -7,7 +7,7 @@ import subprocess
 from bsched_files.faults import Fault
 from trial.needs import MODULES, missing
 
-from .questions import is_confirmed
+from .terminal import is_confirmed, say
 
 PACKAGES_OF_MODULES = {**MODULES, "prometheus_client": "python3-prometheus-client"}
 COMMANDS = {"setsid": "util-linux", "setpriv": "util-linux", "git": "git"}
@@ -24,12 +24,17 @@ def missing_packages(has_client: bool) -> list[str]:
     return missing({**COMMANDS, **(CLIENT_COMMANDS if has_client else {})}, PACKAGES_OF_MODULES)
 
 
-def advice(packages: list[str]) -> str:
-    """Returns what to do if packages are missing, with the command that installs them."""
-    lines = [f"{len(packages)} packages of Debian are missing. As root, this installs them:"]
-    lines += [f"  {ADVICE} {shlex.join(packages)}"]
+def advice(packages: list[str], is_root: bool) -> str:
+    """Returns what to do if packages are missing. Root on Debian may have `./run` install them."""
+    what = "package of Debian is" if len(packages) == 1 else "packages of Debian are"
+    lines = [f"{len(packages)} {what} missing. As root, this installs what is needed:"]
+    lines.append(f"  {ADVICE} {shlex.join(packages)}")
+    if is_root:
+        lines.append("Or run this again with --yes.")
     if CLIENT in packages:
-        lines += [f"Its service is not needed: `systemctl mask {CLIENT}` before that keeps it from starting."]
+        lines.append(
+            f"The service {CLIENT} is not needed: `systemctl mask {CLIENT}` before keeps it from starting."
+        )
     return "\n".join(lines)
 
 
@@ -45,7 +50,7 @@ def mask_client() -> None:
         return
     done = subprocess.run(["systemctl", "mask", CLIENT], capture_output=True, timeout=60)
     if done.returncode == 0:
-        print(f"masked the service {CLIENT}: `systemctl unmask {CLIENT}` lets it start again", flush=True)
+        say(f"the service {CLIENT} is masked: `systemctl unmask {CLIENT}` lets it start again")
 
 
 def install(packages: list[str]) -> None:
@@ -54,7 +59,7 @@ def install(packages: list[str]) -> None:
         mask_client()
     environment = {**os.environ, "DEBIAN_FRONTEND": "noninteractive"}
     for words in (UPDATE, [*INSTALL, *packages]):
-        print(f"$ {shlex.join(words)}", flush=True)
+        say(shlex.join(words))
         try:
             done = subprocess.run(
                 words,
@@ -79,8 +84,7 @@ def provide(has_client: bool, is_agreed: bool) -> None:
     if not packages:
         return
     if not can_install() or not (is_agreed or is_confirmed(f"Install {' '.join(packages)}?")):
-        more = "; or run it again with --yes" if can_install() else ""
-        raise Fault(advice(packages) + more)
+        raise Fault(advice(packages, can_install()))
     install(packages)
     if packages := missing_packages(has_client):
         raise Fault(f"these packages are installed, and still can't be used: {' '.join(packages)}")

@@ -14,17 +14,12 @@ from .client import OwnClient, command_to_join
 from .folder import Folder
 from .processes import Keeper
 from .program import SchedulerProgram
+from .terminal import say
 from .work import BATCH, add_work
 
 CONNECTIONS = "1000000"  # the most that the scheduler serves before it ends; then it is started again
 TICK_SECONDS = 30
 LOOK_SECONDS, CREDIT_SECONDS, SLOW_CREDIT_SECONDS = 0.5, 1.0, 10.0
-began = time.monotonic()
-
-
-def say(text: str) -> None:
-    """Prints what happened, and after how many seconds."""
-    print(f"{time.monotonic() - began:6.1f} s  {text}", flush=True)
 
 
 def near(path: Path) -> str:

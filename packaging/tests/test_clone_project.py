@@ -65,7 +65,7 @@ def test_nothing_is_installed_without_a_yes(monkeypatch: pytest.MonkeyPatch) -> 
     monkeypatch.setattr(needs, "missing_packages", lambda _: ["python3-jinja2"])
     monkeypatch.setattr(needs, "can_install", lambda: True)
     monkeypatch.setattr(needs, "is_confirmed", lambda _: False)
-    with pytest.raises(Fault, match="or run it again with --yes"):
+    with pytest.raises(Fault, match="(?s)1 package of Debian is missing.*Or run this again with --yes"):
         needs.provide(False, False)
 
 

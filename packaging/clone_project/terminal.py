@@ -1,5 +1,13 @@
-"""Questions to the person at the terminal."""
+"""What is said and asked on the terminal."""
 import sys
+import time
+
+began = time.monotonic()
+
+
+def say(text: str) -> None:
+    """Prints what happened, and how many seconds after the start."""
+    print(f"{time.monotonic() - began:6.1f} s  {text}", flush=True)
 
 
 def is_confirmed(question: str) -> bool:
