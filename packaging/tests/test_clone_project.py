@@ -19,10 +19,12 @@ from bsched_files.project_settings import read_settings
 from clone_project import folder as folders
 from clone_project import needs, program, proof
 from clone_project.application.longest_chain import longest, steps_of
+from clone_project.client import OwnClient
 from clone_project.folder import Folder
 from clone_project.processes import Keeper, wait_until_free
 from clone_project.program import NOTHING_PROVED, TWIN, SchedulerProgram, chosen
 from clone_project.proof import Crates
+from clone_project.session import Credit
 from clone_project.work import JOBS, LAST_NUMBER
 from hypothesis import given
 from hypothesis import strategies as st
@@ -261,6 +263,35 @@ def test_what_ends_again_and_again_is_given_up(tmp_path: Path) -> None:
                 keeper.look()
     finally:
         keeper.end()
+
+
+# ---- The client
+
+
+def test_a_client_that_attached_before_joins_no_second_time(
+    tmp_path: Path, monkeypatch: pytest.MonkeyPatch
+) -> None:
+    attached = list[OwnClient]()
+    monkeypatch.setattr(OwnClient, "attach", lambda client: attached.append(client))
+    assert OwnClient(tmp_path, "http://127.0.0.1:9/", "key", 9).join()
+    (tmp_path / "client" / "account_127.0.0.1_9.xml").touch()
+    client = OwnClient(tmp_path, "http://127.0.0.1:9/", "key", 9)
+    assert not client.join() and len(attached) == 1
+    assert client.seen_credit() is None  # nobody answers
+
+
+def test_the_first_credit_has_a_line_and_each_change_has_one(
+    tmp_path: Path, monkeypatch: pytest.MonkeyPatch, capsys: pytest.CaptureFixture[str]
+) -> None:
+    credits = [None, 0.0, 0.1, 0.1, 0.25]
+    monkeypatch.setattr(OwnClient, "seen_credit", lambda _: credits.pop(0))
+    credit = Credit(OwnClient(tmp_path, "http://127.0.0.1:9/", "key", 9), True)
+    while credits:
+        credit.next = 0.0
+        credit.look()
+    lines = [line.split("s  ", 1)[1] for line in capsys.readouterr().out.splitlines()]
+    assert len(lines) == 2 and lines[0].startswith("the first credit of the client, ")
+    assert lines[0].endswith(": 0.1") and lines[1] == "the credit of the client: 0.25"
 
 
 # ---- The whole
