@@ -1,7 +1,7 @@
 """What `./run` of a clone does: it makes a trial project in the folder `trial`, and runs it until Ctrl-C.
 
 needs      what it needs from Debian, and how that is installed
-terminal   what is said and asked on the terminal
+terminal   what is said and asked on the terminal, and the signals that come from it
 program    the scheduler: a built program, or the plain twin in Python
 proof      proving and building the program, with a line for each crate
 folder     the files of the project

@@ -15,10 +15,9 @@ from bsched_files.faults import Fault
 
 from . import needs
 from .program import TOP, chosen
-from .terminal import is_confirmed
+from .terminal import SIGNALS, is_confirmed
 
 TRIAL = TOP / "trial"
-SIGNALS = (signal.SIGINT, signal.SIGTERM, signal.SIGHUP)
 USAGE = """\
 Makes a trial project in the folder trial, and runs it until Ctrl-C: the scheduler, and the bridge for BOINC's
 clients, on this computer alone. The next ./run continues with the same project.

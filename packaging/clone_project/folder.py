@@ -234,5 +234,4 @@ def make(folder: Folder, program: SchedulerProgram) -> None:
         write_files(new, folder.path.name, program)
     except (TrialFault, subprocess.SubprocessError) as fault:
         raise Fault(f"the project can't be made: {fault}") from None
-    os.sync()
     new.rename(folder.path)

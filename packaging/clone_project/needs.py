@@ -7,7 +7,7 @@ import subprocess
 from bsched_files.faults import Fault
 from trial.needs import MODULES, missing
 
-from .terminal import is_confirmed, say
+from .terminal import is_confirmed, say, undisturbed
 
 PACKAGES_OF_MODULES = {**MODULES, "prometheus_client": "python3-prometheus-client"}
 COMMANDS = {"setsid": "util-linux", "setpriv": "util-linux", "git": "git"}
@@ -54,27 +54,30 @@ def mask_client() -> None:
 
 
 def install(packages: list[str]) -> None:
-    """Installs packages of Debian."""
+    """Installs packages of Debian. A signal waits for apt-get, which would leave them half installed."""
     if CLIENT in packages:
         mask_client()
     environment = {**os.environ, "DEBIAN_FRONTEND": "noninteractive"}
     for words in (UPDATE, [*INSTALL, *packages]):
         say(shlex.join(words))
         try:
-            done = subprocess.run(
-                words,
-                env=environment,
-                stdin=subprocess.DEVNULL,
-                stdout=subprocess.PIPE,
-                stderr=subprocess.STDOUT,
-                text=True,
-                errors="replace",
-                timeout=INSTALL_SECONDS,
-            )
+            with undisturbed():
+                done = subprocess.run(
+                    words,
+                    env=environment,
+                    stdin=subprocess.DEVNULL,
+                    stdout=subprocess.PIPE,
+                    stderr=subprocess.STDOUT,
+                    text=True,
+                    errors="replace",
+                    timeout=INSTALL_SECONDS,
+                    start_new_session=True,
+                )
         except subprocess.TimeoutExpired:
             raise Fault(f"{words[0]} has run for {INSTALL_SECONDS} seconds, and was stopped") from None
         if done.returncode:
-            raise Fault(f"{words[0]} can't install them: {done.stdout.strip().splitlines()[-1:]}")
+            said = done.stdout.strip().splitlines() or ["it says nothing"]
+            raise Fault(f"{words[0]} can't install them: {said[-1]}")
 
 
 def provide(has_client: bool, is_agreed: bool) -> None:

@@ -25,6 +25,7 @@ from clone_project.processes import Keeper, wait_until_free
 from clone_project.program import NOTHING_PROVED, TWIN, SchedulerProgram, chosen
 from clone_project.proof import Crates
 from clone_project.session import Credit
+from clone_project.terminal import undisturbed
 from clone_project.work import JOBS, LAST_NUMBER
 from hypothesis import given
 from hypothesis import strategies as st
@@ -79,6 +80,26 @@ def test_what_was_agreed_on_is_installed(monkeypatch: pytest.MonkeyPatch) -> Non
     monkeypatch.setattr(needs, "install", installed.append)
     needs.provide(False, True)
     assert installed == [["python3-jinja2"]] and not lacks
+
+
+def test_a_signal_waits_for_a_step() -> None:
+    """It counts once the step is over, and then the former handler has it."""
+    came = list[str]()
+    former = signal.signal(signal.SIGTERM, lambda *_: came.append("signal"))
+    try:
+        with undisturbed():
+            os.kill(os.getpid(), signal.SIGTERM)
+            came.append("step")
+        assert came == ["step", "signal"]
+    finally:
+        signal.signal(signal.SIGTERM, former)
+
+
+def test_what_apt_get_says_last_is_said(tmp_path: Path, monkeypatch: pytest.MonkeyPatch) -> None:
+    failing = executable(tmp_path / "apt-get", "#!/bin/sh\necho first\necho E: no such package\nexit 100\n")
+    monkeypatch.setattr(needs, "UPDATE", [str(failing)])
+    with pytest.raises(Fault, match="can't install them: E: no such package$"):
+        needs.install(["python3-jinja2"])
 
 
 # ---- The scheduler
