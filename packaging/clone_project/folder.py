@@ -74,6 +74,11 @@ class Folder:
         return self.path / "inputs"
 
     @property
+    def counts(self) -> Path:
+        """The file of the counts that the project's page shows."""
+        return self.path / "units" / "counts.json"
+
+    @property
     def has_work(self) -> Path:
         """A file that says that the application and its jobs are in the project."""
         return self.path / "has_work"
@@ -215,6 +220,7 @@ def write_files(folder: Path, name: str, program: SchedulerProgram) -> None:
     write_units(folder, name)
     write_bridge(folder, name, ports, operator_key, program.is_twin)
     (folder / "submitted").mkdir()
+    (folder / "units").mkdir(mode=0o700)
     (folder / "accounts.csv").write_text(f"authenticator,name\n{user_key},{USER}\n")
     write_inputs(folder / "inputs")
     scheduler = Scheduler(str(program.path), folder, ports[SCHEDULER], operator_key)

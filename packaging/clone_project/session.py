@@ -6,6 +6,7 @@ from contextlib import ExitStack
 from pathlib import Path
 from typing import NoReturn
 
+from bsched_files.faults import Fault
 from bsched_files.ports import BRIDGE, SCHEDULER
 from trial.programs import Bridge, Scheduler
 
@@ -15,10 +16,10 @@ from .folder import Folder
 from .processes import Keeper
 from .program import SchedulerProgram
 from .terminal import say
-from .work import BATCH, add_work
+from .work import BATCH, add_work, count_work
 
 CONNECTIONS = "1000000"  # the most that the scheduler serves before it ends; then it is started again
-TICK_SECONDS = 30
+TICK_SECONDS, COUNT_SECONDS = 30.0, 60.0
 LOOK_SECONDS, CREDIT_SECONDS, SLOW_CREDIT_SECONDS = 0.5, 1.0, 10.0
 
 
@@ -38,6 +39,21 @@ def locked(stack: ExitStack, path: Path) -> bool:
     except BlockingIOError:
         return False
     return True
+
+
+class Every:
+    """Something that is done from time to time, for the first time at once."""
+
+    def __init__(self, seconds: float) -> None:
+        self.seconds, self.next = seconds, 0.0
+
+    def is_due(self) -> bool:
+        """Returns whether it is time for it. If so, the next time is that many seconds later."""
+        now = time.monotonic()
+        if now < self.next:
+            return False
+        self.next = now + self.seconds
+        return True
 
 
 class Credit:
@@ -106,15 +122,25 @@ class Session:
         except (OSError, urllib.error.URLError) as error:
             say(f"the scheduler did not answer a tick: {error}")
 
+    def count(self) -> None:
+        """Has the project's page say how far the work is. Who only runs a client does not."""
+        if self.scheduler is None:
+            return
+        try:
+            count_work(self.folder.tools, self.folder.counts)
+        except Fault as fault:
+            say(f"the work was not counted: {fault}")
+
     def stay(self) -> NoReturn:
         """Keeps everything running, until a signal ends it."""
-        next_tick = 0.0
+        ticks, counts = Every(TICK_SECONDS), Every(COUNT_SECONDS)
         while True:
             for name in self.keeper.look():
                 say(f"the {name} had ended, and was started again")
-            if time.monotonic() >= next_tick:
+            if ticks.is_due():
                 self.tick()
-                next_tick = time.monotonic() + TICK_SECONDS
+            if counts.is_due():
+                self.count()
             if self.credit is not None:
                 self.credit.look()
             time.sleep(LOOK_SECONDS)

@@ -10,6 +10,7 @@ JOBS, LAST_NUMBER = 20, 1_000_000
 JOB_SECONDS = 10  # of a slow processor
 HOURS = "0.003"
 STEP_SECONDS = 300
+COPIES = "3"  # that are kept
 
 
 def write_inputs(folder: Path) -> None:
@@ -30,6 +31,12 @@ def ordered(tools: Path, *words: str | Path) -> None:
         raise Fault(f"{tools.name} {words[0]} has run for {STEP_SECONDS} seconds, and was stopped") from None
     if done.returncode:
         raise Fault(f"{tools} {words[0]}: {(done.stderr or done.stdout).strip()}")
+
+
+def count_work(tools: Path, counts: Path) -> None:
+    """Counts the work in a copy of the tables, for the project's page."""
+    ordered(tools, "copy", "--keep", COPIES)
+    ordered(tools, "counts", "--json", "--to", counts)
 
 
 def add_work(tools: Path, key: Path, inputs: Path) -> None:

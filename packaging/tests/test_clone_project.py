@@ -391,6 +391,10 @@ def test_a_project_runs_is_killed_and_continues(tmp_path: Path, runs: list[Run])
     progress: list[str | Path] = [tmp_path / "twin" / "tools", "progress", "--batch", "first"]
     done = subprocess.run(progress, capture_output=True, text=True, timeout=SECONDS, check=True)
     assert f"waiting  {JOBS}" in done.stdout
+    until = time.monotonic() + SECONDS
+    while f"of {JOBS} workunits are done" not in page(url):
+        assert time.monotonic() < until
+        time.sleep(0.2)
     assert first.end(signal.SIGKILL) == -signal.SIGKILL
 
     second = Run(tmp_path)
