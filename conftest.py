@@ -5,14 +5,13 @@ import os
 import signal
 from pathlib import Path
 
-import hypothesis.configuration
 import pytest
 import served
 from hypothesis import HealthCheck, settings
 
 TOP = Path(__file__).resolve().parent
 
-hypothesis.configuration.set_hypothesis_home_dir(TOP / ".pytest_cache" / "hypothesis")
+os.environ["HYPOTHESIS_STORAGE_DIRECTORY"] = str(TOP / ".pytest_cache" / "hypothesis")
 # A busy machine may take any time for an example, and how large examples are is chance.
 HEALTH = (HealthCheck.too_slow, HealthCheck.data_too_large)
 settings.register_profile("without deadlines", deadline=None, suppress_health_check=HEALTH)
