@@ -141,7 +141,7 @@ class Client(Program):
     ):
         self.within = [] if root is None else ["chroot", root]
         self.home = folder / name
-        self.home.mkdir()
+        self.home.mkdir(mode=0o700, exist_ok=True)
         (self.home / "cc_config.xml").write_text(CLIENT_CONFIG)
         (self.home / "global_prefs_override.xml").write_text(PREFERENCES)
         words = [*self.within, "boinc", "--dir", str(self.home), "--gui_rpc_port", str(port), *CLIENT_OPTIONS]

@@ -2,7 +2,7 @@
 import subprocess
 from pathlib import Path
 
-from trial.programs import CLIENT_CONFIG, CLIENT_OPTIONS, PREFERENCES, Client, Program
+from trial.programs import Client
 
 NAME = "client"
 
@@ -11,13 +11,7 @@ class OwnClient(Client):
     """BOINC's client in a folder that stays from run to run."""
 
     def __init__(self, folder: Path, url: str, key: str, port: int) -> None:
-        self.home = folder / NAME
-        self.home.mkdir(mode=0o700, exist_ok=True)
-        (self.home / "cc_config.xml").write_text(CLIENT_CONFIG)
-        (self.home / "global_prefs_override.xml").write_text(PREFERENCES)
-        words = ["boinc", "--dir", str(self.home), "--gui_rpc_port", str(port), *CLIENT_OPTIONS]
-        Program.__init__(self, NAME, words, folder, port)
-        self.authenticator, self.url, self.output = key, url, ""
+        super().__init__(NAME, key, url, folder, port)
 
     @property
     def is_attached(self) -> bool:
