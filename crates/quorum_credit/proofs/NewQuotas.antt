@@ -1,9 +1,10 @@
 -- The hosts of tallies with their new quotas, put as changes.
-use Rattle.std.proofs.Common.{◌≡◌, ℕ, suc, ◌-◌, ◌*◌, ◌^◌, ◌≤◌, Bool, true, false, cond, eqb, List, [], ◌∷◌, length, Option, Some, None, sym, refl, ap, ◌∙◌, subst, arith}
+use Rattle.std.proofs.Common.{◌≡◌, ℕ, zero, suc, ◌-◌, ◌*◌, ◌^◌, ◌<◌, ◌≤◌, Bool, true, false, cond, eqb, ltb, List, [], ◌∷◌, length, Option, Some, None, sym, refl, ap, ◌∙◌, subst, arith}
 use Rattle.std.proofs.lemmas.Bool.{eqb-true}
-use Rattle.std.proofs.lemmas.Nat.{pow_pos}
-use Rattle.std.proofs.Math.Nat.{one-le-mul}
-use Rattle.std.specs.Prelude.{◌||◌, All, max, map, option_map}
+use Rattle.std.proofs.lemmas.Nat.{pow_pos, mul-le}
+use borrow.Author.Tests.{ltb-true, ltb-false}
+use Rattle.std.proofs.Math.Nat.{one-le-mul, pow-succ'}
+use Rattle.std.specs.Prelude.{◌||◌, All, max, min, map, option_map}
 use Rattle.std.specs.List.{enumerate_from, cons_option}
 use Rattle.sched_book.specs.Places.{host_at}
 use Rattle.sched_book.specs.Settle.{next_quota}
@@ -14,7 +15,7 @@ use Rattle.sched_book.specs.declared.rows.HostRow.{HostRow}
 use Rattle.sched_book.specs.declared.world.World.{World}
 use Rattle.quorum_credit.specs.Scores.{charges_in, merits_in}
 use Rattle.quorum_credit.specs.Settling.{AreHostsInLimits, quota_by, with_quotas_by, AreQuotasBy}
-use Rattle.quorum_credit.specs.Tallies.{with_quota_by, new_quotas, is_tallied, AreSums}
+use Rattle.quorum_credit.specs.Tallies.{with_quota_by, new_quotas, is_tallied, most_counted, AreSums}
 use Rattle.quorum_credit.specs.declared.host_quotas.Tally.{Tally}
 use Rattle.quorum_credit.specs.declared.scores.Score.{Score}
 use Rattle.quorum_credit.proofs.Numbered.{same_rows, same_row, number_within, length-numbered, put_row}
@@ -38,12 +39,40 @@ put_one w limit s f h stands = ap (λ hosts. record w { hosts = hosts }) (put_ro
 abbrev quota_of : HostRow → ℕ → HostRow
 quota_of h quota = record h { quota = quota }
 
-module _ (scores : List Score) (w : World) where
+-- a number is below the power of two to it
+below_power : (n : ℕ) → n < 2 ^ n
+below_power zero = omega arith
+below_power (suc n) = let less = below_power n in let twice = pow-succ' 2 n in omega arith
+
+-- so many merits lead to the limit, as more do
+many_merits : (low v most limit : ℕ) → 1 ≤ low → limit ≤ most → most ≤ v → min limit (low * 2 ^ v) ≡ limit
+many_merits low v most limit some capped many =
+    let power : v < 2 ^ v = below_power v in
+    let more : 1 * 2 ^ v ≤ low * 2 ^ v = mul-le 1 (2 ^ v) low (2 ^ v) some (omega arith) in
+    omega arith
+
+-- more charges or merits than a tally counts lead to the same quota
+capped_quota : (q e v limit most : ℕ) → q ≤ most → limit ≤ most → next_quota q (min e most) (min v most) limit ≡ next_quota q e v limit
+capped_quota q e v limit most small capped =
+    let lowered : q - min e most ≡ q - e = omega arith in
+    ap (λ n. min limit (max 1 n * 2 ^ min v most)) lowered ∙ cases (ltb most v) refl
+  where
+    cases : (b : Bool) → ltb most v ≡ b → min limit (max 1 (q - e) * 2 ^ min v most) ≡ min limit (max 1 (q - e) * 2 ^ v)
+    cases false is =
+        let few : v ≤ most = ltb-false most v is in
+        ap (λ n. min limit (max 1 (q - e) * 2 ^ n)) (let same : min v most ≡ v = omega arith in same)
+    cases true is =
+        let many : most < v = ltb-true most v is in
+        let some : 1 ≤ max 1 (q - e) = omega arith in
+        many_merits (max 1 (q - e)) (min v most) most limit some capped (omega arith)
+        ∙ sym (many_merits (max 1 (q - e)) v most limit some capped (omega arith))
+
+module _ (scores : List Score) (w : World) (limits : AreHostsInLimits w) (capped : w.settings.daily_result_quota ≤ most_counted) where
   abbrev limit : ℕ
   limit = w.settings.daily_result_quota
 
   abbrev TellsAll : Tally → Type 0
-  TellsAll s = (s.charges ≡ charges_in scores s.host) × (s.merits ≡ merits_in scores s.host)
+  TellsAll s = (s.charges ≡ min (charges_in scores s.host) most_counted) × (s.merits ≡ min (merits_in scores s.host) most_counted)
 
   -- the quotas of these hosts are new, those of the others are as before
   abbrev with_quotas_where : (ℕ → Bool) → ℕ × HostRow → HostRow
@@ -54,15 +83,17 @@ module _ (scores : List Score) (w : World) where
       → edited_one (with_rows w (with_quotas_where p)) (edit.Host s.host (with_quota_by limit s h)) ≡ with_rows w (with_quotas_where (λ n. eqb s.host n || p n))
   put_quotas p s h stands tells =
       put_one w limit s (with_quotas_where p) h stands
-      ∙ same_world w (with_one limit s (with_quotas_where p)) (with_quotas_where (λ n. eqb s.host n || p n)) (λ n g there. cases n g (eqb s.host n) refl)
+      ∙ same_world w (with_one limit s (with_quotas_where p)) (with_quotas_where (λ n. eqb s.host n || p n)) (λ n g there. cases n g there (eqb s.host n) refl)
     where
-      cases : (n : ℕ) (g : HostRow) (b : Bool) → eqb s.host n ≡ b
+      cases : (n : ℕ) (g : HostRow) → host_at w n ≡ Some g → (b : Bool) → eqb s.host n ≡ b
           → cond b (with_quota_by limit s g) (with_quotas_where p (n, g)) ≡ cond (b || p n) (quota_by scores limit (n, g)) g
-      cases n g true is =
+      cases n g there true is =
           let same : s.host ≡ n = eqb-true s.host n is in
-          ap (λ c. quota_of g (next_quota g.quota c s.merits limit)) (tells.0 ∙ ap (charges_in scores) same)
-          ∙ ap (λ c. quota_of g (next_quota g.quota (charges_in scores n) c limit)) (tells.1 ∙ ap (merits_in scores) same)
-      cases n g false is = refl
+          let high : g.quota ≤ limit = (limits n g there).1.quota.1 in
+          ap (λ c. quota_of g (next_quota g.quota c s.merits limit)) (tells.0 ∙ ap (λ n. min (charges_in scores n) most_counted) same)
+          ∙ ap (λ c. quota_of g (next_quota g.quota (min (charges_in scores n) most_counted) c limit)) (tells.1 ∙ ap (λ n. min (merits_in scores n) most_counted) same)
+          ∙ ap (quota_of g) (capped_quota g.quota (charges_in scores n) (merits_in scores n) limit most_counted (omega (arith, capped)) capped)
+      cases n g there false is = refl
 
   all_first : (s : Tally) (ss : List Tally) → All TellsAll (s ∷ ss) → TellsAll s
   all_first s ss all = all 0 s (omega arith)
@@ -102,8 +133,8 @@ module _ (scores : List Score) (w : World) where
           (λ n g there. ap (λ (b : Bool). cond b (quota_by scores limit (n, g)) g) (reordered (is_tallied ss n) (eqb s.host n) (p n)))
 
   -- a host of which the scores say nothing keeps its quota
-  untallied : AreHostsInLimits w → (n : ℕ) (h : HostRow) → host_at w n ≡ Some h → (charges_in scores n ≡ 0) × (merits_in scores n ≡ 0) → quota_by scores limit (n, h) ≡ h
-  untallied limits n h there nothing =
+  untallied : (n : ℕ) (h : HostRow) → host_at w n ≡ Some h → (charges_in scores n ≡ 0) × (merits_in scores n ≡ 0) → quota_by scores limit (n, h) ≡ h
+  untallied n h there nothing =
       let low : 1 ≤ h.quota = (limits n h there).1.quota.0 in
       let high : h.quota ≤ limit = (limits n h there).1.quota.1 in
       let kept : next_quota h.quota 0 0 limit ≡ h.quota = omega arith in
@@ -111,15 +142,15 @@ module _ (scores : List Score) (w : World) where
       ∙ ap (λ c. quota_of h (next_quota h.quota 0 c limit)) nothing.1
       ∙ ap (quota_of h) kept
 
-  pub quotas_are_new : (sums : List Tally) → AreSums scores sums → AreHostsInLimits w → edited w (new_quotas w limit sums) ≡ with_quotas_by scores w
-  quotas_are_new sums are limits =
+  pub quotas_are_new : (sums : List Tally) → AreSums scores sums → edited w (new_quotas w limit sums) ≡ with_quotas_by scores w
+  quotas_are_new sums are =
       ap (λ hosts. edited (record w { hosts = hosts }) (new_quotas w limit sums)) (sym (same_row w.hosts))
       ∙ put_all sums are.each (λ n. false)
       ∙ same_world w (with_quotas_where (λ n. is_tallied sums n || false)) (quota_by scores limit) (λ n h there. cases n h there (is_tallied sums n) refl)
     where
       cases : (n : ℕ) (h : HostRow) → host_at w n ≡ Some h → (b : Bool) → is_tallied sums n ≡ b → cond (b || false) (quota_by scores limit (n, h)) h ≡ quota_by scores limit (n, h)
       cases n h there true is = refl
-      cases n h there false is = sym (untallied limits n h there (are.others n is))
+      cases n h there false is = sym (untallied n h there (are.others n is))
 
 -- a new quota is between 1 and the limit
 pub quota_within : (limit q e v : ℕ) → 1 ≤ limit → (1 ≤ next_quota q e v limit) × (next_quota q e v limit ≤ limit)
@@ -179,12 +210,12 @@ hosts_alone w v most (m ∷ ms) = cases (host_at w m.host) (λ z. hosts_alone w 
     cases None more = more v
     cases (Some h) more = more (edited_one v (edit.Host m.host (with_quota_by most m h)))
 
-pub are_quotas : (scores : List Score) (sums : List Tally) (w : World) (most : ℕ) (quotas : List Edit) → AreSums scores sums → most ≡ w.settings.daily_result_quota
+pub are_quotas : (scores : List Score) (sums : List Tally) (w : World) (most : ℕ) (quotas : List Edit) → AreSums scores sums → most ≡ w.settings.daily_result_quota → most ≤ most_counted
     → quotas ≡ new_quotas w most sums → AreQuotasBy scores w quotas
-are_quotas scores sums w most quotas are limit is =
+are_quotas scores sums w most quotas are limit capped is =
     subst (AreQuotasBy scores w) (sym (is ∙ ap (λ n. new_quotas w n sums) limit))
     (record {
-      quoted = quotas_are_new scores w sums are;
+      quoted = λ limits. quotas_are_new scores w limits (subst (λ n. n ≤ most_counted) limit capped) sums are;
       fit = λ limits some. quotas_fit w limits some sums;
       alone = hosts_alone w w w.settings.daily_result_quota sums;
     })

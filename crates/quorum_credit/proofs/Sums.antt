@@ -1,18 +1,18 @@
 -- What scores say of each host, summed.
-use Rattle.std.proofs.Common.{◌≡◌, ℕ, zero, suc, ◌+◌, Bool, true, false, cond, eqb, List, [], ◌∷◌, Option, Some, None, sym, refl, ap, ◌∙◌, subst, arith, IfSome}
+use Rattle.std.proofs.Common.{◌≡◌, ℕ, zero, suc, ◌+◌, ◌≤◌, Bool, true, false, cond, eqb, List, [], ◌∷◌, Option, Some, None, sym, refl, ap, ◌∙◌, subst, arith, IfSome}
 use Rattle.std.proofs.lemmas.Bool.{eqb-true, eq-eqb}
 use Rattle.std.proofs.lemmas.Cmp.{nat_cmp_total, eq_by_cmp_equiv}
 use Rattle.std.proofs.lemmas.List.Sums.{sum_by-cons}
 use Rattle.std.proofs.lemmas.Map.Keys.{IsDistinct-from_sorted}
 use Rattle.std.proofs.lemmas.Map.Views.{All-values_from_lookup, IfSome-lookup_from_All}
-use Rattle.std.specs.Prelude.{◌||◌, All}
+use Rattle.std.specs.Prelude.{◌||◌, min, All}
 use Rattle.std.specs.BTreeMap as tree
 use Rattle.std.specs.BTreeMap.{BTreeMap, is_at}
 use Rattle.std.specs.List.{list_any}
 use Rattle.std.specs.Map.{keys_of}
 use Rattle.std.specs.Ordering.{nat_cmp}
 use Rattle.quorum_credit.specs.Scores.{charges_in, merits_in}
-use Rattle.quorum_credit.specs.Tallies.{is_named, is_tallied, tally_of, tally_after, tally_in, AreSums}
+use Rattle.quorum_credit.specs.Tallies.{is_named, is_tallied, tally_of, tally_after, tally_in, most_counted, AreSums}
 use Rattle.quorum_credit.specs.declared.host_quotas.Tally.{Tally}
 use Rattle.quorum_credit.specs.declared.scores.Score.{Score}
 
@@ -34,35 +34,39 @@ merits_other m ms host is = let one = merits_cons m ms host false is in omega ar
 
 -- the tally of a host after further scores
 abbrev with_more : ℕ → Tally → List Score → Tally
-with_more host s ms = record s { charges = s.charges + charges_in ms host; merits = s.merits + merits_in ms host }
+with_more host s ms = record s { charges = min (s.charges + charges_in ms host) most_counted; merits = min (s.merits + merits_in ms host) most_counted }
 
 abbrev both : Tally → ℕ → ℕ → Tally
 both s charges merits = record s { charges = charges; merits = merits }
 
-tally_some : (host : ℕ) (s : Tally) (ms : List Score) → tally_after host (Some s) ms ≡ Some (with_more host s ms)
-tally_some host s [] =
-    ap (λ c. Some (both s c s.merits)) (let same : s.charges ≡ s.charges + 0 = omega arith in same)
-    ∙ ap (λ m. Some (both s (s.charges + 0) m)) (let same : s.merits ≡ s.merits + 0 = omega arith in same)
-tally_some host s (m ∷ ms) = cases (λ s. tally_some host s ms) (eqb m.host host) refl
+tally_some : (host : ℕ) (s : Tally) (ms : List Score) → s.charges ≤ most_counted → s.merits ≤ most_counted → tally_after host (Some s) ms ≡ Some (with_more host s ms)
+tally_some host s [] few small =
+    ap (λ c. Some (both s c s.merits)) (let same : s.charges ≡ min (s.charges + 0) most_counted = omega arith in same)
+    ∙ ap (λ m. Some (both s (min (s.charges + 0) most_counted) m)) (let same : s.merits ≡ min (s.merits + 0) most_counted = omega arith in same)
+tally_some host s (m ∷ ms) few small = cases (λ s. tally_some host s ms) (eqb m.host host) refl
   where
-    cases : ((s : Tally) → tally_after host (Some s) ms ≡ Some (with_more host s ms)) → (b : Bool) → eqb m.host host ≡ b
-        → tally_after host (cond b (Some (both s (s.charges + m.charges) (s.merits + m.merits))) (Some s)) ms ≡ Some (with_more host s (m ∷ ms))
+    added : Tally
+    added = both s (min (s.charges + m.charges) most_counted) (min (s.merits + m.merits) most_counted)
+
+    cases : ((s : Tally) → s.charges ≤ most_counted → s.merits ≤ most_counted → tally_after host (Some s) ms ≡ Some (with_more host s ms))
+        → (b : Bool) → eqb m.host host ≡ b
+        → tally_after host (cond b (Some added) (Some s)) ms ≡ Some (with_more host s (m ∷ ms))
     cases more true is =
-        let charges : s.charges + m.charges + charges_in ms host ≡ s.charges + charges_in (m ∷ ms) host =
+        let charges : min (min (s.charges + m.charges) most_counted + charges_in ms host) most_counted ≡ min (s.charges + charges_in (m ∷ ms) host) most_counted =
         let one = charges_cons m ms host true is in omega arith in
-        let merits : s.merits + m.merits + merits_in ms host ≡ s.merits + merits_in (m ∷ ms) host =
+        let merits : min (min (s.merits + m.merits) most_counted + merits_in ms host) most_counted ≡ min (s.merits + merits_in (m ∷ ms) host) most_counted =
         let one = merits_cons m ms host true is in omega arith in
-        more (both s (s.charges + m.charges) (s.merits + m.merits))
-        ∙ ap (λ c. Some (both s c (s.merits + m.merits + merits_in ms host))) charges
-        ∙ ap (λ c. Some (both s (s.charges + charges_in (m ∷ ms) host) c)) merits
+        more added (omega arith) (omega arith)
+        ∙ ap (λ c. Some (both s c (min (min (s.merits + m.merits) most_counted + merits_in ms host) most_counted))) charges
+        ∙ ap (λ c. Some (both s (min (s.charges + charges_in (m ∷ ms) host) most_counted) c)) merits
     cases more false is =
-        more s
-        ∙ ap (λ c. Some (both s (s.charges + c) (s.merits + merits_in ms host))) (sym (charges_other m ms host is))
-        ∙ ap (λ c. Some (both s (s.charges + charges_in (m ∷ ms) host) (s.merits + c))) (sym (merits_other m ms host is))
+        more s few small
+        ∙ ap (λ c. Some (both s (min (s.charges + c) most_counted) (min (s.merits + merits_in ms host) most_counted))) (sym (charges_other m ms host is))
+        ∙ ap (λ c. Some (both s (min (s.charges + charges_in (m ∷ ms) host) most_counted) (min (s.merits + c) most_counted))) (sym (merits_other m ms host is))
 
 -- the tally of a host
 abbrev said : List Score → ℕ → Tally
-said ms host = record { host = host; charges = charges_in ms host; merits = merits_in ms host }
+said ms host = record { host = host; charges = min (charges_in ms host) most_counted; merits = min (merits_in ms host) most_counted }
 
 tally_none : (host : ℕ) (ms : List Score) → tally_after host None ms ≡ cond (is_named ms host) (Some (said ms host)) None
 tally_none host [] = refl
@@ -74,14 +78,18 @@ tally_none host (m ∷ ms) = cases (tally_none host ms) (eqb m.host host) refl
     cases : tally_after host None ms ≡ cond (is_named ms host) (Some (said ms host)) None → (b : Bool) → eqb m.host host ≡ b
         → tally_after host (cond b (Some (tally_of m)) None) ms ≡ cond (b || is_named ms host) (Some (said (m ∷ ms) host)) None
     cases more true is =
-        tally_some host (tally_of m) ms
-        ∙ ap (λ h. triple h (m.charges + charges_in ms host) (m.merits + merits_in ms host)) (eqb-true m.host host is)
-        ∙ ap (λ c. triple host c (m.merits + merits_in ms host)) (sym (charges_cons m ms host true is))
-        ∙ ap (λ c. triple host (charges_in (m ∷ ms) host) c) (sym (merits_cons m ms host true is))
+        let charges : min (min m.charges most_counted + charges_in ms host) most_counted ≡ min (charges_in (m ∷ ms) host) most_counted =
+        let one = charges_cons m ms host true is in omega arith in
+        let merits : min (min m.merits most_counted + merits_in ms host) most_counted ≡ min (merits_in (m ∷ ms) host) most_counted =
+        let one = merits_cons m ms host true is in omega arith in
+        tally_some host (tally_of m) ms (omega arith) (omega arith)
+        ∙ ap (λ h. triple h (min (min m.charges most_counted + charges_in ms host) most_counted) (min (min m.merits most_counted + merits_in ms host) most_counted)) (eqb-true m.host host is)
+        ∙ ap (λ c. triple host c (min (min m.merits most_counted + merits_in ms host) most_counted)) charges
+        ∙ ap (λ c. triple host (min (charges_in (m ∷ ms) host) most_counted) c) merits
     cases more false is =
         more
-        ∙ ap (λ c. cond (is_named ms host) (triple host c (merits_in ms host)) None) (sym (charges_other m ms host is))
-        ∙ ap (λ c. cond (is_named ms host) (triple host (charges_in (m ∷ ms) host) c) None) (sym (merits_other m ms host is))
+        ∙ ap (λ c. cond (is_named ms host) (triple host (min c most_counted) (min (merits_in ms host) most_counted)) None) (sym (charges_other m ms host is))
+        ∙ ap (λ c. cond (is_named ms host) (triple host (min (charges_in (m ∷ ms) host) most_counted) (min c most_counted)) None) (sym (merits_other m ms host is))
 
 -- scores say nothing of a host that none of them names
 charges_none : (ms : List Score) (host : ℕ) → is_named ms host ≡ false → (charges_in ms host ≡ 0) × (merits_in ms host ≡ 0)
@@ -112,7 +120,7 @@ module _ (scores : List Score) (tallies : BTreeMap ℕ Tally) (ordered : tree.Is
   told_of host = told host ∙ tally_none host scores
 
   abbrev TellsAll : Tally → Type 0
-  TellsAll s = (s.charges ≡ charges_in scores s.host) × (s.merits ≡ merits_in scores s.host)
+  TellsAll s = (s.charges ≡ min (charges_in scores s.host) most_counted) × (s.merits ≡ min (merits_in scores s.host) most_counted)
 
   told_all : (host : ℕ) → IfSome (tally_in tallies host) TellsAll
   told_all host = subst (λ (o : Option Tally). IfSome o TellsAll) (sym (told_of host)) (cases (is_named scores host))

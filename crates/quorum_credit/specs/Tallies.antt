@@ -37,14 +37,18 @@ is_named scores host = list_any (λ (m : Score). m.host == host) scores
 abbrev pub is_tallied : List Tally → ℕ → Bool
 is_tallied tallies host = list_any (λ (s : Tally). s.host == host) tallies
 
+-- A tally counts to here. No quota is larger, so more charges or merits lead to the same quota.
+abbrev pub most_counted : ℕ
+most_counted = 4294967295
+
 -- what one score says of its host
 abbrev pub tally_of : Score → Tally
-tally_of m = record { host = m.host; charges = m.charges; merits = m.merits }
+tally_of m = record { host = m.host; charges = min m.charges most_counted; merits = min m.merits most_counted }
 
 -- the tally of a host so far, with one more score
 abbrev pub tally_with : Option Tally → Score → Tally
 tally_with None m = tally_of m
-tally_with (Some s) m = record s { charges = s.charges + m.charges; merits = s.merits + m.merits }
+tally_with (Some s) m = record s { charges = min (s.charges + m.charges) most_counted; merits = min (s.merits + m.merits) most_counted }
 
 -- the same, with all scores that are of the host
 abbrev pub tally_after : ℕ → Option Tally → List Score → Option Tally
@@ -55,7 +59,8 @@ tally_after host tally (m ∷ ms) = tally_after host (if m.host == host then Som
 abbrev pub tally_in : BTreeMap ℕ Tally → ℕ → Option Tally
 tally_in tallies host = tree.get nat_cmp tallies host
 
--- Each of these sums has all that the scores say of its host. The scores say nothing of other hosts.
+-- Each of these sums has all that the scores say of its host, as far as a tally counts. The scores say nothing of other
+-- hosts.
 pub record AreSums (scores : List Score) (sums : List Tally) : Type 0 where
-  pub each : All (λ (s : Tally). (s.charges ≡ charges_in scores s.host) × (s.merits ≡ merits_in scores s.host)) sums
+  pub each : All (λ (s : Tally). (s.charges ≡ min (charges_in scores s.host) most_counted) × (s.merits ≡ min (merits_in scores s.host) most_counted)) sums
   pub others : (host : ℕ) → is_tallied sums host ≡ false → (charges_in scores host ≡ 0) × (merits_in scores host ≡ 0)

@@ -50,7 +50,8 @@ fn push_growth(more: &mut Edits, unit: u32, unit_state: &UnitState) -> Result<()
     Ok(())
 }
 
-/// Adds the instances that the workunit at a place is to get after those of others. Refused if there is no workunit.
+/// Adds the instances that the workunit at a place is to get after those of others; none if there is no
+/// workunit.
 #[tactic(auto, using(crate::proofs::OnUnitStates::growth_steps))]
 fn add_growth<S: Draft>(
     alloc: Global,
@@ -64,7 +65,7 @@ fn add_growth<S: Draft>(
     working_set.read(alloc, unit)?;
     working_set.decide(unit);
     match working_set.unit_state(unit) {
-        None => Err(Unavailable(Cause::Broken(Invariant::GrowingUnit))),
+        None => Ok(()),
         Some(unit_state) => push_growth(more, unit, unit_state),
     }
 }

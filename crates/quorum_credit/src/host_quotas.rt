@@ -8,22 +8,22 @@ ghost use Rattle.quorum_credit.specs.Tallies.{new_quotas, tally_with, tally_afte
 use crate::quota::next_quota;
 use crate::scores::Score;
 use call_working_set::Draft;
-use sched_book::{Cause, Edit, Edits, HostRow, Invariant, Unavailable};
+use sched_book::{Edit, Edits, HostRow, Unavailable};
 use std::alloc::Global;
 use std::collections::BTreeMap;
-use texts::Listed;
+use texts::{Listed, Memory};
 
 /// What scores say of one host.
 #[derive(Clone, Copy)]
 struct Tally {
     host: u32,
-    /// How much counts against the host.
+    /// How much counts against the host, at most the largest number of 32 bits.
     charges: u32,
-    /// How much counts for it.
+    /// How much counts for it, likewise.
     merits: u32,
 }
 
-/// Adds the host of a tally, with its new quota, after the others. Refused if the host does not exist.
+/// Adds the host of a tally, with its new quota, after the others, if the host exists.
 fn add_quota<S: Draft>(
     alloc: Global,
     working_set: &mut S,
@@ -36,7 +36,7 @@ fn add_quota<S: Draft>(
         OnOk result (quotas.new ≡ quotas.old ++ new_quotas (S.world working_set.old) limit (tally.now ∷ []))) }
 {
     let Some(host) = working_set.host(alloc, tally.host)? else {
-        return Err(Unavailable(Cause::Broken(Invariant::ScoredHost)));
+        return Ok(());
     };
     quotas.push(Edit::Host {
         number: tally.host,
@@ -66,46 +66,35 @@ fn quotas_in_turn<S: Draft>(
     Ok(quotas)
 }
 
-/// The tally of a host so far, with one more score. Refused if a sum exceeds 32 bits.
-fn tally_with(tally: Option<Tally>, score: &Score) -> Result<Tally, Unavailable>
-    ensures { IfOk result (λ sum. sum ≡ tally_with tally score.now) }
+/// The tally of a host so far, with one more score. A sum ends at the largest number of 32 bits: no quota is larger, so
+/// more leads to the same quota.
+fn tally_with(tally: Option<Tally>, score: &Score) -> Tally
+    ensures { result ≡ tally_with tally score.now }
 {
-    let Some(before) = tally else {
-        return Ok(Tally {
-            host: score.host,
-            charges: score.charges,
-            merits: score.merits,
-        });
-    };
-    // Does not happen in a sound world: there a step charges a host at most 60,000,000 times and has at most 20,000,000
-    // merits for it (`sched_book::laws::charges_are_few`).
-    let Some(charges) = before.charges.checked_add(score.charges) else {
-        return Err(Unavailable(Cause::Broken(Invariant::ChargesOfHost)));
-    };
-    let Some(merits) = before.merits.checked_add(score.merits) else {
-        return Err(Unavailable(Cause::Broken(Invariant::MeritsOfHost)));
-    };
-    Ok(Tally {
+    let before = tally.unwrap_or(Tally {
+        host: score.host,
+        charges: 0,
+        merits: 0,
+    });
+    Tally {
         host: before.host,
-        charges,
-        merits,
-    })
-}
-
-/// Adds one score to the tally of its host.
-fn add_score(tallies: &mut BTreeMap<u32, Tally>, score: &Score) -> Result<(), Unavailable>
-    ensures { OnOk result ((host : ℕ) → tally_in tallies.new host ≡
-        if score.now.host == host then Some (tally_with (tally_in tallies.old host) score.now) else tally_in tallies.old host) }
-{
-    let sum = tally_with(tallies.get(&score.host).copied(), score)?;
-    match tallies.insert(score.host, sum) {
-        Ok(_) => Ok(()),
-        Err(_) => Err(Unavailable(Cause::Memory)),
+        charges: before.charges.saturating_add(score.charges),
+        merits: before.merits.saturating_add(score.merits),
     }
 }
 
+/// Adds one score to the tally of its host.
+fn add_score(tallies: &mut BTreeMap<u32, Tally>, score: &Score) -> Result<(), Memory>
+    ensures { OnOk result ((host : ℕ) → tally_in tallies.new host ≡
+        if score.now.host == host then Some (tally_with (tally_in tallies.old host) score.now) else tally_in tallies.old host) }
+{
+    let tally = tally_with(tallies.get(&score.host).copied(), score);
+    tallies.insert(score.host, tally)?;
+    Ok(())
+}
+
 /// What these scores say of each host, by its number.
-fn tallies_of(alloc: Global, scores: &[Score]) -> Result<BTreeMap<u32, Tally>, Unavailable>
+fn tallies_of(alloc: Global, scores: &[Score]) -> Result<BTreeMap<u32, Tally>, Memory>
     ensures { IfOk result (λ tallies. (host : ℕ) → tally_in tallies host ≡ tally_after host None scores.now) }
 {
     let mut tallies = BTreeMap::new(alloc);
@@ -116,7 +105,7 @@ fn tallies_of(alloc: Global, scores: &[Score]) -> Result<BTreeMap<u32, Tally>, U
 }
 
 /// What these scores say, in one tally for each host that they name.
-fn sums_of(alloc: Global, scores: &[Score]) -> Result<Vec<Tally>, Unavailable>
+fn sums_of(alloc: Global, scores: &[Score]) -> Result<Vec<Tally>, Memory>
     ensures { IfOk result (λ sums. AreSums scores.now sums.items) }
 {
     let tallies = tallies_of(alloc, scores)?;

@@ -1,4 +1,4 @@
-use Rattle.std.proofs.Common.{sym, ap, ◌∙◌, subst}
+use Rattle.std.proofs.Common.{sym, ap, ◌∙◌, subst, arith}
 use Rattle.std.proofs.lemmas.Result.{IfOk-weaker}
 use Rattle.quorum_credit.specs.Tallies.{AreSums}
 use Rattle.quorum_credit.proofs.NewQuotas.{are_quotas}
@@ -12,5 +12,5 @@ returns-clause-answer g c = λ honest kept.
     let limit = ap (λ s. s.daily_result_quota) (c.settings.ensures kept ∙ sym (ap (λ v. v.settings) (g.met.S.Draft.rest_stays _ kept))) in
     IfOk-weaker c.quotas_in_turn.result _ _
     (λ quotas is.
-    are_quotas scores sums w _ quotas (subst (AreSums scores) (sym c.as_slice.ensures.value) c.in_ok-sums.ensures) limit is)
+    are_quotas scores sums w _ quotas (subst (AreSums scores) (sym c.as_slice.ensures.value) c.in_ok-sums.ensures) limit (omega arith) is)
     (c.quotas_in_turn.ensures.answer honest kept)
