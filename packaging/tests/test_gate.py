@@ -54,8 +54,19 @@ def test_the_gate_says_at_its_end_that_they_are_skipped(lacking: Path) -> None:
     assert lines[-2].startswith("test: the Python tests are skipped: ")
 
 
+LISTED_PLACES = """#!/bin/sh
+while [ "$#" -gt 0 ] && [ "$1" != -- ]; do
+  shift
+done
+for place; do
+  [ "$place" = -- ] || echo "$place/part.py"
+done
+"""
+
+
 def stand_ins(folder: Path, *failing: str) -> None:
-    """Puts stand-ins in place of all that the Python part runs. Lines with one of these texts fail."""
+    """Puts stand-ins in place of all that the Python part runs. Lines with one of these texts fail. git lists
+    one file in each place that is asked for."""
     text = (TOP / "test").read_text().replace("MODULES=(", "MODULES=() OTHERS=(")
     for name in ("python3", "mypy", "flake8", "black", "shellcheck", "git"):
         text = text.replace(f"/usr/bin/{name}", f"{folder}/bin/{name}")
@@ -63,6 +74,7 @@ def stand_ins(folder: Path, *failing: str) -> None:
         lines = "".join(f'case "{name} $*" in *"{what}"*) exit 1 ;; esac\n' for what in failing)
         path.write_text(f'#!/bin/sh\n[ "$1" != -c ] || exit 0\necho "{name} $*"\n{lines}')
         path.chmod(0o755)
+    (folder / "bin" / "git").write_text(LISTED_PLACES)
     (folder / "test").write_text(text)
 
 

@@ -1,5 +1,8 @@
-"""Tests that each module has a test of its name, and that no test imports another one."""
+"""Tests that each module has a test of its name, that no test imports another one, and that all Python has
+its types checked."""
 import ast
+import re
+import subprocess
 from collections.abc import Iterator
 from pathlib import Path
 
@@ -57,3 +60,31 @@ def test_no_test_imports_another(folder: str) -> None:
     files = list((TOP / folder / "tests").rglob("*.py"))
     assert [path.name for path in files for name in imported(path) if name.startswith("test_")] == []
     assert len(files) > 10
+
+
+def listed(*places: str) -> set[str]:
+    """Returns the files of the repository in some places, as git takes them. Without one it returns all."""
+    command = ["git", "ls-files", "--cached", "--others", "--exclude-standard", "--", *places]
+    completed = subprocess.run(command, cwd=TOP, check=True, capture_output=True, text=True, timeout=60)
+    return {name for name in completed.stdout.splitlines() if (TOP / name).is_file()}
+
+
+def is_python(name: str) -> bool:
+    """Returns whether a file is Python, by its ending or its first line."""
+    if name.endswith(".py"):
+        return True
+    with (TOP / name).open("rb") as file:
+        line = file.readline(100)
+    return line.startswith(b"#!") and b"python" in line
+
+
+def test_all_python_has_its_types_checked() -> None:
+    """Each file of Python is in one package of the list STRICT of the script `test`."""
+    table = re.search(
+        r"^declare -A STRICT=\(\n(.*?)^\)$", (TOP / "test").read_text(), re.DOTALL | re.MULTILINE
+    )
+    assert table is not None
+    packages = [places.split() for places in re.findall(r"=\"(.*)\"$", table[1], re.MULTILINE)]
+    checked = [name for places in packages for name in listed(*places) if is_python(name)]
+    assert sorted(checked) == sorted(filter(is_python, listed()))
+    assert len(packages) == 5 and len(checked) > 500
