@@ -23,6 +23,7 @@ from .catalogue_file import output_names_of
 from .command_line import NAME, new_parser
 from .copies.copying import copy_tables
 from .copies.faults import Ended
+from .copies.listing import KeptCopy, Kind, kept_copies, kept_copy, newest_copy
 from .counts import as_json, as_lines, as_metrics, counted, files_counted, total
 from .doctor import examined
 from .exports import export
@@ -114,6 +115,31 @@ def copy_state(project: Project, folder: Path, keep: int | None) -> None:
     if state is not None and state.exists():
         args = ["copy", "--config", str(project.bridge_file), "--to", str(folder)]
         print(ask_bridge([*args, *([] if keep is None else ["--keep", str(keep)])]), end="")
+
+
+def list_copies(args: Arguments) -> None:
+    """Prints the copies of a project, or one of them. It stays root, who may look at each."""
+    listed = copies_asked(args, project_of(args.project))
+    if args.json:
+        print_lines(one.json for one in listed)
+    else:
+        print_lines(one.line if args.newest is None else str(one.path) for one in listed)
+
+
+def copies_asked(args: Arguments, project: Project) -> list[KeptCopy]:
+    """Returns the copies for which the command line asks. A path needs no file `units.toml`."""
+    if args.copy is not None and ("/" in args.copy or Path(args.copy).exists()):
+        return [kept_copy(Path(args.copy))]
+    folder, stem = project.units().copies, project.tables.stem
+    if args.copy is not None:
+        return [kept_copy(folder / args.copy)]
+    if args.newest is not None:
+        return [newest_copy(folder, Kind(args.newest), stem)]
+    listed = kept_copies(folder, stem)
+    if not listed:
+        advice = f"`bsched-tools copy --project {args.project}` makes one"
+        print(f"{NAME}: there is no copy in {folder}: {advice}", file=sys.stderr)
+    return listed
 
 
 def results(args: Arguments) -> int:
@@ -305,6 +331,7 @@ def work(args: Arguments) -> int | None:
 
 COMMANDS: dict[str, Callable[[Arguments], int | None]] = {
     "copy": copy,
+    "copies": list_copies,
     "results": results,
     "process": process,
     "counts": counts,
