@@ -209,14 +209,15 @@ def doctor(args: Arguments) -> int:
     if args.project is not None:
         project = project_of(args.project)
         args.tables, args.settings = args.tables or project.tables, args.settings or project.settings
-    if args.tables is None and args.settings is None:
-        new_parser().error("doctor: --tables F, --settings S, or --project P")
+    if args.tables is None and args.settings is None and args.state is None:
+        new_parser().error("doctor: --tables F, --settings S, --state F, or --project P")
     found = False
-    for fault in examined(args.tables, args.settings):
+    for fault in examined(args.tables, args.settings, args.state):
         found = True
         print(fault)
     if not found:
-        print("good: nothing is found that bsched refuses")
+        who = "the bridge" if args.tables is None and args.settings is None else "bsched"
+        print(f"good: nothing is found that {who} refuses")
         if args.tables is not None and (rows := rows_in(args.tables.resolve())) is not None:
             print(start_text(rows))
     return FAULT if found else 0

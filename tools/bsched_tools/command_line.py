@@ -65,7 +65,10 @@ def new_parser() -> CommandLine:
     doctor = commands.add_parser("doctor", help="why bsched says `bsched: file` or `bsched: settings`")
     doctor.add_argument("--tables", type=Path, metavar="F", help="the tables")
     doctor.add_argument("--settings", type=Path, metavar="S", help="the file of settings")
-    doctor.add_argument("--project", metavar="P", help=f"both of {PROJECT}")
+    doctor.add_argument(
+        "--state", type=Path, metavar="F", help="a state file of the bridge, or a copy of one"
+    )
+    doctor.add_argument("--project", metavar="P", help=f"the tables and the settings of {PROJECT}")
     health = commands.add_parser("health", help="whether a project is well, for people and monitors")
     add_project(health)
     health.add_argument("--mail", metavar="ADDRESS", help="mails what changed since the last mail")
