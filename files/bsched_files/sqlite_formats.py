@@ -66,8 +66,8 @@ class SqliteFormat:
             raise Fault(f"{path}: {error}") from None
 
     def check_whole(self, path: Path, seconds: float) -> None:
-        """Has SQLite check all of a file. Raises Fault if it is not whole, or as `opened` does. Whoever works
-        on a file has a log next to it, so nobody writes one without a log."""
+        """Has SQLite check all of a file. Raises Fault if it is not whole, or as `opened` does. The bridge
+        keeps its files with a log, so nobody writes a file that has none next to it."""
         with self.opened(path, seconds, is_still=not log_of(path).exists()) as connection:
             found = str(connection.execute("PRAGMA quick_check(1)").fetchone()[0])
             if found != "ok":
