@@ -31,10 +31,11 @@ def copy_name(stem: str, moment: float, ending: str = TABLES) -> str:
 
 def moment_of(path: Path) -> int:
     """Returns the moment of a copy: that in its name, else the time of the last write to the file."""
-    match = COPY_NAME.fullmatch(path.name)
-    if match is None:
-        return int(path.stat().st_mtime)
-    return int(datetime.strptime(match["moment"], MOMENT).replace(tzinfo=timezone.utc).timestamp())
+    match = COPY_NAME.fullmatch(path.name) or STATE_NAME.fullmatch(path.name)
+    if match is not None:
+        with suppress(ValueError):  # no such day or time
+            return int(datetime.strptime(match["moment"], MOMENT).replace(tzinfo=timezone.utc).timestamp())
+    return int(path.stat().st_mtime)
 
 
 def copies_in(folder: Path, stem: str | None = None) -> list[Path]:

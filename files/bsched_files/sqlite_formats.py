@@ -8,6 +8,7 @@ from dataclasses import dataclass
 from pathlib import Path
 from urllib.parse import quote
 
+from .copies import log_of
 from .faults import Fault
 
 
@@ -49,10 +50,11 @@ class SqliteFormat:
         connection.execute(f"PRAGMA user_version = {self.version}")
 
     @contextmanager
-    def opened(self, path: Path, seconds: float) -> Iterator[sqlite3.Connection]:
+    def opened(self, path: Path, seconds: float, is_still: bool = False) -> Iterator[sqlite3.Connection]:
         """Yields a connection that only reads a file of this version or of an older one. It waits so long for
-        a writer."""
-        name = f"file:{quote(str(path.absolute()))}?mode=ro"
+        a writer. If nobody writes the file, SQLite takes no lock, and leaves no file next to it."""
+        mode = "mode=ro&immutable=1" if is_still else "mode=ro"
+        name = f"file:{quote(str(path.absolute()))}?{mode}"
         try:
             with closing(sqlite3.connect(name, uri=True, timeout=seconds)) as connection:
                 try:
@@ -62,6 +64,14 @@ class SqliteFormat:
                 yield connection
         except sqlite3.Error as error:
             raise Fault(f"{path}: {error}") from None
+
+    def check_whole(self, path: Path, seconds: float) -> None:
+        """Has SQLite check all of a file. Raises Fault if it is not whole, or as `opened` does. The bridge
+        keeps its files with a log, so nobody writes a file that has none next to it."""
+        with self.opened(path, seconds, is_still=not log_of(path).exists()) as connection:
+            found = str(connection.execute("PRAGMA quick_check(1)").fetchone()[0])
+            if found != "ok":
+                raise Fault(f"{path}: SQLite finds: {' '.join(found.split())}")
 
 
 def _header_of(connection: sqlite3.Connection) -> tuple[int, int]:

@@ -30,8 +30,15 @@ def test_the_names_that_are_written_are_read(moment: float, ending: str) -> None
     name = copy_name("bridge", moment, ending)
     match = NAMES[ending].fullmatch(name)
     assert match is not None and match["stem"] == "bridge"
-    if ending == TABLES:
-        assert abs(moment_of(Path(name)) - int(moment)) <= 1
+    assert abs(moment_of(Path(name)) - int(moment)) <= 1
+
+
+def test_a_moment_that_is_none(tmp_path: Path) -> None:
+    """Then the last write counts."""
+    path = tmp_path / "project-20260230T250000.000Z.db"
+    path.touch()
+    os.utime(path, (7, 7))
+    assert moment_of(path) == 7
 
 
 def test_the_names_are_in_the_order_of_time() -> None:

@@ -7,7 +7,6 @@
 
 TABLES_FILES="project.db project.db-wal project.db-shm project.db-journal" # those that belong together
 STAGED=.restored.db # the checked copy, before it gets its place
-STATE_ID=0x62736362 # the application_id of the bridge's state file
 former=             # the folder for the former files, once units may be stopped
 is_repeated=        # whether an earlier run was killed
 
@@ -25,51 +24,36 @@ write_as_owner() {
     { [ "$(stat -c %U "$PROJECTS/$name")" != root ] || chown "$USER_NAME:" "$1"; }
 }
 
-# Prints the folder of a project's copies: units.toml can name another one.
-copies_of() {
-  python3 -I -c '
-import sys, tomllib
-from pathlib import Path
-folder, usual = map(Path, sys.argv[1:])
-path = folder / "units.toml"
-units = tomllib.loads(path.read_text("utf-8")) if path.exists() else {}
-print(folder / units.get("copy", {}).get("folder", usual))' "$PROJECTS/$1" "$BACKUPS/$1" 2> /dev/null
-}
-
-# Prints the path of the newest copy in a folder, by its first word and its ending, or nothing.
-newest_copy() {
-  local file
-  file=$(find "$1/" -maxdepth 1 -type f -regextype posix-extended -regex ".*/$2-[0-9]{8}T[0-9]{6}\.[0-9]{3}Z\.$3" \
-    -printf '%f\n' 2> /dev/null | sort | tail -n 1)
-  [ -z "$file" ] || echo "$1/$file"
-}
-
-# Prints the moment of a copy: that in its name, else that of the last write.
-moment_of_copy() {
-  if [[ ${1##*/} =~ -([0-9]{4})([0-9]{2})([0-9]{2})T([0-9]{2})([0-9]{2})([0-9]{2})\.[0-9]{3}Z\.(db|state)$ ]]; then
-    printf '%s-%s-%s %s:%s:%s UTC\n' "${BASH_REMATCH[@]:1:6}"
-  else
-    date -u -r "$1" '+%F %T UTC'
-  fi
+# Lists copies of the project, by the words of `bsched-tools copies`.
+list_copies() {
+  bsched-tools copies --project "$PROJECTS/$name/" "$@"
 }
 
 # Sets copy to the path of the copy that a word means: a path, or a name in the folder of copies. Without a word it is the
-# newest one. Sets state_copy to the newest copy of the bridge's state, if the state file is lost.
+# newest one. Sets moment to that of the copy, as text. Enters /: root loads no module of the folder in which it was.
 choose_copy() {
-  local word=$1 copies
-  copies=$(copies_of "$name") || copies=
-  if [ -n "$word" ]; then
-    copy=$word
-    [ -e "$word" ] || [[ $word = */* ]] || copy=$copies/$word
-    [ -f "$copy" ] || fail "$word is no copy: there is no such file, also not in ${copies:-the folder of copies}"
-    copy=$(realpath -s -- "$copy")
-  else
-    [ -n "$copies" ] || fail "$PROJECTS/$name/units.toml can't be read: correct it, or name the copy"
-    copy=$(newest_copy "$copies" project db)
-    [ -n "$copy" ] || fail "there is no copy in $copies: name a file that you have elsewhere"
+  local word=$1 line day time zone
+  if [[ $word = */* ]] || [ -e "$word" ]; then
+    word=$(realpath -ms -- "$word") || fail "$1 is no copy: there is no such file"
   fi
+  cd / || fail "/ can't be entered" # the owner of the project may not enter the folder of root
+  if [ -z "$word" ]; then
+    word=$(list_copies --newest tables 2>&1) || fail "${word#bsched-tools: }: name the file of a copy"
+  fi
+  line=$(list_copies -- "$word" 2>&1) || fail "${line#bsched-tools: }"
+  read -r day time zone _ _ _ copy <<< "$line"
+  moment="$day $time $zone"
+}
+
+# Sets state_copy to the newest copy of the bridge's state, if the state file is lost and there is a copy.
+choose_state() {
+  local fault
   state_copy=
-  ! is_state_lost || [ -z "$copies" ] || state_copy=$(newest_copy "$copies" bridge state)
+  is_state_lost || return 0
+  state_copy=$(list_copies --newest state 2> /dev/null) && return
+  state_copy=
+  fault=$(list_copies 2>&1 > /dev/null) ||
+    fail "the bridge's state file is lost, and its copies can't be listed: ${fault#bsched-tools: }"
 }
 
 # Returns whether a project has a bridge whose state file should be in its folder and is not.
@@ -100,15 +84,8 @@ check_tables() {
 check_state() {
   local fault
   fault=$(cp -- "$state_copy" "$made/bridge.db" 2>&1) || fail "$state_copy can't be copied to $made: ${fault##*: }"
-  python3 -I -c '
-import sqlite3, sys
-from contextlib import closing
-path, mark = sys.argv[1], int(sys.argv[2], 16)
-with closing(sqlite3.connect(f"file:{path}?mode=ro&immutable=1", uri=True)) as state:
-    is_state = state.execute("PRAGMA application_id").fetchone() == (mark,)
-    sys.exit(not is_state or state.execute("PRAGMA quick_check(1)").fetchone() != ("ok",))
-' "$made/bridge.db" "$STATE_ID" 2> /dev/null ||
-    fail "$state_copy is no whole state file of a bridge: move it away, and run this again"
+  fault=$(bsched-tools doctor --state "$made/bridge.db" 2>&1) ||
+    fail "$state_copy can't be restored: ${fault#"$made/bridge.db: "}: move it away, and run this again"
 }
 
 # Returns whether systemd runs a unit, tries to start it, or failed to do so.
@@ -244,14 +221,14 @@ open_work() {
 
 # Puts a copy into the place of a project's tables.
 restore_project() {
-  local copy state_copy
+  local copy moment state_copy
   command -v bsched-tools > /dev/null || fail "the tools are not installed: apt install bsched-tools"
   take_turn
   check_cluster
   choose_copy "$1"
-  cd / || fail "/ can't be entered" # the owner of the project may not enter the folder of root
+  choose_state
   open_work
-  echo "Restoring $copy, of $(moment_of_copy "$copy")."
+  echo "Restoring $copy, of $moment."
   check_tables
   [ -z "$state_copy" ] || check_state
   stage

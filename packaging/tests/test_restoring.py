@@ -20,7 +20,6 @@ UNITS = ["bsched@sums", "bsched-tick@sums.timer", "bsched-bridge@sums"]
 FORMER = re.compile(r"before-\d{8}T\d{6}\.\d{3}Z")
 # bsched@sums, its tick and its bridge run: the scheduler is one that systemd tries to start
 STUBS = f"""{MORE_STUBS}
-BACKUPS=$PROJECTS/../backups
 runuser() {{ shift 3; "$@"; }}
 systemctl() {{
   echo "$*" >> $PROJECTS/../systemctl
@@ -218,8 +217,35 @@ def test_a_spoiled_copy_of_the_state(project: Project) -> None:
     (project.copies / "bridge-20261128T120001.000Z.state").write_bytes(b"spoiled")
     completed = project.restore()
     assert completed.returncode == 1 and completed.stderr.count("\n") == 1
-    assert "no whole state file" in completed.stderr and project.is_as_before()
+    assert "can't be restored: file is not a database: move it away" in completed.stderr
+    assert project.is_as_before()
     assert project.asked("stop") == []
+
+
+@pytest.mark.parametrize("is_state_lost", [False, True])
+def test_a_path_without_the_folder_of_copies(project: Project, tmp_path: Path, is_state_lost: bool) -> None:
+    """The folder of copies is not known. It is needed only for a lost state file, which may have a copy."""
+    path = shutil.copy(project.copies / OLDER, tmp_path / "a copy.db")
+    units = project.folder / "units.toml"
+    units.write_text("[copy\n")
+    if is_state_lost:
+        (project.folder / "bridge" / "bridge.db").unlink()
+    completed = project.restore(str(path))
+    if is_state_lost:
+        fault = f"the bridge's state file is lost, and its copies can't be listed: {units}: is not TOML"
+        assert completed.returncode == 1 and completed.stderr.startswith(f"bsched-project: {fault}")
+        assert project.is_as_before() and project.asked("stop") == []
+    else:
+        assert (completed.returncode, completed.stderr) == (0, "")
+        assert completed.stdout.startswith(f"Restoring {path}, of ") and project.accounts() == 0
+
+
+def test_a_link_is_not_the_newest_copy(project: Project) -> None:
+    """Whoever owns the folder of copies could have root read another file by it."""
+    (project.copies / "project-20990101T000000.000Z.db").symlink_to("/etc/hostname")
+    completed = project.restore()
+    assert (completed.returncode, completed.stderr) == (0, "")
+    assert completed.stdout.startswith(f"Restoring {project.copies / NEWEST}, of ")
 
 
 def spoil(project: Project, what: str) -> None:
@@ -243,6 +269,8 @@ def spoil(project: Project, what: str) -> None:
         with closing(sqlite3.connect(copy)) as tables:
             tables.execute("UPDATE setting SET value = 'another-key' WHERE name = 'operator_key'")
             tables.commit()
+    elif what == "units":
+        (project.folder / "units.toml").write_text("[copy\n")
     elif what == "none":
         shutil.rmtree(project.copies)
 
@@ -256,7 +284,8 @@ def spoil(project: Project, what: str) -> None:
         ("schema", "a newer one"),
         ("page", "can't be restored"),
         ("project", "is of another project"),
-        ("none", "there is no copy in"),
+        ("none", "there is no copy of the tables in"),
+        ("units", "units.toml: is not TOML"),
     ],
 )
 def test_a_copy_that_is_refused(project: Project, what: str, fault: str) -> None:
@@ -277,6 +306,8 @@ def test_a_copy_that_is_refused(project: Project, what: str, fault: str) -> None
         (["restore", "sums"], "id() { echo 1000; }\n", 1, "only root can restore a project"),
         (["restore", "sums", "none.db"], "", 1, "none.db is no copy"),
         (["restore", "sums", "/"], "", 1, "/ is no copy"),
+        (["restore", "sums", "/none/none.db"], "", 1, "/none/none.db is no copy"),
+        (["restore", "sums", "-none.db"], "", 1, "-none.db is no copy"),
     ],
 )
 def test_commands_that_are_not_possible(

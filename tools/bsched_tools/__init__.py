@@ -1,8 +1,8 @@
 """Tools for the operator of a project: copies while it serves, results, counts, and why a file is refused.
 
-All commands but `copy`, `doctor` and `import` read a copy of the tables. Nothing here writes the tables:
-`import`, `app` and `submit` ask the scheduler, or run bsched. The package `bsched_files` has the formats that
-the bridge reads or writes, too. The modules:
+All commands but `copy`, `copies`, `doctor` and `import` read a copy of the tables. Nothing here writes the
+tables: `import`, `app` and `submit` ask the scheduler, or run bsched. The package `bsched_files` has the
+formats that the bridge reads or writes, too. The modules:
 
 results, cursors                the results of workunits, and which were given out before
 process                         new results for a program of the operator

@@ -23,6 +23,7 @@ from .catalogue_file import output_names_of
 from .command_line import NAME, new_parser
 from .copies.copying import copy_tables
 from .copies.faults import Ended
+from .copies.listing import KeptCopy, Kind, kept_copies, kept_copy, newest_copy
 from .counts import as_json, as_lines, as_metrics, counted, files_counted, total
 from .doctor import examined
 from .exports import export
@@ -116,6 +117,31 @@ def copy_state(project: Project, folder: Path, keep: int | None) -> None:
         print(ask_bridge([*args, *([] if keep is None else ["--keep", str(keep)])]), end="")
 
 
+def list_copies(args: Arguments) -> None:
+    """Prints the copies of a project, or one of them. It stays root, who may look at each."""
+    listed = copies_asked(args, project_of(args.project))
+    if args.json:
+        print_lines(one.json for one in listed)
+    else:
+        print_lines(one.line if args.newest is None else str(one.path) for one in listed)
+
+
+def copies_asked(args: Arguments, project: Project) -> list[KeptCopy]:
+    """Returns the copies for which the command line asks. A path needs no file `units.toml`."""
+    if args.copy is not None and ("/" in args.copy or Path(args.copy).exists()):
+        return [kept_copy(Path(args.copy))]
+    folder, stem = project.units().copies, project.tables.stem
+    if args.copy is not None:
+        return [kept_copy(folder / args.copy)]
+    if args.newest is not None:
+        return [newest_copy(folder, Kind(args.newest), stem)]
+    listed = kept_copies(folder, stem)
+    if not listed:
+        advice = f"`bsched-tools copy --project {args.project}` makes one"
+        print(f"{NAME}: there is no copy in {folder}: {advice}", file=sys.stderr)
+    return listed
+
+
 def results(args: Arguments) -> int:
     """Writes the results. Returns 1 if the files of some are spoiled. With files it stays root, to give them
     to the owner of their folder."""
@@ -183,14 +209,15 @@ def doctor(args: Arguments) -> int:
     if args.project is not None:
         project = project_of(args.project)
         args.tables, args.settings = args.tables or project.tables, args.settings or project.settings
-    if args.tables is None and args.settings is None:
-        new_parser().error("doctor: --tables F, --settings S, or --project P")
+    if args.tables is None and args.settings is None and args.state is None:
+        new_parser().error("doctor: --tables F, --settings S, --state F, or --project P")
     found = False
-    for fault in examined(args.tables, args.settings):
+    for fault in examined(args.tables, args.settings, args.state):
         found = True
         print(fault)
     if not found:
-        print("good: nothing is found that bsched refuses")
+        who = "the bridge" if args.tables is None and args.settings is None else "bsched"
+        print(f"good: nothing is found that {who} refuses")
         if args.tables is not None and (rows := rows_in(args.tables.resolve())) is not None:
             print(start_text(rows))
     return FAULT if found else 0
@@ -305,6 +332,7 @@ def work(args: Arguments) -> int | None:
 
 COMMANDS: dict[str, Callable[[Arguments], int | None]] = {
     "copy": copy,
+    "copies": list_copies,
     "results": results,
     "process": process,
     "counts": counts,

@@ -4,12 +4,14 @@ from pathlib import Path
 
 from bsched_files.command_line import CommandLine, version
 
+from .copies.listing import Kind
 from .work_options import LINK_HELP, add_work
 
 MOST_COUNT = 10**18 - 1  # SQLite has no much larger numbers
 NAME = "bsched-tools"
 COPIES = "copies of the tables; a folder means its newest copy"
 A_COPY = "a copy of the tables; a folder means its newest copy"
+NEWEST = "prints the path of the newest copy alone; KIND is tables, or state for the bridge's state file"
 PROJECT = "a project of bsched-project: its name, or its folder with a slash"
 
 
@@ -48,6 +50,14 @@ def new_parser() -> CommandLine:
     copy.add_argument("--to", type=Path, metavar="G", help="a folder of copies, or a new file")
     copy.add_argument("--keep", type=count, metavar="N", help="keeps N copies, and removes older ones")
     copy.add_argument("--check", type=Path, metavar="PROGRAM", help="has this bsched open the copy, too")
+    copies = commands.add_parser("copies", help="the copies of a project, the newest first")
+    add_project(copies)
+    shown = copies.add_mutually_exclusive_group()
+    shown.add_argument("--newest", choices=[*Kind], metavar="KIND", help=NEWEST)
+    shown.add_argument(
+        "copy", nargs="?", metavar="COPY", help="only this one: its name, or the path of a file"
+    )
+    copies.add_argument("--json", action="store_true", help="lines of JSON")
     add_reading(commands)
     add_publishing(commands)
     add_importing(commands)
@@ -55,7 +65,10 @@ def new_parser() -> CommandLine:
     doctor = commands.add_parser("doctor", help="why bsched says `bsched: file` or `bsched: settings`")
     doctor.add_argument("--tables", type=Path, metavar="F", help="the tables")
     doctor.add_argument("--settings", type=Path, metavar="S", help="the file of settings")
-    doctor.add_argument("--project", metavar="P", help=f"both of {PROJECT}")
+    doctor.add_argument(
+        "--state", type=Path, metavar="F", help="a state file of the bridge, or a copy of one"
+    )
+    doctor.add_argument("--project", metavar="P", help=f"the tables and the settings of {PROJECT}")
     health = commands.add_parser("health", help="whether a project is well, for people and monitors")
     add_project(health)
     health.add_argument("--mail", metavar="ADDRESS", help="mails what changed since the last mail")

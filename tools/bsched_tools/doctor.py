@@ -8,9 +8,11 @@ from contextlib import closing
 from itertools import islice
 from pathlib import Path
 
+from bsched_files.bridge_state import STATE
 from bsched_files.copies import log_of, moment_of
 from bsched_files.faults import Fault
 from bsched_files.tables import (
+    BUSY_SECONDS,
     EMPTY,
     TAKE_ANOTHER,
     Tables,
@@ -127,6 +129,17 @@ def tables_faults(path: Path) -> Iterator[str]:
         yield str(fault).removeprefix(f"{real}: ").replace(TAKE_ANOTHER, f": {RESTORE}")
 
 
+def state_faults(path: Path) -> Iterator[str]:
+    """Yields why the bridge refuses a state file, or a copy of one."""
+    if not path.is_file():
+        yield "there is no such file"
+        return
+    try:
+        STATE.check_whole(path, BUSY_SECONDS)
+    except Fault as fault:
+        yield str(fault).removeprefix(f"{path}: ")
+
+
 def stored_settings(path: Path) -> dict[str, int | str] | None:
     """Returns the settings in tables, also while a program has them; None if they can't be read."""
     try:
@@ -155,8 +168,10 @@ def settings_differences(tables: Path, settings: Path) -> Iterator[str]:
             yield f"{name} is {value!r}, and the tables were made with {stored[name]}, which counts"
 
 
-def examined(tables: Path | None, settings: Path | None) -> Iterator[str]:
+def examined(tables: Path | None, settings: Path | None, state: Path | None = None) -> Iterator[str]:
     """Yields each reason, with the file."""
+    if state is not None:
+        yield from (f"{state}: {fault}" for fault in state_faults(state))
     if settings is not None:
         yield from (f"{settings}: {fault}" for fault in settings_faults(settings))
     if tables is not None:

@@ -9,6 +9,9 @@ import pytest
 from doctor_asked import findings_of, short_life, statements_of
 from small_project import Twin, make_tables, tools
 
+from bsched_files.bridge_state import STATE
+from bsched_tools import doctor
+
 
 def test_good_tables(tmp_path: Path) -> None:
     assert findings_of(make_tables(tmp_path / "1.db")) == []
@@ -66,6 +69,48 @@ def test_the_command_line(tmp_path: Path, project: Path) -> None:
     status, output, fault = tools("doctor", "--tables", tmp_path / "none", "--settings", tmp_path / "none")
     assert (status, fault) == (1, "") and len(output.splitlines()) == 2
     assert tools("doctor")[0] == 64
+
+
+def made_state(path: Path) -> Path:
+    """Makes a state file as the bridge has it."""
+    with closing(sqlite3.connect(path, isolation_level=None)) as connection:
+        connection.execute("PRAGMA journal_mode = WAL").fetchall()
+        STATE.prepare(connection)
+    return path
+
+
+def test_a_state_file(tmp_path: Path) -> None:
+    path = made_state(tmp_path / "bridge.db")
+    assert tools("doctor", "--state", path) == (0, "good: nothing is found that the bridge refuses\n", "")
+    assert os.listdir(tmp_path) == ["bridge.db"]
+    with closing(sqlite3.connect(path, isolation_level=None)) as connection:  # as a bridge that serves
+        connection.execute("DELETE FROM host")
+        assert list(doctor.state_faults(path)) == []
+
+
+def test_other_files_than_state_files(tmp_path: Path, project: Path) -> None:
+    path = made_state(tmp_path / "bridge.db")
+    for name, data in (("cut.db", path.read_bytes()[:8192]), ("text.db", b"text"), ("empty.db", b"")):
+        (tmp_path / name).write_bytes(data)
+    page = bytearray(path.read_bytes())
+    page[4096:8192] = b"\xff" * 4096
+    (tmp_path / "page.db").write_bytes(page)
+    with closing(sqlite3.connect(made_state(tmp_path / "newer.db"))) as connection:
+        connection.execute(f"PRAGMA user_version = {STATE.version + 1}")
+    faults = {
+        "cut.db": "malformed",
+        "text.db": "file is not a database",
+        "empty.db": "is not the state file of a bridge",
+        "page.db": "SQLite finds: ",
+        "newer.db": "a newer bridge wrote this file",
+        "none.db": "there is no such file",
+        "": "there is no such file",
+        project.name: "is not the state file of a bridge",
+    }
+    for name, fault in faults.items():
+        status, output, _ = tools("doctor", "--state", tmp_path / name)
+        assert status == 1 and output.count("\n") == 1, name
+        assert output.startswith(f"{tmp_path / name}: ") and fault in output, output
 
 
 def test_a_young_file_without_its_log(tmp_path: Path) -> None:

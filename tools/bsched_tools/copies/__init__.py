@@ -5,5 +5,6 @@ taking           the bytes of the tables at one moment
 holders          which process has the tables
 stopping         how that process is stopped for a moment
 folder           a folder of copies: whose turn it is, how a copy gets its name, and which older ones go
+listing          the copies in a folder, as an operator sees them
 faults           what ends a step of a copy
 """
