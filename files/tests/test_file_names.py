@@ -1,11 +1,8 @@
 """Tests the names by which clients know the workunits and results of a file."""
-import re
-
 import pytest
 from hypothesis import example, given, strategies as st
 
-from bsched_bridge.catalogue.output_files import result_of, upload_name
-from bsched_bridge.common.file_names import (
+from bsched_files.file_names import (
     FIRST,
     MARK,
     MOST_FILES,
@@ -18,7 +15,6 @@ from bsched_bridge.common.file_names import (
     split_workunit,
     workunit_in_file,
 )
-from bsched_bridge.uploads.messages import UPLOAD_URL
 from bsched_files.texts import WORD, is_word
 
 WORDS = st.from_regex(WORD, fullmatch=True)
@@ -133,14 +129,3 @@ def test_what_no_file_has_as_a_workunit(name: str) -> None:
 
 def test_no_word_has_the_mark() -> None:
     assert not is_word(f"w{MARK}2")
-
-
-@given(WORDS, NUMBERS, FILES, st.integers(0, 19))
-def test_an_output_file_says_its_result(word: str, number: int, file: int, place: int) -> None:
-    """Its name is also the same in a URL, unescaped."""
-    result = result_in_file(f"{word}_{number}", file)
-    name = upload_name(result, place)
-    assert result_of(name) == result
-    found = UPLOAD_URL.search(f"https://sums.example/file_upload_handler/{name}/{'0' * 32}")
-    assert found is not None and found[1] == name
-    assert re.fullmatch(r"[A-Za-z0-9._~+-]+", name)
