@@ -14,6 +14,7 @@ from bsched_files.file_names import (
     split_result,
     split_workunit,
     workunit_in_file,
+    workunit_of_result,
 )
 from bsched_files.texts import WORD, is_word
 
@@ -51,6 +52,7 @@ def test_what_went_out_comes_back(word: str, number: int, file: int) -> None:
     assert split_workunit(unit) == FileName(word, file) and plain_workunit(unit) == word
     assert split_result(result) == FileName(f"{word}_{number}", file)
     assert plain_result(result) == f"{word}_{number}"
+    assert workunit_of_result(result) == unit
     assert [one for one in (1, 2, 12, file, MOST_FILES) if is_result_of(result, one)][0] == file
 
 
