@@ -6,7 +6,7 @@ from pathlib import Path
 from urllib.request import urlopen
 
 from bsched_bridge.catalogue.output_files import upload_name
-from bsched_bridge.common.file_names import workunit_in_file
+from bsched_files.file_names import workunit_in_file
 
 from . import project
 from .behind_nginx import OUTPUT_FILES, package_lines

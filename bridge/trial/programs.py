@@ -6,7 +6,7 @@ import sys
 import urllib.request
 from pathlib import Path
 
-from bsched_bridge.common.file_names import FIRST, result_in_file
+from bsched_files.file_names import FIRST, result_in_file
 from served import NotStarted, start, stop
 
 START_SECONDS, ORDER_SECONDS = 120, 120

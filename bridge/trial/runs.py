@@ -9,7 +9,7 @@ import time
 from collections.abc import Callable
 from pathlib import Path
 
-from bsched_bridge.common.file_names import FIRST, plain_result, result_in_file
+from bsched_files.file_names import FIRST, plain_result, result_in_file
 
 from . import project
 from .needs import missing

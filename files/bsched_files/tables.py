@@ -12,7 +12,7 @@ from urllib.parse import quote
 
 from .copies import found_copy, log_of, moment_of
 from .faults import Fault
-
+from .file_names import FIRST
 from .schemas import FIRST_SCHEMA, SCHEMA, SECOND_SCHEMA, SCHEMA_NUMBER, Shape, shape_of, shape_of_text
 
 HEAD = b"SQLite format 3\0"
@@ -35,6 +35,7 @@ class Tables:
     connection: sqlite3.Connection
     moment: int  # of the copy
     settings: dict[str, Any] = field(default_factory=dict)
+    file: int = FIRST  # the number of the file in its project
 
     def rows(self, query: str, *values: Any) -> Iterator[tuple[Any, ...]]:
         """Yields the rows of a query."""
@@ -139,9 +140,11 @@ def opened(
     is_any_schema: bool = False,
     names: Mapping[str, str] | None = None,
     takes_older: bool = False,
+    file: int = FIRST,
 ) -> Iterator[Tables]:
     """Yields the tables of a copy. They must be of the newest schema, unless an older one is taken or any
-    schema is right. Names of users can be given by authenticator; the others have those in the tables."""
+    schema is right. Names of users can be given by authenticator; the others have those in the tables. The
+    tables have the number of their file in the project."""
     path = found_copy(path)
     check_file(path)
     with faults_of(path), closing(connected(path)) as connection:
@@ -151,7 +154,7 @@ def opened(
         if not is_any_schema and (fault := schema_fault(connection, takes_older)):
             raise Fault(f"{path}: {fault}")
         settings = dict(connection.execute("SELECT name, value FROM setting"))
-        yield Tables(path, connection, moment_of(path), settings)
+        yield Tables(path, connection, moment_of(path), settings, file)
 
 
 def project_mark(tables: Tables) -> str:

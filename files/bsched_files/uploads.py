@@ -1,6 +1,8 @@
 """The folder of uploads of a bridge (`bridge/README.md`, "Output files"): the tables of `uploads.db`, the
 places of its files, and the output of a result that has files.
 
+Results and uploads have the names by which clients know them (`file_names`).
+
 `pending/` has the files of results that are not reported yet, and `store/` those of reported results, under
 their SHA-256.
 """

@@ -6,7 +6,7 @@ from itertools import groupby
 from typing import Any
 
 from .faults import Fault
-
+from .file_names import FIRST
 from .tables import Tables
 
 WHOLE_NUMBER = re.compile("0|-?[1-9][0-9]{0,17}")
@@ -76,6 +76,7 @@ class Workunit:
     output: str | None = None  # the output of that result
     results: tuple[Result, ...] = ()
     is_closed: bool = True  # no further result of it can be judged
+    file: int = FIRST  # the number of its file in the project
 
 
 def agree(agreement: int | None, one: str, other: str) -> bool:
@@ -104,7 +105,7 @@ def workunit_of(tables: Tables, rows: list[tuple[Any, ...]]) -> Workunit:
     """Returns a workunit, from the rows of its instances."""
     number, name, app, agreement, min_quorum, millicredits, status = rows[0][:7]
     if status in REASONS:
-        return Workunit(number, name, app, millicredits, REASONS[status])
+        return Workunit(number, name, app, millicredits, REASONS[status], file=tables.file)
     instances = [Instance(f"{name}_{row[7]}", *row[8:]) for row in rows]
     judged = [(one.place, one) for one in instances if one.place is not None and one.outcome == SUCCESS]
     good = [one for _, one in sorted(judged, key=lambda pair: pair[0])]
@@ -116,7 +117,9 @@ def workunit_of(tables: Tables, rows: list[tuple[Any, ...]]) -> Workunit:
         for place, one in judged
     )
     is_closed = not any(one.may_be_judged for one in instances)
-    return Workunit(number, name, app, millicredits, None, best.name, best.output, results, is_closed)
+    return Workunit(
+        number, name, app, millicredits, None, best.name, best.output, results, is_closed, tables.file
+    )
 
 
 def decided(tables: Tables, after: int = 0, since: int | None = None) -> Iterator[Workunit]:

@@ -8,6 +8,7 @@ from dataclasses import dataclass
 from typing import Any
 
 from bsched_files.faults import Fault
+from bsched_files.file_names import MARK, split_result, split_workunit, workunit_of_result
 from bsched_files.moments import moment_text
 from bsched_files.tables import Tables
 from bsched_files.texts import credit_number
@@ -96,11 +97,24 @@ def given_of(tables: Tables, unit: tuple[Any, ...]) -> tuple[list[Given], Instan
     return given, best
 
 
+def workunits_meant(name: str, file: int) -> Iterator[str]:
+    """Yields the workunits of a file that a name may mean. It can be the name of a workunit or of a result,
+    in the tables or as clients know it.
+    """
+    workunit, result = split_workunit(name), split_result(name)
+    if workunit is not None and (MARK not in name or workunit.file == file):
+        yield workunit.name
+    if result is not None and (MARK not in name or result.file == file):
+        if result.name.rpartition("_")[2].isdecimal():
+            yield workunit_of_result(result.name)
+
+
 def workunit_lines(tables: Tables, name: str) -> Iterator[str]:
-    """Yields what happened to a workunit. The name can be that of one of its results."""
-    unit = next(tables.rows(UNIT, name), None)
-    if unit is None and "_" in name and name.rpartition("_")[2].isdecimal():
-        unit = next(tables.rows(UNIT, name.rpartition("_")[0]), None)
+    """Yields what happened to a workunit. The name can be that of one of its results, and also the name by
+    which clients know either. The lines have the names in the tables.
+    """
+    found = (next(tables.rows(UNIT, one), None) for one in workunits_meant(name, tables.file))
+    unit = next((row for row in found if row is not None), None)
     if unit is None:
         raise Fault(f"{tables.path}: there is no workunit {name}")
     given, best = given_of(tables, unit)

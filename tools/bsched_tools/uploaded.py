@@ -10,6 +10,7 @@ from dataclasses import dataclass
 from pathlib import Path
 
 from bsched_files.faults import Fault
+from bsched_files.file_names import result_in_file
 from bsched_files.uploads import DATABASE, FILES_OF_RESULT, UPLOADS, files_in, stored_path
 from bsched_files.workunits import Workunit
 
@@ -48,7 +49,8 @@ class UploadFolder:
         if unit.canonical is None:
             return []
         try:
-            rows = self.connection.execute(FILES_OF_RESULT, (unit.canonical,)).fetchall()
+            result = result_in_file(unit.canonical, unit.file)
+            rows = self.connection.execute(FILES_OF_RESULT, (result,)).fetchall()
         except sqlite3.Error as error:
             raise Fault(f"{self.folder / DATABASE}: {error}") from None
         if not rows:

@@ -4,15 +4,13 @@ from collections.abc import Iterator
 from pathlib import Path
 
 import pytest
-from files_uploaded import content
+from files_uploaded import put_files
 from lives import life_of, stored_life
 from made_project import MadeProject
 from results_read import lines_of
 from small_project import Twin, make_tables
 from stuck_lives import Life
 from work_project import WorkProject
-
-from bsched_bridge.uploads.tables import UploadTables
 
 
 @pytest.fixture
@@ -100,15 +98,5 @@ def uploads(tmp_path: Path, tables: Path) -> Path:
     """Makes a folder of uploads with two files of each canonical result, as the bridge writes it."""
     folder = tmp_path / "uploads"
     (folder / "store").mkdir(parents=True)
-    opened = UploadTables(folder / "uploads.db")
-    with opened.transaction() as connection:
-        for line in lines_of(tables):
-            for place, name in enumerate(("out", "log")):
-                if line["status"] == "done":
-                    data = f"{name} of {line['workunit']}\n".encode()
-                    connection.execute(
-                        "INSERT INTO file VALUES (?, ?, ?, ?, ?)",
-                        (line["canonical"], place, name, len(data), content(folder, data)),
-                    )
-    opened.close()
+    put_files(folder, lines_of(tables))
     return folder

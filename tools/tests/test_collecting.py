@@ -7,11 +7,12 @@ from pathlib import Path
 from typing import Any
 
 import pytest
-from files_uploaded import files_below, spoil
+from files_uploaded import LATER, expected, files_below, put_files, opens_as_file, spoil
 from lives import life_of, stored_life
 from work_project import WorkProject
 
 from bsched_files import workunits
+from bsched_files.file_names import FIRST
 from bsched_files.workunits import Workunit
 from bsched_tools import results
 from bsched_tools.collecting import Collected, collect_files
@@ -95,6 +96,25 @@ def test_a_run_decides_each_workunit_once(
         assert ((to / "results.csv").read_text(), (to / "failed.csv").read_text()) == written_of(lines)
     wanted = {f"{line['workunit']}/{file['name']}" for line in lines for file in line.get("files", [])}
     assert wanted == {name for name in files_below(to) if "/" in name}
+
+
+@pytest.mark.parametrize("file", [FIRST, LATER])
+def test_the_files_of_a_later_file_are_collected(
+    project: Project,
+    tables: Path,
+    uploads: Path,
+    tmp_path: Path,
+    monkeypatch: pytest.MonkeyPatch,
+    file: int,
+) -> None:
+    """The results of two files have the same names in the tables. Folders and rows have those."""
+    lines, to = lines_by_results(tables, uploads), tmp_path / "out"
+    put_files(uploads, lines, LATER)
+    opens_as_file(monkeypatch, file)
+    found = collected(project, tables, to)
+    assert found.fresh == sum(line["status"] == "done" for line in lines)
+    assert files_below(to) == expected(lines, file)
+    assert ((to / "results.csv").read_text(), (to / "failed.csv").read_text()) == written_of(lines)
 
 
 def test_a_spoiled_file_has_no_row_and_comes_again(

@@ -2,7 +2,30 @@
 import json
 import re
 
+import pytest
 from made_project import MadeProject
+from stuck_lives import Life
+
+from bsched_files.faults import Fault
+from bsched_files.tables import opened
+from bsched_tools.jobs import workunit_lines
+
+UNITS = ["w", "w_1", "w_1_0"]  # with names that look like results of others
+
+
+def found_by(life: Life, file: int, name: str) -> str | None:
+    """Returns the workunit that a name finds in the tables of a file, or None."""
+    for unit in UNITS:
+        life.work(unit)
+    with opened(life.copy(), file=file) as tables:
+        try:
+            first, *_, last = workunit_lines(tables, name)
+        except Fault as fault:
+            assert str(fault) == f"{tables.path}: there is no workunit {name}"
+            return None
+    found = re.fullmatch("workunit (.+) of the application dock: open", first)
+    assert found is not None and last == f"{found[1]}_0: waits for a computer"
+    return found[1]
 
 
 # ---- Jobs and computers
@@ -42,6 +65,56 @@ def test_what_happened_to_a_workunit(made_project: MadeProject) -> None:
     assert output.startswith("computer 1 of User 1 (h): 0.000 credit\n") and "w1_0: client error" in output
     assert made_project.tools("job", "none")[0] == 1 and made_project.tools("host", 9)[0] == 1
     assert made_project.tools("host", 0)[0] == 64
+
+
+@pytest.mark.parametrize("file", [1, 12])
+@pytest.mark.parametrize(
+    "name, meant",
+    [
+        ("w", "w"),
+        ("w_0", "w"),
+        ("w_1", "w_1"),
+        ("w_1_0", "w_1_0"),
+        ("w_1_1", "w_1"),
+        ("w_1_0_0", "w_1_0"),
+        ("w_x", None),
+        ("x_0", None),
+        ("_0", None),
+        ("5", None),
+        ("", None),
+    ],
+)
+def test_a_workunit_by_its_name_in_the_tables(life: Life, file: int, name: str, meant: str | None) -> None:
+    assert found_by(life, file, name) == meant
+
+
+@pytest.mark.parametrize(
+    "name, meant",
+    [
+        ("w~12", "w"),
+        ("w~12_0", "w"),
+        ("w~12_1", "w"),  # and not the workunit w_1
+        ("w_1~12", "w_1"),
+        ("w_1~12_0", "w_1"),
+        ("w_1_0~12", "w_1_0"),
+        ("x~12", None),
+        ("w~13", None),
+        ("w~13_0", None),
+        ("w_1~2", None),
+        ("w_1~2_0", None),
+        ("w~1", None),
+        ("w~1_0", None),
+        ("w~012_0", None),
+        ("w~12_00", None),
+        ("w~12_0_0", None),  # an output file
+        ("w~12_", None),
+        ("~12_0", None),
+        ("w~12~12", None),
+    ],
+)
+def test_a_workunit_of_a_later_file_by_its_name_for_clients(life: Life, name: str, meant: str | None) -> None:
+    assert found_by(life, 12, name) == meant
+    assert found_by(life, 1, name) is None
 
 
 # ---- A project's folder

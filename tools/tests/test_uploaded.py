@@ -9,12 +9,14 @@ from pathlib import Path
 from typing import Any
 
 import pytest
-from files_uploaded import content, content_of, expected, files_below, spoil
+from files_uploaded import LATER, content, content_of, expected, files_below, put_files, opens_as_file, spoil
 from results_read import lines_of, rows_of
 from small_project import tools
 
 from bsched_files.faults import Fault
-from bsched_files.workunits import Workunit
+from bsched_files.file_names import FIRST, MARK
+from bsched_files.tables import opened
+from bsched_files.workunits import Workunit, decided
 from bsched_tools import uploaded
 from bsched_tools.placing import OutputFolder
 from bsched_tools.projects import Project
@@ -36,6 +38,40 @@ def test_the_files_are_named_in_both_forms(tables: Path, uploads: Path) -> None:
     named = {row["workunit"]: json.loads(row["files"]) for row in rows_of(tables, uploads=uploads)}
     assert named == {line["workunit"]: line.get("files", []) for line in lines}
     assert "files" not in rows_of(tables)[0] and "files" not in lines_of(tables)[0]
+
+
+@pytest.mark.parametrize("file", [FIRST, LATER])
+@pytest.mark.parametrize("as_lines", [True, False])
+def test_results_of_two_files_have_their_own_uploads(
+    tables: Path, uploads: Path, tmp_path: Path, monkeypatch: pytest.MonkeyPatch, file: int, as_lines: bool
+) -> None:
+    """They have the same names in the tables, and all that is written has those."""
+    target = tmp_path / "files"
+    target.mkdir()
+    lines = lines_of(tables)
+    put_files(uploads, lines, LATER)
+    opens_as_file(monkeypatch, file)
+    read = lines_of if as_lines else rows_of
+    found = read(tables, uploads=uploads, files_to=target)
+    assert files_below(target) == expected(lines, file)
+    assert MARK not in json.dumps([{**line, "files": None} for line in found])
+    assert {line["workunit"] for line in found} == {line["workunit"] for line in lines}
+
+
+def test_results_of_a_file_without_uploads_name_none(
+    tables: Path, uploads: Path, monkeypatch: pytest.MonkeyPatch
+) -> None:
+    """Those of the first file are not theirs."""
+    opens_as_file(monkeypatch, LATER)
+    assert {str(line.get("files", [])) for line in lines_of(tables, uploads=uploads)} == {"[]"}
+
+
+def test_a_workunit_has_the_number_of_its_file(tables: Path) -> None:
+    for file in (FIRST, LATER):
+        with opened(tables, file=file) as one:
+            units = list(decided(one))
+        assert {unit.file for unit in units} == {file}
+        assert len({unit.reason is None for unit in units}) == 2  # some are done, and some failed
 
 
 SPOILED = {

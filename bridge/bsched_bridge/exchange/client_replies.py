@@ -9,11 +9,11 @@ from collections.abc import Callable
 from dataclasses import dataclass
 from functools import partial
 
+from bsched_files.file_names import plain_workunit
 from bsched_files.texts import credit_number
 
 from ..catalogue.contents import App, Catalogue, DownloadFile, MissingFile, Version, Work
 from ..catalogue.output_files import upload_name
-from ..common.file_names import plain_workunit
 from ..common.languages import ENGLISH, LANGUAGES, Language, Text, gettext_lazy, gettext_noop
 from ..people.recent_credit import Recent
 from ..requests.client_requests import ClientRequest

@@ -2,7 +2,8 @@
 import json
 from dataclasses import replace
 
-from ..common.file_names import FIRST, is_result_of, plain_result
+from bsched_files.file_names import FIRST, is_result_of, plain_result
+
 from .client_requests import ClientRequest, Report
 
 MOST_BYTES = 262_144

@@ -10,9 +10,9 @@ from operator import itemgetter
 from typing import Any, NoReturn
 
 from bsched_files.counts import NO_HOST
+from bsched_files.file_names import FIRST, result_in_file, workunit_in_file
 from bsched_files.project_settings import Address
 
-from ..common.file_names import FIRST, result_in_file, workunit_in_file
 from .connection import FaultyAnswer, exchanged, message_of
 
 ATTEMPTS = 3

@@ -16,6 +16,7 @@ from collections.abc import Iterable, Set
 from dataclasses import dataclass, field
 from typing import TypeVar
 
+from bsched_files.file_names import FIRST, result_in_file, workunit_in_file, workunit_of_result
 from bsched_files.moments import DAY
 
 from .store import UploadStore
@@ -30,19 +31,24 @@ Item = TypeVar("Item")
 
 @dataclass(slots=True)
 class Decisions:
-    """The workunits that are done or have failed, by copies of the tables."""
+    """The workunits that are done or have failed, by copies of the tables. The names are those by which
+    clients know them, as in the uploads.
+    """
 
     canonical: dict[str, str | None] = field(default_factory=dict)  # the name of each one's canonical result
     contents: set[str] = field(default_factory=set)  # the SHA-256 that canonical outputs name
 
-    def add(self, workunit: str, canonical: str | None, output: str | None) -> None:
-        """Adds a workunit with the name and the output of its canonical result."""
-        self.canonical[workunit] = canonical
+    def add(self, workunit: str, canonical: str | None, output: str | None, file: int = FIRST) -> None:
+        """Adds a workunit of a file with the name and the output of its canonical result. The names are those
+        in the tables.
+        """
+        result = None if canonical is None else result_in_file(canonical, file)
+        self.canonical[workunit_in_file(workunit, file)] = result
         self.contents.update(DIGEST.findall(output or ""))
 
     def may_go(self, result: str) -> bool:
         """Returns whether a result can never become canonical."""
-        workunit = result.rpartition("_")[0]
+        workunit = workunit_of_result(result)
         return workunit in self.canonical and self.canonical[workunit] != result
 
 

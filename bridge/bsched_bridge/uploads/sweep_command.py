@@ -24,7 +24,7 @@ def decisions_in(paths: Iterable[Path]) -> Decisions:
         for path in paths:
             with opened(path) as tables:
                 for unit in decided(tables):
-                    decisions.add(unit.name, unit.canonical, unit.output)
+                    decisions.add(unit.name, unit.canonical, unit.output, unit.file)
     except Fault as fault:
         raise OperatorFault(path, None, str(fault)) from None
     return decisions

@@ -1,17 +1,23 @@
 """What the catalogue says about output files, and the output that bsched compares."""
 import hashlib
 import json
+import re
 import xml.etree.ElementTree as ElementTree
 from pathlib import Path
 
 import pytest
 from bridges import Bridge
+from hypothesis import given as each, strategies as st
 from messages import request
 from uploading import url_of
 from uploads_given import given
 
 from bsched_bridge.catalogue.contents import read_catalogue
+from bsched_bridge.catalogue.output_files import result_of, upload_name
+from bsched_bridge.uploads.messages import UPLOAD_URL
 from bsched_files.catalogue import OutputFile
+from bsched_files.file_names import FIRST, MOST_FILES, result_in_file
+from bsched_files.texts import WORD
 from bsched_files.toml_entries import OperatorFault
 from bsched_files.uploads import StoredOutput, compared_text
 
@@ -40,6 +46,22 @@ def test_a_reply_names_the_output_files(file_bridge: Bridge) -> None:
         [("file_name", "u1_0_0"), ("open_name", "out"), ("copy_file", "1")],
         [("file_name", "u1_0_1"), ("open_name", "log"), ("copy_file", "1"), ("optional", "1")],
     ]
+
+
+@each(
+    st.from_regex(WORD, fullmatch=True),
+    st.integers(0, 10**9),
+    st.integers(FIRST, MOST_FILES),
+    st.integers(0, 19),
+)
+def test_an_output_file_says_its_result(word: str, number: int, file: int, place: int) -> None:
+    """Its name is also the same in a URL, unescaped."""
+    result = result_in_file(f"{word}_{number}", file)
+    name = upload_name(result, place)
+    assert result_of(name) == result
+    found = UPLOAD_URL.search(f"https://sums.example/file_upload_handler/{name}/{'0' * 32}")
+    assert found is not None and found[1] == name
+    assert re.fullmatch(r"[A-Za-z0-9._~+-]+", name)
 
 
 def test_a_name_that_the_client_would_refuse(file_bridge: Bridge) -> None:

@@ -1,6 +1,7 @@
 """What the sweep deletes, and what it keeps."""
 import pytest
 from bridges import Bridge
+from hypothesis import given, strategies as st
 from messages import FIRST, jobs, request
 from sweeping import RIGHT, WRONG, later, ran
 from uploading import file_info, on_disk, report, sha256_of
@@ -9,7 +10,13 @@ from bsched_bridge.people.hosts import Key
 from bsched_bridge.requests.client_requests import read_request
 from bsched_bridge.uploads.sweep import Decisions, Swept, sweep
 from bsched_files.catalogue import OutputFile
+from bsched_files.file_names import FIRST as FIRST_FILE, result_in_file
 from bsched_files.moments import DAY
+
+FILE = 12  # a later file of the project
+FILES = st.sampled_from([FIRST_FILE, 2, FILE])
+WORKUNITS = st.sampled_from(["u1", "u1_0", "u", "1", "12_0"])  # with names that look like results of others
+NUMBERS = st.integers(0, 2)
 
 
 def stored(bridge: Bridge) -> set[bytes]:
@@ -59,6 +66,43 @@ def test_files_of_workunits_that_failed_go(file_bridge: Bridge) -> None:
     decisions.add("u1", None, None)
     assert sweep(file_bridge.store, later(file_bridge, 31), decisions) == Swept(0, 0, 2, 2, 12)
     assert on_disk(file_bridge.folder) == {}
+
+
+def test_a_later_file_has_its_own_decisions(file_bridge: Bridge) -> None:
+    """A workunit of another file may have the same name in the tables."""
+    file_bridge.application.scheduler.file = FILE
+    right, wrong = ran(file_bridge, "ann", RIGHT), ran(file_bridge, "bob", WRONG)
+    assert (right, wrong) == ("u1~12_0", "u1~12_1")
+    others = Decisions()
+    others.add("u1", "u1_1", None)
+    others.add("u1", None, None, 13)
+    assert sweep(file_bridge.store, later(file_bridge, 31), others) == Swept()
+    others.add("u1", "u1_0", None, FILE)
+    swept = sweep(file_bridge.store, later(file_bridge, 31), others)
+    assert swept == Swept(results=1, contents=1, nbytes=6)
+    assert stored(file_bridge) == {RIGHT}
+    assert file_bridge.store.stored_files(right) and not file_bridge.store.stored_files(wrong)
+
+
+def test_a_later_file_decides_nothing_about_the_first(file_bridge: Bridge) -> None:
+    ran(file_bridge, "ann", RIGHT)
+    decisions = Decisions()
+    decisions.add("u1", None, None, FILE)
+    assert sweep(file_bridge.store, later(file_bridge, 31), decisions) == Swept()
+    assert stored(file_bridge) == {RIGHT}
+
+
+@given(st.dictionaries(st.tuples(WORKUNITS, FILES), NUMBERS | st.none()), WORKUNITS, NUMBERS, FILES)
+def test_a_result_goes_by_the_decision_on_its_workunit(
+    decided: dict[tuple[str, int], int | None], workunit: str, number: int, file: int
+) -> None:
+    decisions = Decisions()
+    for (name, of_file), canonical in decided.items():
+        decisions.add(name, None if canonical is None else f"{name}_{canonical}", None, of_file)
+    one = workunit, file
+    assert decisions.may_go(result_in_file(f"{workunit}_{number}", file)) == (
+        one in decided and decided[one] != number
+    )
 
 
 def test_uploads_and_jobs_that_nobody_reports_go(file_bridge: Bridge) -> None:

@@ -66,6 +66,11 @@ def split_result(name: str) -> FileName | None:
     return FileName(found[1] + found[3], int(found[2]))
 
 
+def workunit_of_result(name: str) -> str:
+    """Returns the workunit of a result. Both have the names by which clients know them."""
+    return name.rpartition("_")[0]
+
+
 def is_result_of(name: str, file: int) -> bool:
     """Returns whether a client's name is that of a result of a file, as far as the name says."""
     if MARK not in name:

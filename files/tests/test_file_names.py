@@ -1,11 +1,8 @@
 """Tests the names by which clients know the workunits and results of a file."""
-import re
-
 import pytest
 from hypothesis import example, given, strategies as st
 
-from bsched_bridge.catalogue.output_files import result_of, upload_name
-from bsched_bridge.common.file_names import (
+from bsched_files.file_names import (
     FIRST,
     MARK,
     MOST_FILES,
@@ -17,8 +14,8 @@ from bsched_bridge.common.file_names import (
     split_result,
     split_workunit,
     workunit_in_file,
+    workunit_of_result,
 )
-from bsched_bridge.uploads.messages import UPLOAD_URL
 from bsched_files.texts import WORD, is_word
 
 WORDS = st.from_regex(WORD, fullmatch=True)
@@ -55,6 +52,7 @@ def test_what_went_out_comes_back(word: str, number: int, file: int) -> None:
     assert split_workunit(unit) == FileName(word, file) and plain_workunit(unit) == word
     assert split_result(result) == FileName(f"{word}_{number}", file)
     assert plain_result(result) == f"{word}_{number}"
+    assert workunit_of_result(result) == unit
     assert [one for one in (1, 2, 12, file, MOST_FILES) if is_result_of(result, one)][0] == file
 
 
@@ -133,14 +131,3 @@ def test_what_no_file_has_as_a_workunit(name: str) -> None:
 
 def test_no_word_has_the_mark() -> None:
     assert not is_word(f"w{MARK}2")
-
-
-@given(WORDS, NUMBERS, FILES, st.integers(0, 19))
-def test_an_output_file_says_its_result(word: str, number: int, file: int, place: int) -> None:
-    """Its name is also the same in a URL, unescaped."""
-    result = result_in_file(f"{word}_{number}", file)
-    name = upload_name(result, place)
-    assert result_of(name) == result
-    found = UPLOAD_URL.search(f"https://sums.example/file_upload_handler/{name}/{'0' * 32}")
-    assert found is not None and found[1] == name
-    assert re.fullmatch(r"[A-Za-z0-9._~+-]+", name)
