@@ -19,7 +19,7 @@ NOTHING_PROVED = "the plain twin in Python. NOTHING IS PROVED OF IT: it is not b
 NO_PROGRAM = """\
 there is no built program, and no kit (the command rt) that proves and builds it. Run one of
   ./run --program FILE   with a bsched that you have, such as /usr/bin/bsched of the package
-  ./run --twin           to see the same over a plain scheduler in Python, of which nothing is proved"""
+  ./run --twin           to see the same over a plain scheduler in Python; nothing is proved of it"""
 
 
 @dataclass(frozen=True, slots=True)

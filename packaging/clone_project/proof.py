@@ -21,8 +21,8 @@ PROVED = "logic=proved "
 PAUSE_SECONDS = 60.0  # between two lines about one crate
 START = """\
 The program is proved and built by the kit, in about an hour on two cores. Ctrl-C stops it: the next ./run
-continues with the crate that was at its turn. `./run --twin` shows the same at once, over a plain scheduler
-of which nothing is proved. All that the kit says is in {log}."""
+continues with the crate that was at its turn. `./run --twin` shows the same at once, over a plain scheduler.
+Nothing is proved of that one. All that the kit says is in {log}."""
 
 
 class Crates:

@@ -350,7 +350,7 @@ class Run:
 
 @pytest.fixture
 def runs(tmp_path: Path) -> Iterator[list[Run]]:
-    """Yields a list of runs, all of which end."""
+    """Yields a list of runs. All of them are ended."""
     started = list[Run]()
     yield started
     for one in started:

@@ -12,7 +12,7 @@ from lives import life_of, stored_life
 from bsched_tools import start_times
 
 
-# the tables of which the doctor may name a row if a row of this table was changed or deleted: another table
+# if a row of this table was changed or deleted, the doctor may name a row of these tables: another table
 # refers to the row, or a count there is off
 NAMED = {
     "instance": ["instance", "unit", "host"],

@@ -56,8 +56,8 @@ def test_texts_have_enough_contrast(scheme: int) -> None:
     found = colours(scheme)
     assert set(found) == set(colours(0))
     for name in ("text", "soft", "link", "fault", "good"):
-        for behind in ("back", "panel"):
-            assert contrast(found[name], found[behind]) >= 4.5, (name, behind)
+        for ground in ("back", "panel"):
+            assert contrast(found[name], found[ground]) >= 4.5, (name, ground)
     assert contrast(found["on-accent"], found["accent"]) >= 4.5
     for name in ("gold", "silver", "bronze", "years"):
         assert contrast(found["on-badge"], found[name]) >= 4.5, name

@@ -112,7 +112,7 @@ FORGED_URLS: dict[str, Callable[[str], str]] = {
     "no name": lambda url: "/p/file_upload_handler/",
     "an empty name": lambda url: "/p/file_upload_handler//",
     "nothing": lambda url: "",
-    "the URL of an older bridge, of which no job is out": lambda url: "/p/file_upload_handler",
+    "the URL of an older bridge, whose jobs are all in": lambda url: "/p/file_upload_handler",
 }
 
 

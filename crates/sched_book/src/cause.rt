@@ -53,7 +53,11 @@ pub enum Invariant {
     NumberOfHost,
     StopsOfChoice,
     Growth,
+    GrowingUnit,
     LateInstance,
+    ScoredHost,
+    ChargesOfHost,
+    MeritsOfHost,
     JobsOfHost,
     SecondsSentAgain,
     GrantedInstance,
@@ -119,7 +123,13 @@ impl fmt::Display for Invariant {
                 "job_choice::offer_all: a choice stops once for each application at most",
             Invariant::Growth =>
                 "quorum_credit::push_growth: a workunit grows to at most 100 instances",
+            Invariant::GrowingUnit => "quorum_credit::add_growth: the workunit exists",
             Invariant::LateInstance => "quorum_credit::put_late: a host holds the late instance",
+            Invariant::ScoredHost => "quorum_credit::add_quota: the host of a score exists",
+            Invariant::ChargesOfHost =>
+                "quorum_credit::tally_with: the charges of a host fit 32 bits",
+            Invariant::MeritsOfHost =>
+                "quorum_credit::tally_with: the merits of a host fit 32 bits",
             Invariant::JobsOfHost => "sched_machine::held_now: the jobs of a host fit 32 bits",
             Invariant::SecondsSentAgain =>
                 "sched_machine::seconds_of: the seconds of jobs sent again fit 64 bits",
