@@ -4,10 +4,33 @@ import shutil
 import signal
 import subprocess
 import time
+from dataclasses import dataclass
 from pathlib import Path
 from typing import TypeAlias
 
-SUITES = {"bookworm": "Debian 12", "trixie": "Debian 13"}
+
+@dataclass(frozen=True, slots=True)
+class Suite:
+    """A release of Debian, or of a system that is made of Debian."""
+
+    title: str
+    mirror: str = "http://deb.debian.org/debian"
+    components: str = "main"
+    keyring: Path | None = None  # if it is not that of Debian
+
+
+# The next Debian gets a line here.
+DEBIANS = {"bookworm": Suite("Debian 12"), "trixie": Suite("Debian 13")}
+SUITES = {
+    **DEBIANS,
+    "noble": Suite(
+        "Ubuntu 24.04",
+        "http://archive.ubuntu.com/ubuntu",
+        "main,universe",
+        Path("/usr/share/keyrings/ubuntu-archive-keyring.gpg"),
+    ),
+}
+ROOT_SECONDS = 3600  # on a machine that is busy with other things
 BOOT_SECONDS = 120
 CLEAN = {
     "PATH": "/usr/sbin:/usr/bin:/sbin:/bin",
@@ -61,10 +84,15 @@ class Root:
         return set(self.run("dpkg-query --show --showformat='${Package}\\n'").split())
 
 
-def new_root(path: Path, suite: str, mirror: str, extra: str) -> Root:
-    """Makes the folder of a clean Debian, of one of the suites."""
-    options = ["--quiet", "--variant=apt", f"--include={extra}"]
-    run(["mmdebstrap", *options, suite, str(path), mirror], 900)
+def new_root(path: Path, name: str, mirror: str | None, extra: str) -> Root:
+    """Makes the folder of a clean Debian, of one of the suites, from a mirror or from the usual one."""
+    suite = SUITES[name]
+    options = ["--quiet", "--variant=apt", f"--include={extra}", f"--components={suite.components}"]
+    if suite.keyring is not None:
+        if not suite.keyring.exists():
+            raise TrialFault(f"{suite.title} needs the keys of its archive in {suite.keyring}")
+        options.append(f"--keyring={suite.keyring}")
+    run(["mmdebstrap", *options, name, str(path), mirror or suite.mirror], ROOT_SECONDS)
     shutil.copy("/etc/resolv.conf", path / "etc" / "resolv.conf")
     return Root(path)
 
