@@ -199,7 +199,7 @@ class Trial:
         newest, former = self.work / "newest.db", self.work / "former.db"
         for path in folder.glob("project.db*"):
             shutil.move(path, self.work / path.name.replace("project", "newest"))
-        plain_tables.make_former(former, newest)
+        plain_tables.make_former(former, str(newest))
         wants(schema_of(former) == 1, "the former tables have another schema")
         shutil.move(former, folder / "project.db")
         shutil.chown(folder / "project.db", USER, USER)
