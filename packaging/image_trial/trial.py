@@ -35,6 +35,7 @@ class Trial:
 
     def __init__(self, podman: Podman, page: Page, work: Path, seen: Callable[[str], None]):
         self.podman, self.page, self.work, self.seen = podman, page, work, seen
+        self.tables = work / "tables"
         self.client = Client("client", "", URL, work, free_port())
 
     def run(self) -> None:
@@ -196,9 +197,9 @@ class Trial:
     def lay_former_tables(self) -> None:
         """Puts the same rows into tables of the first schema, while the container is stopped."""
         folder = self.podman.volume() / PROJECT
-        newest, former = self.work / "newest.db", self.work / "former.db"
+        newest, former = self.tables / "newest.db", self.tables / "former.db"
         for path in folder.glob("project.db*"):
-            shutil.move(path, self.work / path.name.replace("project", "newest"))
+            shutil.move(path, self.tables / path.name.replace("project", "newest"))
         plain_tables.make_former(former, str(newest))
         wants(schema_of(former) == 1, "the former tables have another schema")
         shutil.move(former, folder / "project.db")
@@ -209,7 +210,7 @@ class Trial:
         """Checks that the tables were upgraded, and that the folder before-upgrade has the former ones."""
         said = self.podman.inside(f"journalctl --no-pager --output=cat --unit=bsched@{PROJECT}")
         wants("schema 3" in said.splitlines(), f"the upgrade says {said[-3000:]!r}")
-        kept = self.work / "kept"
+        kept = self.tables / "kept"
         shutil.copytree(self.podman.volume() / PROJECT / "before-upgrade", kept)
         wants(schema_of(kept / "project.db") == 1, "before-upgrade has no tables of schema 1")
         wants((kept / "bridge.db").exists(), "before-upgrade has no state of the bridge")
