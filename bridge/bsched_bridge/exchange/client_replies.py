@@ -43,6 +43,8 @@ NO_JOBS = {
 ACCOUNT = gettext_noop("Your account"), gettext_noop("Your computers, credit and settings"), "account"
 STATUS = gettext_noop("Project status"), gettext_noop("Work, users and computers of the project"), "status"
 
+FEED, FEED_SECONDS = "notices.rss", 86_400  # of the news; after so long a client reads it again
+
 log = logging.getLogger(__name__)
 
 
@@ -89,6 +91,17 @@ def buttons_of(url: str, has_accounts: bool, language: Language) -> list[str]:
     return xml.inner_lines()
 
 
+def feeds_of(url: str) -> list[str]:
+    """Returns the lines that name the feed of the news, which the client reads for the Manager. A client that
+    has the feed keeps it if a later reply does not name it.
+    """
+    xml = XmlLines("scheduler_reply")
+    with xml.inside("rss_feeds"), xml.inside("rss_feed"):
+        xml.add("url", f"{url}{FEED}")
+        xml.add("poll_interval", FEED_SECONDS)
+    return xml.inner_lines()
+
+
 class ReplyWriter:
     """Writes the replies of a project."""
 
@@ -99,10 +112,12 @@ class ReplyWriter:
         url: str,
         tokens: UploadTokens | None = None,
         has_accounts: bool = False,
+        has_news: Callable[[], bool] = lambda: False,
     ) -> None:
         self.url, self.tokens = url, tokens
         self._head = head_of(name, url)
         self._buttons = {tag: buttons_of(url, has_accounts, one) for tag, one in LANGUAGES.items()}
+        self._feeds, self._has_news = feeds_of(url), has_news
         self._set_catalogue(catalogue)
 
     def _set_catalogue(self, catalogue: Catalogue) -> None:
@@ -184,6 +199,8 @@ class ReplyWriter:
             preferences.add_to(xml, self.url, request.preferences_time)
         self._add_key(xml, request.code_sign_key, language)
         xml.add_lines(self._buttons[language.tag])
+        if self._has_news():
+            xml.add_lines(self._feeds)
         self._add_jobs(xml, request, reply.results, language)
         if request.work_req_seconds and not reply.results:
             message = NO_JOBS.get(reply.end_word, NO_JOBS["no_eligible_work"])
