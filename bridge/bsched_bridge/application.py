@@ -187,6 +187,7 @@ class Application:
             Route("lookup_account.php", messages.look_up, ("GET",)),
             Route("create_account.php", messages.create, ("GET",)),
             Route("status", self.pages.status),
+            Route("help", self.pages.help),
             Route("news", news.all),
             Route("news/<number:number>", news.one),
             Route(ATOM, feeds.atom),
@@ -224,6 +225,7 @@ class Application:
         teams = TeamPages(self.templates, self.teams, self.directory)
         return [
             Route("teams", teams.list),
+            Route("computer/<number:number>/team", self.volunteers.team_of),
             Route("team/<number:number>", teams.team),
             Route("account_team", people.team, ("POST",)),
             Route("account_preferences", people.change_preferences, ("POST",)),

@@ -138,6 +138,10 @@ class Pages:
             result_words=RESULT_WORDS,
         )
 
+    def help(self, message: Request) -> Response:
+        """Returns the page with answers to what volunteers ask."""
+        return self.templates.page("help.html", language=language_of(message), contact=self.settings.contact)
+
     def not_found(self, message: Request) -> Response:
         """Returns the page for a URL of the project that does not exist."""
         return self.templates.page("not_found.html", language=language_of(message), http_status=404)

@@ -26,7 +26,7 @@ def titles(page: Page, tag: str) -> list[str]:
 
 def test_a_project_without_news(bridge: Bridge) -> None:
     page = page_of(bridge.got("/p/"))
-    assert page.header == ["", "status", "users", "computers"] and "news" not in page.text.lower()
+    assert page.header == ["", "status", "users", "computers", "help"] and "news" not in page.text.lower()
     assert "There is no news at the moment." in page_of(bridge.got("/p/news")).text
     assert bridge.got("/p/news/1")[0] == "404 Not Found"
 
@@ -37,7 +37,7 @@ def test_the_newest_is_on_the_first_page(project: Path, bridge: Bridge) -> None:
             project, number, f"Title <{number}>", f"2024-10-0{number}", f"First {number}.\n\nSecond {number}."
         )
     page = page_of(bridge.got("/p/"))
-    assert page.header == ["", "news", "status", "users", "computers"]
+    assert page.header == ["", "news", "status", "users", "computers", "help"]
     assert titles(page, "a") == ["/p/news/5", "/p/news/4", "/p/news/3"]
     assert "Title <5>" in page.text and "2024-10-05" in page.text
     assert "First 5." in page.text and "Second 5." not in page.text
