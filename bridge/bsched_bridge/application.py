@@ -37,6 +37,8 @@ from .operator.metrics import Metrics
 from .operator.overview import Overviews
 from .operator.state import OperatorState
 from .pages.account_pages import AccountPages
+from .pages.feeds import ATOM, CLIENT, RSS, Feeds
+from .pages.news import News, NewsPages
 from .pages.pictures import Pictures
 from .pages.project_pages import Pages
 from .pages.statements import Statements
@@ -131,8 +133,14 @@ class Application:
             measured.held_back,
         )
         tokens = None if store is None else UploadTokens(store.secret)
+        self.news = News(settings.news)
         self.writer = ReplyWriter(
-            current(), settings.name, settings.url, tokens, has_accounts=self.accounts is not None
+            current(),
+            settings.name,
+            settings.url,
+            tokens,
+            has_accounts=self.accounts is not None,
+            has_news=self.news.is_used,
         )
         self.vain = VainCalls(lambda: self.rules().vain_seconds, settings.retry_delay)
         self.requests = SchedulerMessages(
@@ -148,9 +156,11 @@ class Application:
         self.statements = Statements(
             hosts, self.members, scheduler, key, counts_in(settings.counts), archives, recent
         )
-        self.templates = Templates(settings)
+        self.templates = Templates(settings, self.news.is_used)
         self.pictures = Pictures(settings)
-        self.pages = Pages(settings, self.templates, self.statements, self.pictures, self.directory)
+        self.pages = Pages(
+            settings, self.templates, self.statements, self.pictures, self.directory, self.news
+        )
         self.volunteers = VolunteerPages(
             settings, self.templates, self.directory, CreditDays(file), self.statements, self.teams
         )
@@ -169,6 +179,7 @@ class Application:
     def _routes(self) -> list[Route]:
         """Returns what answers at the URLs that each project has."""
         messages = AccountMessages(self.settings, self.accounts, self.scheduler, self.account_places)
+        news, feeds = NewsPages(self.templates, self.news), Feeds(self.settings, self.news)
         routes = [
             Route("", self.pages.project),
             Route("cgi", self.requests.answer, ("POST",), is_plain=True),
@@ -176,6 +187,12 @@ class Application:
             Route("lookup_account.php", messages.look_up, ("GET",)),
             Route("create_account.php", messages.create, ("GET",)),
             Route("status", self.pages.status),
+            Route("help", self.pages.help),
+            Route("news", news.all),
+            Route("news/<number:number>", news.one),
+            Route(ATOM, feeds.atom),
+            Route(RSS, feeds.rss),
+            Route(CLIENT, feeds.client),
             Route("users", self.volunteers.users),
             Route("user/<number:number>", self.volunteers.user),
             Route("computers", self.volunteers.computers),
@@ -208,6 +225,7 @@ class Application:
         teams = TeamPages(self.templates, self.teams, self.directory)
         return [
             Route("teams", teams.list),
+            Route("computer/<number:number>/team", self.volunteers.team_of),
             Route("team/<number:number>", teams.team),
             Route("account_team", people.team, ("POST",)),
             Route("account_preferences", people.change_preferences, ("POST",)),

@@ -10,10 +10,14 @@ from bsched_bridge.common.languages import ENGLISH, Language
 from bsched_bridge.exchange.answers import PutOff
 from bsched_bridge.exchange.client_replies import (
     ACCOUNT,
+    HELP,
     KEY_CHANGED,
     NO_JOBS,
     SCHEDULER_VERSION,
     STATUS,
+    TASKS,
+    TEAM,
+    Button,
     Files,
     NeededFile,
 )
@@ -44,7 +48,7 @@ class PlainReplies:
         has_accounts: bool = False,
     ) -> None:
         self.catalogue, self.name, self.url, self.tokens = catalogue, name, url, tokens
-        self.buttons = (ACCOUNT, STATUS) if has_accounts else (STATUS,)
+        self.has_accounts = has_accounts
 
     def _begun(self, delay: int) -> Element:
         """Returns what each reply begins with."""
@@ -98,7 +102,7 @@ class PlainReplies:
         if reply.preferences is not None:
             self._add_preferences(root, json.loads(reply.preferences), request.preferences_time)
         self._add_key(root, request.code_sign_key)
-        self._add_buttons(root)
+        self._add_buttons(root, request.hostid if hostid is None else hostid, reply.team_name)
         self._add_jobs(root, request, reply.results)
         if request.work_req_seconds and not reply.results:
             add_message(root, NO_JOBS.get(reply.end_word, NO_JOBS["no_eligible_work"]), "low")
@@ -123,14 +127,24 @@ class PlainReplies:
         elif has != "".join(self.catalogue.code_sign_key.split()):
             add_message(root, KEY_CHANGED, "notice")
 
-    def _add_buttons(self, root: Element) -> None:
+    def _add_buttons(self, root: Element, number: int, team: str | None) -> None:
         """Adds the pages for which the Manager shows buttons."""
         element = SubElement(root, "gui_urls")
-        for name, description, path in self.buttons:
-            button = SubElement(element, "gui_url")
-            add(button, "name", name)
-            add(button, "description", description)
-            add(button, "url", f"{self.url}{path}")
+        if self.has_accounts:
+            self._add_button(element, ACCOUNT, "account")
+        if number:
+            self._add_button(element, TASKS, f"computer/{number}")
+        if number and team is not None and self.has_accounts:
+            self._add_button(element, TEAM, f"computer/{number}/team")
+        self._add_button(element, STATUS, "status")
+        self._add_button(element, HELP, "help")
+
+    def _add_button(self, parent: Element, button: Button, path: str) -> None:
+        """Adds a button for a page."""
+        element = SubElement(parent, "gui_url")
+        add(element, "name", button.name)
+        add(element, "description", button.description)
+        add(element, "url", f"{self.url}{path}")
 
     # ---- Jobs
 

@@ -45,6 +45,9 @@ HOST = """\
 """
 KINDS = {
     "project": "",
+    "news": "news",
+    "news-item": "news/1",
+    "help": "help",
     "status": "status",
     "users": "users",
     "users-2": "users?page=2",
@@ -94,6 +97,9 @@ class BrowserTrial(Run):
         super().__init__(program, folder)
         self.out, self.key = out, ""
         (folder / "plots").mkdir()
+        (folder / "news").mkdir()
+        for number, title in enumerate(("We have begun", "The second batch <is> out & about"), 1):
+            (folder / "news" / f"{number}.txt").write_text(f"{title}\n2026-11-30\n\n{WELCOME}")
         files = {"welcome.txt": WELCOME, "terms.txt": "Be kind.\n", "picture.svg": PICTURE}
         for name, text in files.items():
             (folder / name).write_text(text)

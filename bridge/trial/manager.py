@@ -165,6 +165,12 @@ class Manager(Program):
             self.write(place, text)
         self.finish("account")
 
+    def show_notices(self) -> None:
+        """Shows the list of notices, by the key for the advanced view, which begins with it."""
+        self._do("search", "--onlyvisible", "--name", "BOINC", "windowfocus", "key", "ctrl+shift+a")
+        time.sleep(STILL_SECONDS)
+        self.screen.until_still()
+
     def finish(self, what: str) -> None:
         """Sends the page of the account, and ends the wizard."""
         self.page(4, what)

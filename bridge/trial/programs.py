@@ -185,6 +185,10 @@ class Client(Program):
         found = re.search(r"host_total_credit: (\S+)", output)
         return float(found[1]) if found else 0.0
 
+    def notices(self) -> str:
+        """Returns the notices that the client has for its Manager."""
+        return self.command("--get_notices", "0")
+
     def update(self) -> None:
         """Has the client call its project as soon as it can."""
         self.command("--project", self.url, "update")

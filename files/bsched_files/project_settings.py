@@ -11,6 +11,7 @@ from pathlib import Path
 from urllib.parse import urlsplit
 
 from .moments import DAY
+from .news import FOLDER as NEWS
 from .toml_entries import Entry, OperatorFile
 
 PROJECTS = Path("/var/lib/bsched")  # of bsched-project
@@ -102,6 +103,7 @@ class Settings:
     picture_text: str = ""  # the same for those who do not see it
     plots: Path | None = None  # the folder of plots that `bsched-tools report` makes
     health: Path | None = None  # a file with what `bsched-tools health` found last
+    news: Path = Path(NEWS)  # the folder of the news, which need not be there
     project: str | None = None  # the name of the project of bsched-project, if the file is in its folder
 
     @property
@@ -309,6 +311,7 @@ def read_settings(path: Path) -> Settings:
         picture_text=picture_text,
         plots=path.parent / file.text("plots") if file.has("plots") else None,
         health=path.parent / file.text("health") if file.has("health") else None,
+        news=path.parent / NEWS,
         project=project_of(path),
     )
     file.end()
@@ -345,6 +348,11 @@ class BridgeFile:
     def state(self) -> Path | None:
         """The state file."""
         return self.file.path.parent / self.file.text("state") if self.file.has("state") else None
+
+    @property
+    def news(self) -> Path:
+        """The folder of the news, which need not be there."""
+        return self.file.path.parent / NEWS
 
     @property
     def archives(self) -> tuple[Path, ...]:

@@ -33,6 +33,7 @@ health                          what answers, and what is old or nearly full
 answers, bridge_state           what answers over HTTP, and what the bridge says of itself
 comparing                       whether the bridge's files are what they should be, a part in each run
 pairs, replica                  which of two machines has a project, and whether both have its disk
+news                            news for volunteers: how it is added and withdrawn
 mailing                         mail about what changed in them
 command_line                    the arguments of the command line
 work_options, work_commands     the commands that make work: their arguments, and what they do

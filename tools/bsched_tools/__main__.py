@@ -15,6 +15,7 @@ from bsched_files.copies import copies_in
 from bsched_files.counts import NAME as COUNTS
 from bsched_files.faults import Fault
 from bsched_files.findings import Finding, Level, worst_of
+from bsched_files.news import read_news
 from bsched_files.tables import opened
 from bsched_files.texts import shown
 
@@ -32,7 +33,9 @@ from .import_files import KINDS, ImportFile, checked
 from .imports import import_file
 from .jobs import host_lines, workunit_lines
 from .mailing import mail_changes
+from .news import add_news, news_lines, withdraw_news
 from .process import hand_on
+from .project_access import check_member
 from .projects import PROGRAM, Project, project_of
 from .results import write_results
 from .start_times import rows_in, start_text
@@ -290,6 +293,23 @@ def health(args: Arguments) -> int:
     return worst_of(found)
 
 
+def news(args: Arguments) -> int:
+    """Shows, lists or withdraws news. Returns 1 if some can't be read."""
+    project = project_of(args.project)
+    check_member(project)
+    if args.action == "add":
+        print_lines(add_news(project, args.file, int(time.time())))
+    elif args.action == "withdraw":
+        print_lines(withdraw_news(project, args.number))
+    else:
+        found = read_news(project.news)
+        print_lines(news_lines(found.items, time.time()))
+        for fault in found.faults:
+            print(f"{NAME}: {shown(str(fault))}", file=sys.stderr)
+        return FAULT if found.faults else 0
+    return 0
+
+
 def read_imports(paths: Iterable[Path]) -> tuple[list[ImportFile], int]:
     """Reads and checks files. Returns those without a fault, and how many have one; prints each fault."""
     good: list[ImportFile] = []
@@ -342,6 +362,7 @@ COMMANDS: dict[str, Callable[[Arguments], int | None]] = {
     "statistics": statistics,
     "report": report,
     "health": health,
+    "news": news,
     "check": check,
     "import": load,
     **dict.fromkeys(WORK_COMMANDS, work),

@@ -111,6 +111,17 @@ def add_publishing(commands: "argparse._SubParsersAction[CommandLine]") -> None:
     who = statistics.add_mutually_exclusive_group()
     who.add_argument("--agreed", type=Path, metavar="FILE", help="the authenticators of users who agreed")
     who.add_argument("--everybody", action="store_true", help="names all users")
+    news = commands.add_parser("news", help="the news for volunteers, on pages, in feeds and in the Manager")
+    actions = news.add_subparsers(dest="action", metavar="ACTION", required=True)
+    add = actions.add_parser("add", help="shows a text to volunteers")
+    add.add_argument(
+        "file", type=Path, metavar="FILE", help="a line of title, maybe a line with a date, text"
+    )
+    listing = actions.add_parser("list", help="the news, the newest first, each with its number")
+    withdraw = actions.add_parser("withdraw", help="shows a text no more")
+    withdraw.add_argument("number", type=count, metavar="N", help="the number of the news")
+    for parser in (add, listing, withdraw):
+        add_project(parser)
     report = commands.add_parser("report", help="a page with tables and plots")
     add_copies(report, is_several=False)
     report.add_argument("--to", type=Path, metavar="DIR", help="the folder of the page")

@@ -58,9 +58,7 @@ def check_member(project: Project) -> None:
 @contextmanager
 def turn_of(project: Project) -> Iterator[None]:
     """Lets one command at a time change the files of a project's bridge."""
-    if not project.bridge_file.exists():
-        advice = f"make one by `bsched-project --add-bridge {project.name}`"
-        raise Fault(f"{project.folder}: the project has no bridge: {advice}")
+    project.check_bridge()
     with project.bridge_file.open() as file:
         try:
             fcntl.flock(file, fcntl.LOCK_EX | fcntl.LOCK_NB)

@@ -130,6 +130,18 @@ class Project:
         bridge = self.bridge
         return None if bridge is None else bridge.state
 
+    def check_bridge(self) -> None:
+        """Refuses a project that has no bridge."""
+        if not self.bridge_file.exists():
+            advice = f"make one by `bsched-project --add-bridge {self.name}`"
+            raise Fault(f"{self.folder}: the project has no bridge: {advice}")
+
+    @property
+    def news(self) -> Path:
+        """The folder of the news, which need not be there."""
+        self.check_bridge()
+        return BridgeFile(self.bridge_file).news
+
     @property
     def archives(self) -> list[Path]:
         """The earlier files of the project, which its bridge names."""

@@ -5,7 +5,7 @@ volunteers are in the language that the request asks for. The client acts on non
 """
 import copy
 import logging
-from collections.abc import Callable
+from collections.abc import Callable, Iterable
 from dataclasses import dataclass
 from functools import partial
 
@@ -39,9 +39,33 @@ NO_JOBS = {
     "no_eligible_work": gettext_noop("No tasks are available for this computer"),
 }
 
-# buttons of the Manager: a name, what it says on them, and a page
-ACCOUNT = gettext_noop("Your account"), gettext_noop("Your computers, credit and settings"), "account"
-STATUS = gettext_noop("Project status"), gettext_noop("Work, users and computers of the project"), "status"
+
+@dataclass(frozen=True, slots=True)
+class Button:
+    """A button of the Manager: its name, what it says of itself, and a page."""
+
+    name: str
+    description: str
+    path: str  # with {number} in place of the number of the client's computer
+
+
+ACCOUNT = Button(gettext_noop("Your account"), gettext_noop("Your computers, credit and settings"), "account")
+TASKS = Button(
+    gettext_noop("Your tasks"),
+    gettext_noop("The tasks of this computer, with their state, deadline and credit"),
+    "computer/{number}",
+)
+TEAM = Button(
+    gettext_noop("Your team"),
+    gettext_noop("The members of your team, and its credit"),
+    "computer/{number}/team",
+)
+STATUS = Button(
+    gettext_noop("Project status"), gettext_noop("Work, users and computers of the project"), "status"
+)
+HELP = Button(gettext_noop("Help"), gettext_noop("Answers to questions, and how to ask more"), "help")
+
+FEED, FEED_SECONDS = "notices.rss", 86_400  # of the news; after so long a client reads it again
 
 log = logging.getLogger(__name__)
 
@@ -77,15 +101,38 @@ def head_of(name: str, url: str) -> list[str]:
     return xml.inner_lines()
 
 
-def buttons_of(url: str, has_accounts: bool, language: Language) -> list[str]:
-    """Returns the lines of the pages for which the Manager shows buttons."""
+def buttons_of(has_accounts: bool, has_number: bool, has_team: bool) -> list[Button]:
+    """Returns the buttons that the Manager shows to a user. Each leads to a page that exists."""
+    buttons = {
+        ACCOUNT: has_accounts,
+        TASKS: has_number,
+        TEAM: has_accounts and has_number and has_team,
+        STATUS: True,
+        HELP: True,
+    }
+    return [button for button, has_page in buttons.items() if has_page]
+
+
+def button_lines(url: str, buttons: Iterable[Button], language: Language) -> str:
+    """Returns the lines of a reply that have some buttons."""
     xml = XmlLines("scheduler_reply")
     with xml.inside("gui_urls"):
-        for name, description, path in (ACCOUNT, STATUS) if has_accounts else (STATUS,):
+        for button in buttons:
             with xml.inside("gui_url"):
-                xml.add("name", language.text(name))
-                xml.add("description", language.text(description))
-                xml.add("url", f"{url}{path}")
+                xml.add("name", language.text(button.name))
+                xml.add("description", language.text(button.description))
+                xml.add("url", f"{url}{button.path}")
+    return "\n".join(xml.inner_lines())
+
+
+def feeds_of(url: str) -> list[str]:
+    """Returns the lines that name the feed of the news, which the client reads for the Manager. A client that
+    has the feed keeps it if a later reply does not name it.
+    """
+    xml = XmlLines("scheduler_reply")
+    with xml.inside("rss_feeds"), xml.inside("rss_feed"):
+        xml.add("url", f"{url}{FEED}")
+        xml.add("poll_interval", FEED_SECONDS)
     return xml.inner_lines()
 
 
@@ -99,10 +146,19 @@ class ReplyWriter:
         url: str,
         tokens: UploadTokens | None = None,
         has_accounts: bool = False,
+        has_news: Callable[[], bool] = lambda: False,
     ) -> None:
         self.url, self.tokens = url, tokens
         self._head = head_of(name, url)
-        self._buttons = {tag: buttons_of(url, has_accounts, one) for tag, one in LANGUAGES.items()}
+        self._buttons = {
+            (tag, has_number, has_team): button_lines(
+                url, buttons_of(has_accounts, has_number, has_team), one
+            )
+            for tag, one in LANGUAGES.items()
+            for has_number in (False, True)
+            for has_team in (False, True)
+        }
+        self._feeds, self._has_news = feeds_of(url), has_news
         self._set_catalogue(catalogue)
 
     def _set_catalogue(self, catalogue: Catalogue) -> None:
@@ -183,7 +239,11 @@ class ReplyWriter:
         if preferences is not None:
             preferences.add_to(xml, self.url, request.preferences_time)
         self._add_key(xml, request.code_sign_key, language)
-        xml.add_lines(self._buttons[language.tag])
+        number = request.hostid if hostid is None else hostid
+        buttons = self._buttons[language.tag, number > 0, reply.team_name is not None]
+        xml.add_lines([buttons.replace("{number}", str(number))])
+        if self._has_news():
+            xml.add_lines(self._feeds)
         self._add_jobs(xml, request, reply.results, language)
         if request.work_req_seconds and not reply.results:
             message = NO_JOBS.get(reply.end_word, NO_JOBS["no_eligible_work"])

@@ -9,6 +9,7 @@ from bsched_files.project_settings import Settings
 from ..common.languages import gettext_noop, language_of
 from ..common.texts import RESULT_WORDS
 from ..people.directory import Directory
+from .news import NEWEST, News
 from .pictures import Pictures
 from .statements import Statements
 from .templates import Templates
@@ -98,9 +99,10 @@ class Pages:
         statements: Statements,
         pictures: Pictures,
         directory: Directory,
+        news: News,
     ) -> None:
         self.settings, self.templates, self.statements = settings, templates, statements
-        self.pictures, self.directory = pictures, directory
+        self.pictures, self.directory, self.news = pictures, directory, news
 
     def project(self, message: Request) -> Response:
         """Returns the page at the master URL. The client reads the scheduler's URL there, in one of two
@@ -119,6 +121,7 @@ class Pages:
             unit_words=UNIT_WORDS,
             silent_since=self.statements.scheduler.silent_since,
             leaders=self.directory.users(0, LEADERS),
+            news=self.news.shown()[:NEWEST],
         )
 
     def status(self, message: Request) -> Response:
@@ -134,6 +137,10 @@ class Pages:
             count_of_hosts=self.directory.count_computers(),
             result_words=RESULT_WORDS,
         )
+
+    def help(self, message: Request) -> Response:
+        """Returns the page with answers to what volunteers ask."""
+        return self.templates.page("help.html", language=language_of(message), contact=self.settings.contact)
 
     def not_found(self, message: Request) -> Response:
         """Returns the page for a URL of the project that does not exist."""

@@ -5,6 +5,7 @@ What the operator writes, the names of users and teams, and HTTP's own phrases a
 """
 import hashlib
 import re
+from collections.abc import Callable
 from pathlib import Path
 
 from jinja2 import Environment, FileSystemLoader, StrictUndefined
@@ -106,7 +107,7 @@ def environment_of(language: Language) -> Environment:
 class Templates:
     """Makes the pages of a project."""
 
-    def __init__(self, settings: Settings) -> None:
+    def __init__(self, settings: Settings, has_news: Callable[[], bool]) -> None:
         self._style = (FOLDER / "style.css").read_bytes()
         self.style_name = f"style-{hash_of(self._style)}.css"
         self._environments = {tag: environment_of(language) for tag, language in LANGUAGES.items()}
@@ -118,6 +119,7 @@ class Templates:
                 style=self.style_name,
                 has_accounts=accounts is not None,
                 has_terms=accounts is not None and accounts.terms is not None,
+                has_news=has_news,
             )
 
     def compile(self) -> None:

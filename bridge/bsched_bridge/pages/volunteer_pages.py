@@ -6,7 +6,7 @@ from werkzeug.wrappers import Request, Response
 from bsched_files.project_settings import Settings
 
 from ..accounts.teams import Teams
-from ..common.http_messages import query_of
+from ..common.http_messages import TEXT, answer, query_of
 from ..common.languages import language_of
 from ..common.texts import RESULT_WORDS
 from ..people.credit_days import CreditDays
@@ -36,6 +36,7 @@ class VolunteerPages:
     ) -> None:
         self.templates, self.directory, self.days, self.statements = templates, directory, days, statements
         self.teams = teams
+        self._url = settings.url
         self._has_average = settings.averages is not None
 
     def _search(self, message: Request) -> str:
@@ -101,6 +102,14 @@ class VolunteerPages:
             chart=chart_of(self.days.of_member(number), language),
             computers=self.directory.computers_of(user, MOST_COMPUTERS),
         )
+
+    def team_of(self, message: Request, number: int) -> Response:
+        """Leads to the page of the team of a computer's user. A button of the Manager leads here."""
+        computer = self.directory.computer(number)
+        user = None if computer is None else self.directory.user(computer.user)
+        if user is None or user.team is None:
+            return self.templates.page("not_found.html", language=language_of(message), http_status=404)
+        return answer(TEXT, b"", {"Location": f"{self._url}team/{user.team}"}, 303)
 
     def computer(self, message: Request, number: int) -> Response:
         """Returns the page of a computer."""

@@ -5,8 +5,11 @@ from pathlib import Path
 from typing import Any
 
 from bridges import Bridge
-from messages import request
+from messages import FIRST, request
 from pages_seen import Page, page_of
+
+
+URL = "http://127.0.0.1:8081/p/"
 
 
 def test_the_master_page_has_both_forms(bridge: Bridge) -> None:
@@ -17,20 +20,51 @@ def test_the_master_page_has_both_forms(bridge: Bridge) -> None:
     assert '<link rel="boinc_scheduler" href="http://127.0.0.1:8081/p/cgi">' in lines
 
 
+def buttons_of(bridge: Bridge, seqno: int = 0, language: str = "en") -> dict[str, str]:
+    """Calls, and returns the paths of the Manager's buttons, by their names. Each leads to a page."""
+    hostid = FIRST if seqno else 0
+    body = request(hostid=hostid, seqno=seqno).encode()
+    _, _, reply = bridge.got("/p/cgi", "POST", body, HTTP_ACCEPT_LANGUAGE=language)
+    buttons = ElementTree.fromstring(reply).findall("gui_urls/gui_url")
+    paths = {}
+    for button in buttons:
+        url = button.findtext("url") or ""
+        assert url.startswith(URL) and button.findtext("description")
+        path = url.removeprefix(URL)
+        assert bridge.got(f"/p/{path}")[0] in ("200 OK", "303 See Other")
+        paths[button.findtext("name") or ""] = path
+    return paths
+
+
 def test_the_manager_gets_buttons(bridge: Bridge) -> None:
-    buttons = ElementTree.fromstring(bridge.call(request())).findall("gui_urls/gui_url")
-    assert [button.findtext("url") for button in buttons] == ["http://127.0.0.1:8081/p/status"]
-    assert bridge.got("/p/status")[0] == "200 OK"
+    assert buttons_of(bridge) == {
+        "Your tasks": f"computer/{FIRST}",
+        "Project status": "status",
+        "Help": "help",
+    }
 
 
 def test_the_manager_gets_a_button_for_the_account(open_bridge: Bridge) -> None:
-    buttons = ElementTree.fromstring(open_bridge.call(request())).findall("gui_urls/gui_url")
-    assert [(button.findtext("name"), button.findtext("url")) for button in buttons] == [
-        ("Your account", "http://127.0.0.1:8081/p/account"),
-        ("Project status", "http://127.0.0.1:8081/p/status"),
-    ]
-    assert all(button.findtext("description") for button in buttons)
-    assert open_bridge.got("/p/account")[0] == "200 OK"
+    assert list(buttons_of(open_bridge)) == ["Your account", "Your tasks", "Project status", "Help"]
+    text = "Ihr Konto", "Ihre Aufgaben", "Stand des Projekts", "Hilfe"
+    assert tuple(buttons_of(open_bridge, seqno=1, language="de")) == text
+
+
+def test_the_manager_gets_a_button_for_the_team(open_bridge: Bridge) -> None:
+    """It leads to the team that the user has at that time."""
+    buttons_of(open_bridge)
+    member = open_bridge.application.members.of_key("ann-key")
+    assert member is not None
+    open_bridge.application.teams.make(member, "The Adders", 1)
+    buttons = buttons_of(open_bridge, seqno=1)
+    assert list(buttons) == ["Your account", "Your tasks", "Your team", "Project status", "Help"]
+    status, fields, _ = open_bridge.got(f"/p/{buttons['Your team']}")
+    assert (status, fields["Location"]) == ("303 See Other", "http://127.0.0.1:8081/p/team/1")
+    assert "The Adders" in page_of(open_bridge.got("/p/team/1")).text
+    open_bridge.application.teams.leave(member)
+    assert open_bridge.got(f"/p/{buttons['Your team']}")[0] == "404 Not Found"
+    assert open_bridge.got("/p/computer/7/team")[0] == "404 Not Found"
+    assert "Your team" not in buttons_of(open_bridge, seqno=2)
 
 
 # ---- The project's page
@@ -113,7 +147,7 @@ def test_the_operators_own_words(project: Path, bridge: Bridge) -> None:
     bridge.restart()
     page = page_of(bridge.got("/p/"))
     assert "We add <numbers>." in page.text and "account key" in page.text
-    assert page.header == ["", "status", "users", "computers"]
+    assert page.header == ["", "status", "users", "computers", "help"]
     assert "Install BOINC" in page.text and page.links == ["https://boinc.berkeley.edu/download.php"]
     lines = bridge.got("/p/")[2].decode().split("\n")
     assert "<scheduler>http://127.0.0.1:8081/p/cgi</scheduler>" in lines
@@ -124,7 +158,7 @@ def test_how_to_join(project: Path, open_bridge: Bridge) -> None:
     page = page_of(open_bridge.got("/p/"))
     assert "No, new user" in page.text and "http://127.0.0.1:8081/p/" in page.text
     assert page.links == ["https://boinc.berkeley.edu/download.php", "account"]
-    assert page.header == ["", "status", "users", "computers", "teams", "account"]
+    assert page.header == ["", "status", "users", "computers", "teams", "account", "help"]
     (project / "terms.txt").write_text("Be kind.\n")
     with (project / "bridge.toml").open("a") as file:
         file.write('terms = "terms.txt"\n')
@@ -132,3 +166,28 @@ def test_how_to_join(project: Path, open_bridge: Bridge) -> None:
     page = page_of(open_bridge.got("/p/"))
     assert page.links[1:] == ["terms", "account"] and page.header[-1] == "terms"
     assert "Be kind." in page_of(open_bridge.got("/p/terms")).text
+
+
+# ---- Help
+
+
+def test_help(project: Path, bridge: Bridge) -> None:
+    page = page_of(bridge.got("/p/help"))
+    assert "same account key" in page.text and "Ask the project's operator" not in page.text
+    assert page.links == ["status", "https://boinc.berkeley.edu/"]
+    (project / "bridge.toml").write_text(
+        'contact = "help@sums.example"\n' + (project / "bridge.toml").read_text()
+    )
+    bridge.restart()
+    page = page_of(bridge.got("/p/help"))
+    assert "Ask the project's operator: help@sums.example" in page.text
+    assert "mailto:help@sums.example" in page.links
+
+
+def test_help_with_accounts(open_bridge: Bridge) -> None:
+    page = page_of(open_bridge.got("/p/help"))
+    assert page.links[1:-1] == ["get_passwd.php", "account", "delete_account.php"]
+    assert "same e-mail address and password" in page.text
+    for path in page.links[:-1]:
+        assert open_bridge.got(f"/p/{path}")[0] == "200 OK"
+    assert "Wann bekomme ich Guthaben?" in page_of(open_bridge.got("/p/help", HTTP_ACCEPT_LANGUAGE="de")).text
