@@ -90,7 +90,7 @@ def test_a_usual_call_takes_one_transaction(bridge: Bridge, events: Callable[...
     """
     bridge.call(request())
     bridge.call(request(hostid=FIRST, listed=["u1_0"], seconds=0))
-    bridge.file.write_waiting()
+    bridge.states.flush()
     seen = events(bridge)
     bridge.call(request(hostid=FIRST, listed=[], reports=[("u1_0", "42")]))
     assert kinds(seen) == CALL
@@ -119,7 +119,7 @@ def test_another_credit_takes_three_statements(bridge: Bridge, events: Callable[
             connection.execute(f"UPDATE {table} SET credit = 1")
     seen = events(bridge)
     bridge.call(request(hostid=FIRST))
-    bridge.file.write_waiting()
+    bridge.states.flush()
     assert kinds(seen) == [*CALL, "BEGIN", "SELECT", "UPDATE", "INSERT", "INSERT", "UPDATE", "COMMIT"]
     assert bridge.file.row("SELECT count(*) FROM member_day WHERE credit = 1") == (0,)
 
@@ -132,5 +132,5 @@ def test_the_first_call_of_a_day_forgets_days(bridge: Bridge, events: Callable[.
             connection.execute(f"UPDATE {table} SET day = day - 1")
     seen = events(bridge)
     bridge.call(request(hostid=FIRST))
-    bridge.file.write_waiting()
+    bridge.states.flush()
     assert kinds(seen) == [*CALL, "BEGIN", "SELECT", *["INSERT", "DELETE"] * 2, "UPDATE", "COMMIT"]

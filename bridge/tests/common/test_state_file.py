@@ -1,20 +1,16 @@
 """The state file: only one bridge has it, older formats are upgraded, and other files are refused."""
-import itertools
 import os
 import re
 import sqlite3
-import threading
-import time
-from collections.abc import Callable
 from pathlib import Path
 from typing import cast
 
 import pytest
 from bridges import Bridge
-from joining import create, wait_until
+from joining import create
 
-from bsched_bridge.common.state_file import StateFault, StateFile, WaitingWrites
-from bsched_bridge.exchange.call_numbers import CallNumbers
+from bsched_bridge.common.state_file import StateFault, StateFile
+from bsched_bridge.exchange.host_states import HostStates
 from bsched_bridge.people.directory import Directory
 from bsched_bridge.people.hosts import Hosts, Key
 from bsched_bridge.people.members import Members
@@ -184,9 +180,9 @@ def test_one_bridge_has_the_file_by_any_name(tmp_path: Path) -> None:
 def test_a_spoiled_file_is_told_at_the_start(tmp_path: Path) -> None:
     path = tmp_path / "state.db"
     file = StateFile(path)
-    numbers = CallNumbers(file)
+    states = HostStates(file)
     for number in range(60):
-        numbers.open(Key("ann-key", f"c{number}"), lambda number: b"x" * 2000)
+        states.open(states.begin(Key("ann-key", f"c{number}")), lambda number: b"x" * 2000)
     file.close()
     good = path.read_bytes()
     size = int.from_bytes(good[16:18], "big")
@@ -206,20 +202,11 @@ def test_a_spoiled_file_is_told_at_the_start(tmp_path: Path) -> None:
     StateFile(path).close()
 
 
-def last_hostid(number: int) -> Callable[[sqlite3.Connection], None]:
-    """Returns a write."""
-
-    def write(connection: sqlite3.Connection) -> None:
-        connection.execute("UPDATE numbers SET last_hostid = ?", (number,))
-
-    return write
-
-
 READ = "SELECT last_hostid FROM numbers"
 
 
 def stored(path: Path) -> int:
-    """Returns what such a write has stored, as another process sees it."""
+    """Returns a number in the file, as another process sees it."""
     file = StateFile(path, is_guest=True)
     try:
         return cast(int, file.rows(READ)[0][0])
@@ -227,133 +214,41 @@ def stored(path: Path) -> int:
         file.close()
 
 
-def test_a_write_that_is_put_off(tmp_path: Path) -> None:
-    """It is done before somebody reads, in the next transaction, or at the end."""
+def test_what_somebody_keeps_in_memory_is_written_before_others_use_the_file(tmp_path: Path) -> None:
     path = tmp_path / "state.db"
     file = StateFile(path)
-    file.put_off("a", last_hostid(1))
-    assert stored(path) == 100_000 and file.waiting("a") is not None
-    assert file.row(READ) == (1,) and file.waiting("a") is None
-    file.put_off("a", last_hostid(2))
-    assert file.looked(READ) == [(2,)]
-    file.put_off("a", last_hostid(3))
+    written = 0
+
+    def write() -> None:
+        nonlocal written
+        written += 1
+        with file.transaction(flushes=False) as connection:
+            connection.execute("UPDATE numbers SET last_hostid = ?", (written,))
+
+    file.before_use = write
+    assert file.rows(READ, flushes=False) == [(100_000,)]
+    assert file.row(READ) == (1,) and file.looked(READ) == [(2,)] and stored(path) == 2
     with file.transaction() as connection:
-        assert connection.execute(READ).fetchone() == (3,) and file.waiting("a") is not None
-    assert stored(path) == 3 and file.waiting("a") is None
-    file.put_off("a", last_hostid(4))
-    file.put_off("b", last_hostid(5))
-    assert file.stored_row(READ) == (3,)
-    with file.transaction(only="a") as connection:
-        assert connection.execute(READ).fetchone() == (4,)
-    assert file.waiting("a") is None and file.waiting("b") is not None
-    with file.transaction(only="a"):
-        pass
-    assert stored(path) == 4
+        assert connection.execute(READ).fetchone() == (3,)
     file.backup(tmp_path / "copy.db")
-    assert contents(tmp_path / "copy.db") == contents(path)
-    file.put_off("a", last_hostid(6))
+    assert stored(path) == 4 and contents(tmp_path / "copy.db") == contents(path)
     file.close()
-    assert stored(path) == 6
-
-
-def test_only_so_many_writes_are_put_off(tmp_path: Path, monkeypatch: pytest.MonkeyPatch) -> None:
-    monkeypatch.setattr("bsched_bridge.common.state_file.MOST_WAITING", 3)
-    file = StateFile(tmp_path / "state.db")
-    for number in range(1, 5):
-        assert file.stored_row(READ) == (100_000,)
-        file.put_off(number, last_hostid(number))
-    assert file.stored_row(READ) == (4,)
-    file.close()
-
-
-def test_a_write_that_is_put_off_waits_if_its_transaction_is_undone(tmp_path: Path) -> None:
-    file = StateFile(tmp_path / "state.db")
-    file.put_off("a", last_hostid(1))
-    with pytest.raises(ZeroDivisionError), file.transaction():
-        raise ZeroDivisionError
-    assert file.waiting("a") is not None and stored(tmp_path / "state.db") == 100_000
-    assert file.row(READ) == (1,)
-    file.close()
-
-
-def test_a_write_that_is_put_off_and_fails(tmp_path: Path, caplog: pytest.LogCaptureFixture) -> None:
-    """It is forgotten, and the next transaction is as good as ever."""
-    file = StateFile(tmp_path / "state.db")
-    for number, fails in ((1, True), (2, False)):
-        file.put_off("a", last_hostid(number))
-        if fails:
-            file.put_off("b", lambda connection: connection.execute("none"))  # type: ignore[arg-type]
-        assert file.row(READ) == (100_000 if fails else number,)
-        assert file.waiting("a") is file.waiting("b") is None
-    assert [record.getMessage() for record in caplog.records] == [
-        'what was put off could not be stored: near "none": syntax error'
-    ]
-    file.close()
-
-
-class SlowKey:
-    """A key whose hash is Python code, as that of a host's key is, so other threads may run meanwhile."""
-
-    def __init__(self) -> None:
-        self.meanwhile: Callable[[], None] = lambda: None
-
-    def __hash__(self) -> int:
-        self.meanwhile()
-        return 1
-
-
-@pytest.mark.parametrize("at", range(1, 6))
-def test_a_write_that_is_put_off_while_an_earlier_one_is_done(tmp_path: Path, at: int) -> None:
-    file, key, passed = StateFile(tmp_path / "state.db"), SlowKey(), itertools.count(1)
-    file.put_off(key, last_hostid(1))
-    other = threading.Thread(target=lambda: file.put_off(key, last_hostid(2)))
-
-    def meanwhile() -> None:
-        if threading.current_thread() is not other and next(passed) == at:
-            other.start()
-            other.join(0.1)
-
-    key.meanwhile = meanwhile
-    with file.transaction():
-        pass
-    key.meanwhile = lambda: None
-    if other.ident is None:  # there were fewer steps
-        other.start()
-    other.join()
-    assert file.row(READ) == (2,)
-    file.close()
+    assert stored(path) == 5
 
 
 def test_a_transaction_that_can_not_begin_leaves_none_open(tmp_path: Path) -> None:
-    file, key = StateFile(tmp_path / "state.db"), SlowKey()
-    file.put_off(key, last_hostid(1))
+    file = StateFile(tmp_path / "state.db")
 
     def fails() -> None:
         raise ZeroDivisionError
 
-    key.meanwhile = fails
-    with pytest.raises(ZeroDivisionError), file.transaction(only=key):
+    file.before_use = fails
+    with pytest.raises(ZeroDivisionError), file.transaction():
         pass
-    key.meanwhile = lambda: None
-    with file.transaction(is_synced=False):
+    with file.transaction(is_synced=False, flushes=False):
         pass
-    assert file.row(READ) == (1,)
-    file.close()
-
-
-def test_a_write_waits_for_a_second_at_most(tmp_path: Path, monkeypatch: pytest.MonkeyPatch) -> None:
-    monkeypatch.setattr("bsched_bridge.common.state_file.PUT_OFF_SECONDS", 0.01)
-    file = StateFile(tmp_path / "state.db")
-    writing = WaitingWrites(file)
-    writing.start()
-    file.put_off("a", last_hostid(1))
-    wait_until(lambda: file.waiting("a") is None)
-    assert stored(tmp_path / "state.db") == 1
-    monkeypatch.setattr("bsched_bridge.common.state_file.PUT_OFF_SECONDS", 600.0)
-    time.sleep(0.05)
-    file.put_off("a", last_hostid(2))
-    writing.end()
-    assert stored(tmp_path / "state.db") == 2
+    assert file.rows(READ, flushes=False) == [(100_000,)]
+    file.before_use = lambda: None
     file.close()
 
 
@@ -405,15 +300,15 @@ def test_a_file_of_an_older_version_keeps_its_hosts(tmp_path: Path, version: int
     path = tmp_path / "state.db"
     old_file(path, version)
     file = StateFile(path)
-    numbers, hosts = CallNumbers(file), Hosts(file)
-    assert [numbers.open_call(Key("ann-key", cpid)) for cpid in ("c1", "c2")] == [None, b"call 9"]
-    assert numbers.open_call(Key("eve-key", "c4")) == b"call 1"
-    assert numbers.open(Key("ann-key", "c1"), lambda number: b"%d" % number) == b"8"
+    states, hosts = HostStates(file), Hosts(file)
+    first, second, third = (states.begin(Key(*row[:2])) for row in (ROWS[0], ROWS[1], ROWS[3]))
+    assert [one.in_file.open_call for one in (first, second, third)] == [None, b"call 9", b"call 1"]
+    assert states.open(first, lambda number: b"%d" % number).in_file.open_call == b"8"
     # which numbers the clients were told is not known: they may be from earlier tables
-    assert [numbers.of_number("ann-key", number) for number in (1, 2, 3)] == [None] * 3
+    assert [states.of_number("ann-key", number) for number in (1, 2, 3)] == [None] * 3
     assert [host.scheduler_hostid for host in hosts.heard(9)] == [1, 3, 2]
-    assert numbers.give_hostid(Key("ann-key", "c2")) == 100_001
-    known = numbers.of_number("ann-key", 100_001)
+    assert states.give_hostid(Key("ann-key", "c2")) == 100_001
+    known = states.of_number("ann-key", 100_001)
     assert known is not None and known.key == Key("ann-key", "c2")
     assert hosts.count() == 3
     file.close()
@@ -486,7 +381,7 @@ def test_a_file_of_version_4_gets_what_pages_show(tmp_path: Path) -> None:
     ]
     assert [computer.number for computer in people.computers(0, 9)] == [100_001, 100_002, 100_003]
     computer, ann = people.computer(100_001), Members(file).of_key("ann-key")
-    known = CallNumbers(file).of_number("ann-key", 100_001)
+    known = HostStates(file).of_number("ann-key", 100_001)
     assert computer is not None and ann is not None and known is not None
     assert computer.about == Description()
     assert (ann.is_exported, ann.is_anonymous, ann.shown_name) == (True, False, "Ann")

@@ -264,7 +264,7 @@ def test_a_host_without_a_reply_is_forgotten_after_a_refusal_and_one_with_a_numb
     twin.faults = ['{"error":"hosts_full","number":12}'] * 2
     two.call(request(cpid="c"))
     two.call(request(hostid=A, cpid="a"))
-    known = two.numbers.of_number("ann-key", A)
+    known = two.states.of_number("ann-key", A)
     assert known is not None and known.key == Key("ann-key", "a")
     assert two.file.row("SELECT count(*) FROM host") == (2,)
 
@@ -280,7 +280,7 @@ def test_a_call_for_another_host_asks_for_no_work_and_takes_no_job(two: Bridge, 
     assert names(reply, "result_ack") == ["u1_0"] and recorded(twin, "u1_0") == "a"
     aside = [call for call in twin.calls()[before:] if call["rpc_seqno"] and call["results"]]
     assert [(call["host_info"]["host_cpid"], call["work_req_seconds"]) for call in aside] == [("a", 0)]
-    assert two.numbers.jobs_in_hand(Key("ann-key", "a")) != []
+    assert two.states.begin(Key("ann-key", "a")).jobs_in_hand != []
     assert jobs(two.call(request(hostid=A, cpid="a", seqno=2, seconds=0))) == ["u3_0"]
     assert twin.calls()[-1]["other_results"] == ["u3_0"]
 
