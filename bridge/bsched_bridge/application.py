@@ -43,7 +43,7 @@ from .pages.statements import Statements
 from .pages.team_pages import TeamPages
 from .pages.templates import Templates
 from .pages.volunteer_pages import VolunteerPages
-from .people.archives import read_archives
+from .people.archives import fold, read_archives
 from .people.barring import Barring, is_barred
 from .people.credit_days import CreditDays
 from .people.directory import Directory
@@ -90,6 +90,7 @@ class Application:
         self.faults = faults or CatalogueFaults()
         self.current = current = (lambda: catalogue) if isinstance(catalogue, Catalogue) else catalogue
         key, archives, barring = settings.operator_key, read_archives(settings.archives), Barring(file)
+        fold(file, archives)
         hosts, self.members, recent = Hosts(file), Members(file), RecentCredit(settings.averages)
         self.file, self.rules = file, rules or (lambda: settings.host_rules)
         self.measurements = measured = Measurements()
@@ -117,7 +118,7 @@ class Application:
             reports = ReportChecks(current, store, jobs, hosts, scheduler, key, digests, measured.put_offs)
         self.exchange = Exchange(
             hosts,
-            HostStates(file),
+            HostStates(file, archives),
             scheduler,
             settings.retry_delay,
             self.rules,

@@ -26,7 +26,7 @@ from ..common.words import shown_key
 from ..people.archives import Archives
 from ..people.barring import Barred, Barring
 from ..people.held_back import HeldBack
-from ..people.hosts import FIRST_KEY, Hosts, Key
+from ..people.hosts import Hosts, Key
 from ..people.measurements import End, Reports
 from ..requests.calls import call_text, of_file
 from ..requests.client_requests import ClientRequest, Report
@@ -676,15 +676,16 @@ class Resending(threading.Thread):
         It pauses after a call that got no answer, and after the last call. Each round begins with the imports
         of accounts.
         """
-        key = FIRST_KEY
+        host = 0
         while not self._ending.is_set():
             try:
-                if key == FIRST_KEY:
+                if host == 0:
                     self._resend_accounts()
-                following = self.exchange.states.next_open(key)
-                key = following or FIRST_KEY
+                following = self.exchange.states.next_open(host)
+                host = 0
                 if following is not None:
-                    self.exchange.resend(following)
+                    host, key = following
+                    self.exchange.resend(key)
                     continue
             except (NoAnswer, Busy):
                 pass

@@ -21,10 +21,12 @@ from typing import cast
 from bsched_files.moments import DAY
 
 from ..common.state_file import StateFile
+from ..people.archives import Archives
 from ..people.barring import Barred
 from ..people.credit_days import HOST_TABLE, MEMBER_TABLE, StoredDay
-from ..people.hosts import COUNTED, MOST_NUMBER, Key, new_hostid
-from ..people.members import first_heard, store_credit
+from ..people.hosts import COUNTED, MOST_NUMBER, SERVED, Key, lose_number, new_hostid
+from ..people.members import first_heard, store_credit, store_file_credit
+from ..requests.calls import listed_names
 from ..scheduler.messages import Job, Reply, members_of_job
 
 # how long an answer is only in memory at most, while Flushing runs, and of how many hosts
@@ -36,34 +38,50 @@ OF_ACCOUNT = (
     "LEFT JOIN member_day ON member_day.member = member.id AND member_day.day = ?1"
 )
 STATE = (
-    "SELECT host.host_cpid, coalesce(client_seqno, 0), "
+    "SELECT host.id, host.host_cpid, coalesce(client_seqno, 0), "
     "(SELECT is_deleted FROM barred WHERE barred.authenticator = host.authenticator), "
     "last_number, open_call, jobs_in_hand, scheduler_hostid IS NOT NULL, host.hostid, host_day.credit, "
     f"{ACCOUNT} "
-    "FROM host LEFT JOIN host_day ON host_day.hostid = host.hostid AND host_day.day = ?1 "
+    f"FROM host LEFT JOIN host_file ON host_file.host = host.id AND host_file.file = {SERVED} "
+    "LEFT JOIN host_day ON host_day.hostid = host.hostid AND host_day.day = ?1 "
     f"LEFT JOIN member ON member.authenticator = host.authenticator {OF_ACCOUNT}"
 )
-OF_KEY = f"{STATE} WHERE host.authenticator = ?2 AND host_cpid = ?3"
+OF_KEY = f"{STATE} WHERE host.authenticator = ?2 AND host.host_cpid = ?3"
 OF_NUMBER = f"{STATE} WHERE host.authenticator = ?2 AND host.hostid = ?3"
 OF_NEW_KEY = f"SELECT {ACCOUNT} FROM member {OF_ACCOUNT} WHERE member.authenticator = ?2"
 NEW_HOST = (
-    "INSERT INTO host (authenticator, host_cpid, last_number, open_call, client_seqno, copy_of) "
-    "VALUES (?, ?, ?, ?, ?, ?) ON CONFLICT DO NOTHING"
+    "INSERT INTO host (authenticator, host_cpid, client_seqno, copy_of) VALUES (?, ?, ?, ?) "
+    "ON CONFLICT DO NOTHING RETURNING id"
+)
+NEW_IN_FILE = (
+    "INSERT INTO host_file (host, file, last_number, open_call) SELECT id, ?2, ?3, ?4 FROM host "
+    "WHERE id = ?1 ON CONFLICT DO NOTHING"
 )
 OPENED = (
-    "UPDATE host SET last_number = ?1, open_call = ?2, "
-    "client_seqno = CASE WHEN ?3 > ifnull(client_seqno, -1) THEN ?3 ELSE client_seqno END "
-    "WHERE authenticator = ?4 AND host_cpid = ?5 AND last_number = ?6 AND jobs_in_hand = ?7 "
-    "AND open_call IS NULL AND (scheduler_hostid IS NOT NULL) = ?8"
+    "UPDATE host_file SET last_number = ?, open_call = ? WHERE host = ? AND file = ? AND last_number = ? "
+    "AND jobs_in_hand = ? AND open_call IS NULL AND (scheduler_hostid IS NOT NULL) = ?"
 )
-# bsched's number of the host is nearly always the one that is stored, so its indexes are left alone
+COUNTED_BY_CLIENT = "UPDATE host SET client_seqno = ?1 WHERE id = ?2 AND ?1 > ifnull(client_seqno, -1)"
+# bsched's number of the host is nearly always the one that is stored, so its index is left alone
 ANSWERED = (
-    "UPDATE host SET open_call = NULL, jobs_in_hand = ?, user_name = ?, user_credit = ?, host_credit = ?, "
-    "heard_at = ?, about = coalesce(?, about) "
-    "WHERE authenticator = ? AND host_cpid = ? AND scheduler_hostid = ?"
+    "UPDATE host_file SET open_call = NULL, jobs_in_hand = ?, jobs = ?, credit = ?, called_at = ? "
+    "WHERE host = ? AND file = ? AND scheduler_hostid = ?"
+)
+HEARD = (
+    "UPDATE host SET user_name = ?, user_credit = ?, host_credit = ?, heard_at = ?, "
+    "about = coalesce(?, about) WHERE id = ?"
 )
 HAS_HOST = "SELECT 1 FROM host WHERE authenticator = ? AND host_cpid = ?"
-NUMBERED = "UPDATE host SET scheduler_hostid = ? WHERE authenticator = ? AND host_cpid = ?"
+NUMBERED = "UPDATE host_file SET scheduler_hostid = ? WHERE host = ? AND file = ?"
+SAME_NUMBER = (
+    "SELECT host FROM host_file JOIN host ON host.id = host_file.host "
+    "WHERE file = ? AND scheduler_hostid = ? AND host <> ? AND authenticator = ?"
+)
+# a host that bsched has in no file, and that no client has the number of
+FORGET = (
+    "DELETE FROM host WHERE id = ?1 AND hostid IS NULL AND NOT EXISTS (SELECT 1 FROM host_file "
+    "WHERE host = ?1 AND (scheduler_hostid IS NOT NULL OR (file <> ?2 AND open_call IS NOT NULL)))"
+)
 JOB_MEMBERS = [member.name for member in fields(Job)]
 values_of_job = attrgetter(*JOB_MEMBERS)
 _written = json.JSONEncoder().encode
@@ -115,6 +133,7 @@ class AccountState:
 class FileState:
     """A host in a file of the project: its calls to the bsched that serves this file."""
 
+    is_stored: bool = False  # whether the state file has the host in the file
     last_number: int = 0  # of its calls
     open_call: bytes | None = None  # that has no answer yet
     jobs_text: str = "[]"  # the jobs in hand, as they are stored
@@ -126,7 +145,7 @@ class HostState:
     """A host under its key, and its account."""
 
     key: Key
-    is_stored: bool = False  # whether the state file has the key
+    id: int | None = None  # in the state file; None if it does not have the key
     client_seqno: int = 0  # the client's rpc_seqno in its last request with the host's number
     barred: Barred | None = None  # why the computers of the account are refused, or None
     day: StoredDay | None = None  # None if no client has the host's number
@@ -160,9 +179,9 @@ class HostState:
 
     def opened(self, number: int, call: bytes, seqno: int | None) -> "HostState":
         """Returns the state with an open call."""
-        in_file = replace(self.in_file, last_number=number, open_call=call)
+        in_file = replace(self.in_file, is_stored=True, last_number=number, open_call=call)
         seqno = self.client_seqno if seqno is None else max(self.client_seqno, seqno)
-        return replace(self, is_stored=True, client_seqno=seqno, in_file=in_file)
+        return replace(self, client_seqno=seqno, in_file=in_file)
 
     def answered(self, reply: Reply, jobs_text: str, day: int) -> "HostState":
         """Returns the state after the reply to the open call."""
@@ -189,15 +208,20 @@ def account_of(row: tuple[object, ...], day: int) -> AccountState | None:
 
 def state_of(authenticator: str, row: tuple[object, ...], day: int) -> HostState:
     """Returns the state in the columns of STATE, which were read for a day."""
-    host_cpid, seqno, is_deleted, number, call, jobs, has_host, hostid, credit = row[:9]
+    host, host_cpid, seqno, is_deleted, number, call, jobs, has_host, hostid, credit = row[:10]
+    in_file = FileState()
+    if number is not None:
+        in_file = FileState(
+            True, cast(int, number), cast("bytes | None", call), cast(str, jobs), bool(has_host)
+        )
     return HostState(
         Key(authenticator, cast(str, host_cpid)),
-        True,
+        cast(int, host),
         cast(int, seqno),
         None if is_deleted is None else Barred(is_deleted),
         None if hostid is None else StoredDay(cast(int, hostid), day, cast("int | None", credit)),
-        account_of(row[9:], day),
-        FileState(cast(int, number), cast("bytes | None", call), cast(str, jobs), bool(has_host)),
+        account_of(row[10:], day),
+        in_file,
     )
 
 
@@ -211,6 +235,26 @@ def text_of_jobs(jobs: Iterable[Job]) -> str:
     return _written([dict(zip(JOB_MEMBERS, values_of_job(job))) for job in jobs])
 
 
+def text_of_names(call: bytes, reply: Reply) -> str:
+    """Returns the names of the jobs of a file that a client may have after a call, with blanks between them:
+    those that the call lists and those of its reply, but for those that the reply aborts. There are none if
+    the call has no list. The same call with its kept reply gives the same names.
+    """
+    listed = listed_names(call)
+    if listed is None:
+        return ""
+    names = dict.fromkeys([*listed, *(job.name for job in reply.results)])
+    return " ".join(name for name in names if name not in reply.result_abort)
+
+
+@dataclass(frozen=True, slots=True)
+class FileCredit:
+    """Credit in the served file."""
+
+    host: int
+    account: int
+
+
 @dataclass(slots=True)
 class Unwritten:
     """What the state file does not have yet of an answer to a host's call."""
@@ -218,71 +262,66 @@ class Unwritten:
     state: HostState  # after the answer
     stored: HostState  # with the credit that the file has
     reply: Reply
+    names: str  # of the jobs that the client may have
+    in_file: FileCredit
     about: str | None
     now: int
-    has_answer: bool = True  # false: the file has all but the credit
+    has_answer: bool = True  # false: the file has the host's calls and its jobs, and lacks the rest
 
     def write(self, connection: sqlite3.Connection) -> None:
         """Writes all of it, within a transaction."""
-        self.write_credit(connection)
         if self.has_answer:
             self.write_answer(connection)
+        self.write_rest(connection)
 
     def write_answer(self, connection: sqlite3.Connection) -> None:
-        """Closes the call, and writes what the reply says of the host, within a transaction."""
-        key, reply = self.state.key, self.reply
+        """Closes the call, within a transaction."""
+        host, reply = self.state.id, self.reply
         values = (
             self.state.in_file.jobs_text,
-            reply.user_name,
-            reply.user_total_credit,
-            reply.host_total_credit,
+            self.names,
+            self.in_file.host,
             self.now,
-            self.about,
-            key.authenticator,
-            key.host_cpid,
+            host,
+            SERVED,
             reply.hostid,
         )
         if connection.execute(ANSWERED, values).rowcount == 0:
-            store_number(connection, key, reply.hostid)
+            store_number(connection, self.state, reply.hostid)
             connection.execute(ANSWERED, values)
 
-    def write_credit(self, connection: sqlite3.Connection) -> None:
-        """Writes the credit of the account and of the day, within a transaction, unless the account was
-        deleted just now. What the file has already is not written.
+    def write_rest(self, connection: sqlite3.Connection) -> None:
+        """Writes what the reply and the computer say of the host, and the credit of the account and of the
+        day, within a transaction, unless the account was deleted just now. Credit that the state file has
+        already is not written.
         """
-        key, account, day = self.state.key, self.stored.account, self.now // DAY
-        if not has_row(connection, key):
+        key, account, day, reply = self.state.key, self.stored.account, self.now // DAY, self.reply
+        user, host = reply.user_total_credit, reply.host_total_credit
+        values = reply.user_name, user, host, self.now, self.about, self.state.id
+        if connection.execute(HEARD, values).rowcount == 0:
             return
-        credit = self.reply.user_total_credit
         if account is None:
-            number = first_heard(connection, key.authenticator, self.reply.user_name, self.now, credit)
-            MEMBER_TABLE.record(connection, StoredDay(number, day, None), day, credit)
+            number = first_heard(connection, key.authenticator, reply.user_name, self.now, user)
+            store_file_credit(connection, number, self.in_file.account)
+            MEMBER_TABLE.record(connection, StoredDay(number, day, None), day, user)
         else:
-            if account.credit != credit:
-                store_credit(connection, account.day.number, credit)
-            MEMBER_TABLE.record(connection, account.day, day, credit)
+            if account.credit != user:
+                store_credit(connection, account.day.number, user)
+                store_file_credit(connection, account.day.number, self.in_file.account)
+            MEMBER_TABLE.record(connection, account.day, day, user)
         if self.stored.day is not None:
-            HOST_TABLE.record(connection, self.stored.day, day, self.reply.host_total_credit)
+            HOST_TABLE.record(connection, self.stored.day, day, host)
 
 
-def store_number(connection: sqlite3.Connection, key: Key, number: int) -> None:
-    """Stores bsched's number of a host, within a transaction."""
-    values = number, key.authenticator, key.host_cpid
-    try:
-        connection.execute(NUMBERED, values)
-    except sqlite3.IntegrityError:
-        # Another host of the account had the number. If bsched's tables were restored from an older copy,
-        # bsched may give a number a second time.
-        connection.execute(
-            "UPDATE host SET scheduler_hostid = NULL WHERE authenticator = ? AND scheduler_hostid = ?",
-            (key.authenticator, number),
-        )
-        connection.execute(NUMBERED, values)
-
-
-def has_row(connection: sqlite3.Connection, key: Key) -> bool:
-    """Returns whether the state file has a key, within a transaction."""
-    return connection.execute(HAS_HOST, (key.authenticator, key.host_cpid)).fetchone() is not None
+def store_number(connection: sqlite3.Connection, state: HostState, number: int) -> None:
+    """Stores bsched's number of a host in the served file, within a transaction. If bsched's tables were
+    restored from an older copy, bsched may give a number a second time. Then another host of the account had
+    it.
+    """
+    values = SERVED, number, state.id, state.key.authenticator
+    for (other,) in connection.execute(SAME_NUMBER, values).fetchall():
+        lose_number(connection, other)
+    connection.execute(NUMBERED, (number, state.id, SERVED))
 
 
 def check_count(connection: sqlite3.Connection, authenticator: str, most_hosts: int) -> None:
@@ -294,16 +333,32 @@ def check_count(connection: sqlite3.Connection, authenticator: str, most_hosts: 
         raise TooManyHosts(hosts)
 
 
-def stored_open(
+def inserted_host(connection: sqlite3.Connection, state: HostState, client: ClientState) -> int | None:
+    """Inserts the host of a key, within a transaction. Returns its number, or None if the account was deleted
+    just now. Raises StateChanged if there is such a host.
+    """
+    key = state.key.authenticator, state.key.host_cpid
+    row = connection.execute(NEW_HOST, (*key, client.seqno, client.copy_of)).fetchone()
+    if row is None and connection.execute(HAS_HOST, key).fetchone() is not None:
+        raise StateChanged
+    return None if row is None else cast(int, row[0])
+
+
+def store_open(
     connection: sqlite3.Connection, state: HostState, opened: HostState, client: ClientState
-) -> bool:
-    """Stores the call of a key that is still in a state, within a transaction. Returns whether it is."""
-    before, after, key = state.in_file, opened.in_file, state.key
-    values = after.last_number, after.open_call, client.seqno, key.authenticator, key.host_cpid
-    return (
-        connection.execute(OPENED, (*values, before.last_number, before.jobs_text, before.has_host)).rowcount
-        == 1
-    )
+) -> None:
+    """Stores the call of a host that is still in a state, within a transaction. Raises StateChanged."""
+    before, after = state.in_file, opened.in_file
+    if before.is_stored:
+        values = after.last_number, after.open_call, state.id, SERVED
+        state_before = before.last_number, before.jobs_text, before.has_host
+        done = connection.execute(OPENED, (*values, *state_before))
+    else:
+        done = connection.execute(NEW_IN_FILE, (opened.id, SERVED, after.last_number, after.open_call))
+    if done.rowcount != 1:
+        raise StateChanged
+    if client.seqno is not None:
+        connection.execute(COUNTED_BY_CLIENT, (client.seqno, state.id))
 
 
 class HostStates:
@@ -314,13 +369,13 @@ class HostStates:
     open. Sent again, the call gets the same answer. This allows two things. A write that closes a call is not
     synced. And an answer may wait in memory, as the state that the host has now, until the next call of the
     host is opened, or somebody else uses the file: the transaction that opens the next call writes it first.
-    The credit of the account and of the day may wait longer, until the next `flush`, since the answer to the
-    next call has it, too. A transaction takes what waits only once it has begun, since an answer that is
+    What the answer says besides, such as credit, may wait longer, until the next `flush`, since the answer to
+    the next call says it, too. A transaction takes what waits only once it has begun, since an answer that is
     written after the next call was opened would close that call.
     """
 
-    def __init__(self, file: StateFile) -> None:
-        self.file, self._lock = file, threading.Lock()
+    def __init__(self, file: StateFile, archives: Archives = Archives()) -> None:
+        self.file, self.archives, self._lock = file, archives, threading.Lock()
         # what is only in memory, by account and hostid, the latest answer last
         self._unwritten: dict[Place, Unwritten] = {}
         file.before_use = self.flush
@@ -348,22 +403,23 @@ class HostStates:
         row = self.file.row(OF_NEW_KEY, day, key.authenticator)
         return HostState(key, account=None if row is None else account_of(row, day))
 
-    def next_open(self, after: Key) -> Key | None:
-        """Returns the first key after another one that has an open call."""
+    def next_open(self, after: int) -> tuple[int, Key] | None:
+        """Returns the first host after another one that has an open call, with its key. The first one is
+        after 0.
+        """
         row = self.file.row(
-            "SELECT authenticator, host_cpid FROM host WHERE open_call IS NOT NULL AND (authenticator, "
-            "host_cpid) > (?, ?) "
-            "ORDER BY authenticator, host_cpid LIMIT 1",
-            after.authenticator,
-            after.host_cpid,
+            "SELECT host, authenticator, host_cpid FROM host_file JOIN host ON host.id = host_file.host "
+            "WHERE open_call IS NOT NULL AND host_file.host > ? AND file = ? ORDER BY host LIMIT 1",
+            after,
+            SERVED,
         )
-        return None if row is None else Key(cast(str, row[0]), cast(str, row[1]))
+        return None if row is None else (cast(int, row[0]), Key(cast(str, row[1]), cast(str, row[2])))
 
     def knows_account(self, authenticator: str) -> bool:
         """Returns whether the state file has an account, or a host of it that had a reply."""
         row = self.file.row(
             "SELECT 1 FROM member WHERE authenticator = ?1 UNION ALL "
-            "SELECT 1 FROM host WHERE authenticator = ?1 AND scheduler_hostid IS NOT NULL LIMIT 1",
+            "SELECT 1 FROM host WHERE authenticator = ?1 AND heard_at IS NOT NULL LIMIT 1",
             authenticator,
         )
         return row is not None
@@ -371,8 +427,9 @@ class HostStates:
     def has_many_of_strangers(self) -> bool:
         """Returns whether there are as many open calls of unknown accounts as there may be."""
         row = self.file.row(
-            "SELECT count(*) FROM (SELECT 1 FROM host WHERE open_call IS NOT NULL AND scheduler_hostid IS "
-            "NULL AND hostid IS NULL AND NOT EXISTS (SELECT 1 FROM member WHERE member.authenticator = "
+            "SELECT count(*) FROM (SELECT 1 FROM host_file CROSS JOIN host ON host.id = host_file.host "
+            "WHERE open_call IS NOT NULL AND scheduler_hostid IS NULL AND hostid IS NULL "
+            "AND heard_at IS NULL AND NOT EXISTS (SELECT 1 FROM member WHERE member.authenticator = "
             "host.authenticator) LIMIT ?)",
             MOST_OF_STRANGERS,
         )
@@ -401,9 +458,8 @@ class HostStates:
         opened = state.opened(number, text(number), client.seqno)
         if state.in_file.has_host:
             self._open_known(state, opened, client)
-        else:
-            self._open_new(state, opened, client, most_hosts)
-        return opened
+            return opened
+        return self._opened_new(state, opened, client, most_hosts)
 
     def _open_known(self, state: HostState, opened: HostState, client: ClientState) -> None:
         """Stores the call of a host that bsched has. Of what is only in memory it first writes the answer to
@@ -416,36 +472,31 @@ class HostStates:
                 if unwritten is not None:
                     unwritten.has_answer = False
                     unwritten.write_answer(connection)
-                is_opened = stored_open(connection, state, opened, client)
+                store_open(connection, state, opened, client)
         except BaseException:
             if unwritten is not None:
                 unwritten.has_answer = True
             raise
-        if not is_opened:
-            raise StateChanged
 
     def _answer_of(self, state: HostState) -> Unwritten | None:
         """Returns what is only in memory of the answer to a host's last call."""
         unwritten = None if state.place is None else self._unwritten.get(state.place)
         return unwritten if unwritten is not None and unwritten.has_answer else None
 
-    def _open_new(
+    def _opened_new(
         self, state: HostState, opened: HostState, client: ClientState, most_hosts: int | None
-    ) -> None:
-        """Stores the call of a host that bsched does not have. Raises TooManyHosts or StateChanged."""
-        key = state.key
+    ) -> HostState:
+        """Stores the call of a host that bsched does not have, and returns the state. If the account was
+        deleted just now, nothing is stored. Raises TooManyHosts or StateChanged.
+        """
         with self._writing() as connection:
             if most_hosts is not None:
-                check_count(connection, key.authenticator, most_hosts)
-            if state.is_stored:
-                is_opened = stored_open(connection, state, opened, client)
-            else:
-                values = opened.in_file.last_number, opened.in_file.open_call, client.seqno, client.copy_of
-                is_new = connection.execute(NEW_HOST, (key.authenticator, key.host_cpid, *values)).rowcount
-                # if the account was deleted just now, nothing of it is stored
-                is_opened = bool(is_new) or not has_row(connection, key)
-        if not is_opened:
-            raise StateChanged
+                check_count(connection, state.key.authenticator, most_hosts)
+            if state.id is None:
+                opened = replace(opened, id=inserted_host(connection, state, client))
+            if opened.id is not None:
+                store_open(connection, state, opened, client)
+        return opened
 
     def answered(
         self, state: HostState, reply: Reply, jobs_in_hand: list[Job], about: str | None = None
@@ -458,30 +509,36 @@ class HostStates:
         """
         now = int(time.time())
         after = state.answered(reply, text_of_jobs(jobs_in_hand), now // DAY)
+        names = text_of_names(state.in_file.open_call or b"{}", reply)
+        unwritten = Unwritten(after, state, reply, names, self._in_file(state.key, reply), about, now)
         if state.place is None or state.account is None:
             with self._writing(is_synced=False) as connection:
-                Unwritten(after, state, reply, about, now).write(connection)
+                unwritten.write(connection)
             return
         with self._lock:
             former = self._unwritten.pop(state.place, None)
-            stored = state if former is None else former.stored
-            self._unwritten[state.place] = Unwritten(after, stored, reply, about, now)
+            if former is not None:
+                unwritten.stored = former.stored
+            self._unwritten[state.place] = unwritten
         if len(self._unwritten) > MOST_UNWRITTEN:
             self.flush()
+
+    def _in_file(self, key: Key, reply: Reply) -> FileCredit:
+        """Returns the credit in the served file: that of a reply without that of the archives."""
+        archives = self.archives
+        return FileCredit(
+            max(0, reply.host_total_credit - archives.hosts[key]),
+            max(0, reply.user_total_credit - archives.users[key.authenticator]),
+        )
 
     def refused(self, state: HostState) -> None:
         """Closes the open call of a state after a refusal, so the call changed nothing. If bsched knows no
         host of the key, and no client was given a number, the key is forgotten.
         """
         with self._writing(is_synced=False) as connection:
-            values = state.key.authenticator, state.key.host_cpid
+            connection.execute(FORGET, (state.id, SERVED))
             connection.execute(
-                "DELETE FROM host WHERE authenticator = ? AND host_cpid = ? AND scheduler_hostid IS NULL "
-                "AND hostid IS NULL",
-                values,
-            )
-            connection.execute(
-                "UPDATE host SET open_call = NULL WHERE authenticator = ? AND host_cpid = ?", values
+                "UPDATE host_file SET open_call = NULL WHERE host = ? AND file = ?", (state.id, SERVED)
             )
 
     # ---- Besides a call
@@ -509,8 +566,9 @@ class HostStates:
         """Has these jobs in hand, which the client of a host may lack."""
         with self._writing(is_synced=False) as connection:
             connection.execute(
-                "UPDATE host SET jobs_in_hand = ? WHERE authenticator = ? AND host_cpid = ?",
-                (text_of_jobs(jobs), key.authenticator, key.host_cpid),
+                "UPDATE host_file SET jobs_in_hand = ? WHERE file = ? AND host = "
+                "(SELECT id FROM host WHERE authenticator = ? AND host_cpid = ?)",
+                (text_of_jobs(jobs), SERVED, key.authenticator, key.host_cpid),
             )
 
     # ---- What is only in memory

@@ -2,11 +2,15 @@
 import os
 import re
 import sqlite3
+import subprocess
+import sys
+from collections import Counter
+from contextlib import closing
 from pathlib import Path
 from typing import cast
 
 import pytest
-from bridges import Bridge
+from bridges import ENVIRONMENT, Bridge
 from joining import create
 
 from bsched_bridge.common.state_file import StateFault, StateFile
@@ -290,7 +294,7 @@ def test_a_newer_file_is_refused_and_not_changed(tmp_path: Path) -> None:
     with pytest.raises(StateFault) as raised:
         StateFile(path)
     assert str(raised.value) == (
-        f"{path}: a newer bridge wrote this file (format 8, and this bridge knows 7): run that bridge"
+        f"{path}: a newer bridge wrote this file (format 9, and this bridge knows 8): run that bridge"
     )
     assert contents(path) == before
 
@@ -331,7 +335,7 @@ def test_a_file_of_version_1_gets_accounts(tmp_path: Path) -> None:
     kept = contents(path)
     StateFile(path).close()  # no upgrade is needed
     assert contents(path) == kept
-    assert kept[1] == 7
+    assert kept[1] == 8
 
 
 @pytest.mark.parametrize("version", [1, 2])
@@ -359,7 +363,7 @@ def test_a_new_file_and_an_upgraded_one_have_the_same_tables(tmp_path: Path) -> 
         kept = file.rows("SELECT type, name FROM sqlite_schema WHERE name NOT LIKE 'sqlite_%' ORDER BY name")
         shapes.append([(kind, table, file.rows(f"PRAGMA table_xinfo({table})")) for kind, table in kept])
         file.close()
-    assert shapes[0] == shapes[1] == shapes[2] == shapes[3] and len(shapes[0]) == 20
+    assert shapes[0] == shapes[1] == shapes[2] == shapes[3] and len(shapes[0]) == 25
 
 
 def file_of_version_4(path: Path) -> None:
@@ -404,6 +408,147 @@ def test_a_stopped_upgrade_of_version_4_changes_nothing(
         with pytest.raises(StateFault):
             StateFile(path)
         assert contents(path) == before
+
+
+VERSION_7 = """
+UPDATE host SET open_call = x'7b7d', jobs_in_hand = '[{"name":"u1_0"}]' WHERE host_cpid = 'c2';
+INSERT INTO host (authenticator, host_cpid, last_number, open_call) VALUES ('eve-key', 'c5', 1, x'7b7d');
+INSERT INTO host (authenticator, host_cpid, hostid, scheduler_hostid, last_number, heard_at, host_credit,
+    user_credit, about) VALUES ('bob-key', 'c6', 100004, NULL, 4, 200, 7, 8, '{}');
+INSERT INTO host (authenticator, host_cpid, hostid, copy_of, last_number)
+  VALUES ('ann-key', 'c0', 100005, 100001, 2);
+INSERT INTO member (authenticator, name, is_imported, cpid, created_at)
+  VALUES ('wait-key', 'Wait', 0, 'z', 100), ('gone-key', 'deleted', 1, 'z', 100);
+INSERT INTO barred (authenticator, barred_at, is_deleted) VALUES ('gone-key', 100, 1), ('bob-key', 100, 0);
+INSERT INTO host_day (hostid, day, credit) VALUES (100001, 20000, 5);
+"""
+
+
+def file_of_version_7(path: Path) -> None:
+    """Makes a state file of version 7."""
+    connection = sqlite3.connect(path)
+    connection.executescript(VERSION_4)
+    for version in (4, 5, 6):
+        connection.executescript(UPGRADES[version])
+    connection.executescript(VERSION_7)
+    connection.execute("PRAGMA user_version = 7")
+    connection.close()
+
+
+def rows_of(path: Path, query: str) -> list[tuple[object, ...]]:
+    """Returns the rows of a query."""
+    with closing(sqlite3.connect(path)) as connection:
+        return list(connection.execute(query))
+
+
+FORMER = (
+    "SELECT authenticator, host_cpid, hostid, client_seqno, copy_of, has_former_number, scheduler_hostid, "
+    "last_number, open_call, jobs_in_hand, user_name, user_credit, host_credit, about FROM "
+)
+
+
+def test_a_file_of_version_7_gets_hosts_in_files(tmp_path: Path) -> None:
+    """Nothing of its calls and its jobs in hand is lost, and its hosts stay in their order."""
+    path = tmp_path / "state.db"
+    file_of_version_7(path)
+    before = rows_of(path, f"{FORMER} host ORDER BY rowid")
+    StateFile(path).close()
+    assert rows_of(path, f"{FORMER} host JOIN host_file ON host = id ORDER BY id") == before
+    assert len(before) == 7 and rows_of(path, "SELECT DISTINCT file FROM host_file") == [(1,)]
+    query = (
+        "SELECT host_cpid, heard_at, credit, jobs, called_at, dry_until FROM host JOIN host_file ON host = id"
+    )
+    assert rows_of(path, f"{query} ORDER BY id") == [
+        ("c1", 300, 4000, "", 0, 0),
+        ("c2", 400, 2000, "", 0, 0),
+        ("c3", 100, 0, "", 0, 0),
+        ("c4", None, 0, "", 0, 0),
+        ("c5", None, 0, "", 0, 0),
+        ("c6", None, 7, "", 0, 0),  # bsched does not have it any more
+        ("c0", None, 0, "", 0, 0),
+    ]
+    # those of imported accounts that are not deleted
+    query = "SELECT authenticator, file, member_file.credit FROM member JOIN member_file ON member = id"
+    assert rows_of(path, query) == [("ann-key", 1, 6000), ("bob-key", 1, 0), ("new-key", 1, 0)]
+    assert rows_of(path, "SELECT * FROM host_day") == [(100_001, 20_000, 5)]
+    file = StateFile(path)
+    states, hosts = HostStates(file), Hosts(file)
+    assert states.next_open(0) == (2, Key("ann-key", "c2"))
+    assert states.next_open(2) == (5, Key("eve-key", "c5")) and states.next_open(5) is None
+    known = states.of_number("ann-key", 100_001)
+    assert known is not None and known.client_seqno == 3 and known.is_settled
+    assert states.open(known, lambda number: b"{}").in_file.last_number == 8
+    assert [host.host_cpid for host in hosts.heard(9)] == ["c2", "c1", "c3"]
+    assert hosts.key_for_copy("ann-key", 100_001) == Key("ann-key", "c0")
+    file.close()
+
+
+# kills itself before or after the statement with a number, or before or after the commit
+KILLED = """
+import os, shutil, signal, sqlite3, sys
+from pathlib import Path
+from bsched_bridge.common import state_file
+
+source, folder = map(Path, sys.argv[1:])
+
+
+class Connection:
+    def __init__(self, connection, at, is_after):
+        self.connection, self.at, self.is_after, self.passed = connection, at, is_after, 0
+
+    def execute(self, statement, *values):
+        self.passed += 1
+        if self.passed == self.at and not self.is_after:
+            os.kill(os.getpid(), signal.SIGKILL)
+        done = self.connection.execute(statement, *values)
+        if self.passed == self.at:
+            os.kill(os.getpid(), signal.SIGKILL)
+        return done
+
+    def __getattr__(self, name):
+        return getattr(self.connection, name)
+
+
+def upgraded(path, at, is_after):
+    connect = sqlite3.connect
+    sqlite3.connect = lambda *words, **more: Connection(connect(*words, **more), at, is_after)
+    state_file.StateFile(path)
+
+
+at = 0
+while True:
+    at += 1
+    for is_after in (False, True):
+        path = folder / f"{at}-{is_after}.db"
+        shutil.copy(source, path)
+        child = os.fork()
+        if not child:
+            try:
+                upgraded(path, at, is_after)
+            finally:
+                os._exit(0)
+        if os.waitpid(child, 0)[1] == 0:
+            path.unlink()
+            sys.exit()
+"""
+
+
+def test_an_upgrade_that_is_killed_leaves_a_file_of_the_one_or_the_other_version(tmp_path: Path) -> None:
+    """It is killed before and after each statement. The next start ends it, with the same rows."""
+    source, whole, folder = tmp_path / "7.db", tmp_path / "8.db", tmp_path / "killed"
+    file_of_version_7(source)
+    whole.write_bytes(source.read_bytes())
+    StateFile(whole).close()
+    folder.mkdir()
+    subprocess.run([sys.executable, "-c", KILLED, source, folder], env=ENVIRONMENT, check=True)
+    found = Counter[int]()
+    for path in folder.glob("*.db"):
+        dump, version = contents(path)
+        found[version] += 1
+        assert dump == contents(source if version == 7 else whole)[0]
+        StateFile(path).close()
+        assert contents(path) == contents(whole)
+    assert found[7] > 60 and found[8] >= 1 and found.keys() == {7, 8}
 
 
 def test_a_second_bridge_is_refused_while_a_command_works(project: Path, open_bridge: Bridge) -> None:

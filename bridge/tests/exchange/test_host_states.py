@@ -25,11 +25,12 @@ from bsched_bridge.exchange.host_states import (
 )
 from bsched_bridge.people.barring import Barred, Barring
 from bsched_bridge.people.credit_days import CreditDay, CreditDays, StoredDay
-from bsched_bridge.people.hosts import FIRST_KEY, MOST_NUMBER, Hosts, Key
+from bsched_bridge.people.hosts import MOST_NUMBER, Hosts, Key
 from bsched_bridge.scheduler.messages import Job, Reply
 from bsched_files.moments import DAY
 
 KEY = Key("ann-key", "c1")
+NEXT, OTHER = b'{"next": 1}', b'{"other": 1}'  # calls
 JOB = Job("u1_0", "u1", "sum", "linux", 1, 60, 1000, False)
 
 
@@ -44,9 +45,14 @@ def states(tmp_path: Path) -> Iterator[HostStates]:
     file.close()
 
 
+def text(number: int) -> bytes:
+    """Returns the text of a call, which has its number."""
+    return b'{"number": %d}' % number
+
+
 def opened(states: HostStates, key: Key = KEY, above: int = 0, most_hosts: int | None = None) -> HostState:
-    """Opens a call of a key, whose text is its number."""
-    return states.open(states.begin(key), lambda number: b"%d" % number, ClientState(), above, most_hosts)
+    """Opens a call of a key, whose text has its number."""
+    return states.open(states.begin(key), text, ClientState(), above, most_hosts)
 
 
 def called(states: HostStates, key: Key = KEY, jobs: tuple[Job, ...] = (), hostid: int = 1) -> None:
@@ -62,7 +68,7 @@ def open_call(states: HostStates, key: Key = KEY) -> bytes | None:
 def test_numbers_rise_by_key(states: HostStates) -> None:
     for number in (1, 2, 3):
         state = opened(states)
-        assert (state.in_file.last_number, state.in_file.open_call) == (number, b"%d" % number)
+        assert (state.in_file.last_number, state.in_file.open_call) == (number, text(number))
         states.answered(state, reply(), [])
     assert opened(states, Key("ann-key", "c2")).in_file.last_number == 1
     assert opened(states, KEY, above=10).in_file.last_number == 11
@@ -84,18 +90,18 @@ def test_what_stands_is_on_the_disk_before_the_call_is_given(tmp_path: Path) -> 
     file.close()
     copied = StateFile(tmp_path / "copy" / "state.db")
     copy = HostStates(copied)
-    assert open_call(copy) == b"1"
-    assert copy.next_open(FIRST_KEY) == KEY
-    assert copy.next_open(KEY) is None
+    assert open_call(copy) == text(1)
+    assert copy.next_open(0) == (1, KEY)
+    assert copy.next_open(1) is None
     copy.refused(copy.begin(KEY))
-    assert copy.next_open(FIRST_KEY) is None
+    assert copy.next_open(0) is None
     copied.close()
 
 
 def test_an_answer_closes_a_call_and_keeps_jobs(states: HostStates) -> None:
     called(states, jobs=(JOB,))
     assert open_call(states) is None
-    assert states.next_open(FIRST_KEY) is None
+    assert states.next_open(0) is None
     assert states.begin(KEY).jobs_in_hand == [JOB]
     assert Hosts(states.file).heard(10)[0].user_name == "Ann"
 
@@ -113,13 +119,13 @@ def test_the_state_of_a_key(states: HostStates, today: None) -> None:
     assert states.begin(KEY) == HostState(KEY)
     assert states.begin(KEY).is_of_stranger
     call = opened(states)
-    assert states.begin(KEY) == call == HostState(KEY, True, in_file=FileState(1, b"1"))
+    assert states.begin(KEY) == call == HostState(KEY, 1, in_file=FileState(True, 1, text(1)))
     assert call.is_of_stranger and not call.is_settled
     states.answered(call, reply(), [JOB])
     state = states.begin(KEY)
     ann = AccountState("Ann", None, None, 5, StoredDay(1, TODAY, 5))
-    in_file = FileState(1, None, state.in_file.jobs_text, True)
-    assert state == HostState(KEY, True, account=ann, in_file=in_file)
+    in_file = FileState(True, 1, None, state.in_file.jobs_text, True)
+    assert state == HostState(KEY, 1, account=ann, in_file=in_file)
     assert state.jobs_in_hand == [JOB] and not state.is_of_stranger and state.is_settled
     hostid = states.give_hostid(KEY) or 0
     day = StoredDay(hostid, TODAY, None)
@@ -191,7 +197,7 @@ def answered(
     """
     state = states.of_number("ann-key", hostid)
     assert state is not None
-    call = states.open(state, lambda number: b"call", ClientState(seqno=seqno))
+    call = states.open(state, lambda number: b"{}", ClientState(seqno=seqno))
     answer = replace(reply(number), user_total_credit=credit, host_total_credit=credit)
     states.answered(call, answer, list(jobs), "{}")
 
@@ -201,7 +207,7 @@ def stored(states: HostStates, query: str) -> list[tuple[object, ...]]:
     return states.file.rows(query, flushes=False)
 
 
-CALLS = "SELECT open_call FROM host ORDER BY host_cpid"
+CALLS = "SELECT open_call FROM host_file JOIN host ON host = id ORDER BY host_cpid"
 
 
 @pytest.mark.parametrize("credit", [5, 8])
@@ -215,7 +221,7 @@ def test_an_answer_that_is_only_in_memory(
         answered(states, hostid, credit, jobs, seqno)
         known = states.of_number("ann-key", hostid)
         assert known is not None and known.client_seqno == seqno
-        assert stored(states, CALLS) == [(b"call",)]
+        assert stored(states, CALLS) == [(b"{}",)]
     states.flush()
     assert stored(states, CALLS) == [(None,)]
     assert states.of_number("ann-key", hostid) == known
@@ -231,7 +237,7 @@ def test_a_call_of_another_host_leaves_an_answer_in_memory(states: HostStates, t
     known = states.of_number("ann-key", second)
     assert known is not None and known.account is not None and known.account.credit == 5
     answered(states, second, 9, number=2)
-    assert stored(states, CALLS) == [(b"call",), (b"call",)]
+    assert stored(states, CALLS) == [(b"{}",), (b"{}",)]
     assert states.file.row("SELECT credit FROM member") == (9,)
     assert stored(states, CALLS) == [(None,), (None,)]
 
@@ -252,8 +258,8 @@ def test_an_answer_in_memory_is_in_the_next_transaction(states: HostStates, toda
     hostid = answered_host(states)
     answered(states, hostid, 8)
     state = HostState(Key("ann-key", "c2"))
-    states.open(state, lambda number: b"other")
-    assert stored(states, CALLS) == [(None,), (b"other",)]
+    states.open(state, lambda number: OTHER)
+    assert stored(states, CALLS) == [(None,), (OTHER,)]
     assert stored(states, "SELECT credit FROM member") == [(8,)]
     assert states.begin(KEY).jobs_in_hand == []
 
@@ -265,7 +271,7 @@ def test_only_so_many_answers_are_in_memory(
     hosts = [answered_host(states, Key("ann-key", f"c{number}"), number) for number in range(1, 4)]
     for number, hostid in enumerate(hosts[:2], 1):
         answered(states, hostid, 8, number=number)
-    assert stored(states, CALLS) == [(b"call",), (b"call",), (None,)]
+    assert stored(states, CALLS) == [(b"{}",), (b"{}",), (None,)]
     answered(states, hosts[2], 8, number=3)
     assert stored(states, CALLS) == [(None,)] * 3
 
@@ -294,8 +300,8 @@ def test_an_answer_that_is_lost_before_it_is_stored(states: HostStates, today: N
     hostid = answered_host(states)
     answered(states, hostid, 8)
     states._unwritten.clear()  # as a kill does
-    assert states.next_open(FIRST_KEY) == KEY
-    assert open_call(states) == b"call"
+    assert states.next_open(0) == (1, KEY)
+    assert open_call(states) == b"{}"
 
 
 def test_credit_is_lost_only_while_a_call_is_open(states: HostStates, today: None) -> None:
@@ -304,12 +310,14 @@ def test_credit_is_lost_only_while_a_call_is_open(states: HostStates, today: Non
     answered(states, hostid, 8)
     known = states.of_number("ann-key", hostid)
     assert known is not None
-    states.open(known, lambda number: b"next", ClientState(seqno=2))
-    assert stored(states, "SELECT open_call, jobs_in_hand, host_credit FROM host") == [(b"next", "[]", 8)]
-    assert stored(states, "SELECT credit FROM member") == [(5,)]
+    states.open(known, lambda number: NEXT, ClientState(seqno=2))
+    query = "SELECT open_call, jobs_in_hand, credit FROM host_file"
+    assert stored(states, query) == [(NEXT, "[]", 8)]
+    credit = "SELECT credit, host_credit FROM member, host"
+    assert stored(states, credit) == [(5, 5)]
     states.flush()
-    assert stored(states, CALLS) == [(b"next",)]
-    assert stored(states, "SELECT credit FROM member") == [(8,)]
+    assert stored(states, query) == [(NEXT, "[]", 8)]
+    assert stored(states, credit) == [(8, 8)]
 
 
 class Failing:
@@ -336,16 +344,16 @@ def test_an_answer_that_can_not_be_stored_is_forgotten(
     answered(states, hostid, 8)
     file: Any = states.file
     with monkeypatch.context() as patched:
-        patched.setattr(file, "_connection", Failing(file._connection, "UPDATE host SET open_call"))
+        patched.setattr(file, "_connection", Failing(file._connection, "UPDATE host_file SET open_call"))
         states.flush()
     assert [record.getMessage() for record in caplog.records] == [
         "answers to calls could not be stored: disk I/O error"
     ]
-    assert open_call(states) == b"call"
+    assert open_call(states) == b"{}"
     assert states.file.row("SELECT credit FROM member") == (5,)
 
 
-@pytest.mark.parametrize("statement", ["COMMIT", "UPDATE host SET last_number"])
+@pytest.mark.parametrize("statement", ["COMMIT", "UPDATE host_file SET last_number"])
 def test_a_transaction_that_is_undone_leaves_the_answer_in_memory(
     states: HostStates, today: None, monkeypatch: pytest.MonkeyPatch, statement: str
 ) -> None:
@@ -357,13 +365,13 @@ def test_a_transaction_that_is_undone_leaves_the_answer_in_memory(
     with monkeypatch.context() as patched:
         patched.setattr(file, "_connection", Failing(file._connection, statement))
         with pytest.raises(sqlite3.OperationalError):
-            states.open(known, lambda number: b"next", ClientState(seqno=2))
-    assert stored(states, CALLS) == [(b"call",)]
+            states.open(known, lambda number: NEXT, ClientState(seqno=2))
+    assert stored(states, CALLS) == [(b"{}",)]
     assert states.of_number("ann-key", hostid) == known
-    states.open(known, lambda number: b"next", ClientState(seqno=2))
-    assert stored(states, CALLS) == [(b"next",)]
+    states.open(known, lambda number: NEXT, ClientState(seqno=2))
+    assert stored(states, CALLS) == [(NEXT,)]
     states.flush()
-    assert stored(states, CALLS) == [(b"next",)]
+    assert stored(states, CALLS) == [(NEXT,)]
 
 
 @pytest.mark.parametrize("at", range(1, 7))
@@ -375,7 +383,7 @@ def test_a_call_that_is_opened_while_its_last_answer_is_stored(
     answered(states, hostid, 8)
     known, passed = states.of_number("ann-key", hostid), itertools.count(1)
     assert known is not None
-    other = threading.Thread(target=states.open, args=(known, lambda number: b"next", ClientState(seqno=2)))
+    other = threading.Thread(target=states.open, args=(known, lambda number: NEXT, ClientState(seqno=2)))
     file: Any = states.file
     execute = file._connection.execute
 
@@ -395,7 +403,7 @@ def test_a_call_that_is_opened_while_its_last_answer_is_stored(
         other.start()
     other.join()
     states.flush()
-    assert stored(states, CALLS) == [(b"next",)]
+    assert stored(states, CALLS) == [(NEXT,)]
     assert stored(states, "SELECT credit FROM member") == [(8,)]
 
 
@@ -411,7 +419,7 @@ def test_an_answer_that_waits_while_its_account_is_deleted(
     if by_command:
         file.close()
     states.flush()
-    for table in ("host", "member_day", "host_day"):
+    for table in ("host", "host_file", "member_file", "member_day", "host_day"):
         assert states.file.row(f"SELECT count(*) FROM {table}") == (0,)
     assert states.file.row("SELECT credit FROM member") == (None,)
 
@@ -420,7 +428,7 @@ def test_an_answer_after_the_deletion_of_its_account_inserts_nothing(states: Hos
     state = opened(states)
     Barring(states.file).delete("ann-key", 1000)
     states.answered(state, reply(), [], "{}")
-    for table in ("host", "member", "member_day"):
+    for table in ("host", "host_file", "member", "member_file", "member_day"):
         assert states.file.row(f"SELECT count(*) FROM {table}") == (0,)
 
 
@@ -430,7 +438,7 @@ def test_a_call_after_the_deletion_of_its_account_is_not_stored(states: HostStat
     assert known is not None
     Barring(states.file).delete("ann-key", 1000)
     with pytest.raises(StateChanged):
-        states.open(known, lambda number: b"call")
+        states.open(known, lambda number: b"{}")
     assert opened(states).in_file.last_number == 1
     assert states.file.row("SELECT count(*) FROM host") == (0,)
 
@@ -451,7 +459,7 @@ def test_a_call_is_opened_only_in_the_state_that_the_file_has(states: HostStates
 
     def is_opened(state: HostState, seqno: int = 3) -> bool:
         try:
-            states.open(state, lambda number: b"%d" % number, ClientState(seqno=seqno))
+            states.open(state, text, ClientState(seqno=seqno))
         except StateChanged:
             return False
         return True
@@ -470,7 +478,7 @@ def test_a_call_is_opened_only_in_the_state_that_the_file_has(states: HostStates
     assert not is_opened(changed(seen, has_host=False))
     assert states.begin(KEY) == seen
     assert is_opened(seen)
-    assert states.begin(KEY).in_file == replace(seen.in_file, last_number=2, open_call=b"2")
+    assert states.begin(KEY).in_file == replace(seen.in_file, last_number=2, open_call=text(2))
     assert not is_opened(seen)
     states.answered(states.begin(KEY), reply(), [JOB])
     seen = states.begin(KEY)
@@ -479,13 +487,43 @@ def test_a_call_is_opened_only_in_the_state_that_the_file_has(states: HostStates
     assert is_opened(states.begin(KEY))
 
 
+def test_the_jobs_that_a_client_may_have(states: HostStates) -> None:
+    """They follow from the bytes of a call and from its reply, so a call that is sent again gives the same
+    names.
+    """
+    calls: list[tuple[bytes, list[Job], list[str], str]] = [
+        (b'{"other_results": ["u0_0"]}', [JOB], [], "u0_0 u1_0"),
+        (b'{"other_results": ["u0_0", "u1_0"]}', [JOB], ["u0_0"], "u1_0"),
+        (b'{"other_results": []}', [], [], ""),
+        (b'{"other_results": ["u1_0"]}', [], [], "u1_0"),
+        (b"{}", [JOB], [], ""),  # the client sends no list
+    ]
+    for call, jobs, aborts, names in calls:
+        for _ in range(2):
+            state = states.open(states.begin(KEY), lambda _number: call)
+            answer = replace(reply(), results=jobs, result_abort=aborts)
+            states.answered(state, answer, jobs)
+            assert states.file.row("SELECT jobs, jobs_in_hand = '[]' FROM host_file") == (names, not jobs)
+
+
+def test_the_number_of_a_deleted_host_is_not_given_again(states: HostStates, today: None) -> None:
+    """So an answer that comes late closes no call of another host."""
+    late = opened(states)
+    Barring(states.file).delete("ann-key", 1000)
+    other = Key("bob-key", "c1")
+    call = opened(states, other)
+    assert late.id != call.id
+    states.answered(late, reply(), [JOB])
+    assert states.begin(other) == call
+
+
 @pytest.mark.parametrize("told, kept", [([3, 5, 4], 5), ([None, 0], 0), ([None], None)])
 def test_the_count_of_a_client_never_falls(
     states: HostStates, told: list[int | None], kept: int | None
 ) -> None:
     called(states)
     for seqno in told:
-        state = states.open(states.begin(KEY), lambda number: b"call", ClientState(seqno=seqno))
+        state = states.open(states.begin(KEY), lambda number: b"{}", ClientState(seqno=seqno))
         states.answered(state, reply(), [])
     assert states.file.row("SELECT client_seqno FROM host") == (kept,)
 
@@ -536,7 +574,7 @@ def test_a_key_without_a_host_is_forgotten_at_a_refusal(states: HostStates) -> N
 
 
 def test_numbers_end(states: HostStates) -> None:
-    assert opened(states, above=MOST_NUMBER - 1).in_file.open_call == b"%d" % MOST_NUMBER
+    assert opened(states, above=MOST_NUMBER - 1).in_file.open_call == text(MOST_NUMBER)
     states.answered(states.begin(KEY), reply(), [])
     with pytest.raises(CountEnded):
         opened(states)
@@ -563,7 +601,7 @@ def test_threads_share_no_number(states: HostStates) -> None:
         thread.start()
     for thread in threads:
         thread.join()
-    assert given == [b"%d" % number for number in range(2, len(given) + 2)]
+    assert given == [text(number) for number in range(2, len(given) + 2)]
 
 
 def test_a_new_host_is_refused_where_there_are_as_many_as_may_be(states: HostStates) -> None:

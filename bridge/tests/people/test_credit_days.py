@@ -17,7 +17,7 @@ def days_lived(bridge: Bridge, monkeypatch: pytest.MonkeyPatch, days: list[tuple
     states, key = bridge.states, Key("ann-key", "c1")
     for day, user, host in days:
         monkeypatch.setattr("time.time", lambda day=day: float(day * DAY + 10))
-        opened = states.open(states.begin(key), lambda _number: b"")
+        opened = states.open(states.begin(key), lambda _number: b"{}")
         states.answered(opened, reply(1, user, host), [])
         states.give_hostid(key)
 

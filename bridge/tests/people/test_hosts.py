@@ -31,7 +31,7 @@ def test_numbers_are_random_whatever_the_clock_says(tmp_path: Path, monkeypatch:
             for number in range(1000):
                 given.append(hosts.new_hostid(connection))
                 connection.execute(
-                    "INSERT INTO host (authenticator, host_cpid, last_number, hostid) VALUES ('a', ?, 1, ?)",
+                    "INSERT INTO host (authenticator, host_cpid, hostid) VALUES ('a', ?, ?)",
                     (str(number), given[-1]),
                 )
         file.close()
@@ -45,7 +45,7 @@ def test_a_number_that_is_used_is_not_given(tmp_path: Path, monkeypatch: pytest.
     monkeypatch.setattr("bsched_bridge.people.hosts.random_number", numbers.__next__)
     file = StateFile(tmp_path / "bridge.db")
     with file.transaction() as connection:
-        insert = "INSERT INTO host (authenticator, host_cpid, last_number, hostid) VALUES ('a', 'c', 1, ?)"
+        insert = "INSERT INTO host (authenticator, host_cpid, hostid) VALUES ('a', 'c', ?)"
         connection.execute(insert, (hosts.new_hostid(connection),))
         connection.execute("INSERT INTO host_day (hostid, day, credit) VALUES (200002, 1, 1)")
         assert hosts.new_hostid(connection) == 200_003
@@ -183,7 +183,10 @@ def test_a_copy_of_a_host_that_bsched_knows_by_another_number(two: Bridge, twin:
     """As after a restore of an older state file: the statement of that number is another host's."""
     two.call(request(hostid=A, cpid="a", seqno=3, listed=["u1_0"], seconds=0))
     with two.file.transaction() as connection:
-        connection.execute("UPDATE host SET scheduler_hostid = 77 WHERE host_cpid = 'a'")
+        connection.execute(
+            "UPDATE host_file SET scheduler_hostid = 77 WHERE host IN (SELECT id FROM host "
+            "WHERE host_cpid = 'a')"
+        )
     reply = two.call(request(hostid=A, cpid="a", seqno=2, reports=[("u1_0", "42")], seconds=0))
     assert names(reply, "result_ack") == ["u1_0"] and recorded(twin, "u1_0") == "a"
 
