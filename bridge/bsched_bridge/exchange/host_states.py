@@ -177,23 +177,24 @@ class HostState:
         jobs = json.loads(self.in_file.jobs_text)
         return [Job(*members_of_job(job)) for job in jobs if job["name"] not in names]
 
+    # The next two make each part by its class: `replace` takes several times as long, and a call needs five.
+
     def opened(self, number: int, call: bytes, seqno: int | None) -> "HostState":
         """Returns the state with an open call."""
-        in_file = replace(self.in_file, is_stored=True, last_number=number, open_call=call)
+        in_file = FileState(True, number, call, self.in_file.jobs_text, self.in_file.has_host)
         seqno = self.client_seqno if seqno is None else max(self.client_seqno, seqno)
-        return replace(self, client_seqno=seqno, in_file=in_file)
+        return HostState(self.key, self.id, seqno, self.barred, self.day, self.account, in_file)
 
     def answered(self, reply: Reply, jobs_text: str, day: int) -> "HostState":
         """Returns the state after the reply to the open call."""
-        in_file = replace(self.in_file, open_call=None, jobs_text=jobs_text, has_host=True)
-        of_host, account = self.day, self.account
+        in_file = FileState(True, self.in_file.last_number, None, jobs_text, True)
+        of_host, account, credit = self.day, self.account, reply.user_total_credit
         if of_host is not None:
             of_host = StoredDay(of_host.number, day, reply.host_total_credit)
         if account is not None:
-            credit = reply.user_total_credit
             of_account = StoredDay(account.day.number, day, credit)
-            account = replace(account, credit=credit, day=of_account)
-        return replace(self, day=of_host, account=account, in_file=in_file)
+            account = AccountState(account.name, account.team, account.preferences, credit, of_account)
+        return HostState(self.key, self.id, self.client_seqno, self.barred, of_host, account, in_file)
 
 
 def account_of(row: tuple[object, ...], day: int) -> AccountState | None:
