@@ -37,7 +37,7 @@ def reported_results(target: Target) -> dict[str, int]:
     """Returns by which host of bsched each result was reported, as the statements say."""
     found = dict[str, int]()
     with closing(sqlite3.connect(target.folder / "bridge.db")) as file:
-        rows = file.execute("SELECT scheduler_hostid FROM host WHERE scheduler_hostid > 0").fetchall()
+        rows = file.execute("SELECT scheduler_hostid FROM host_file WHERE scheduler_hostid > 0").fetchall()
     for number in [int(row[0]) for row in rows]:
         for result, fields in target.scheduler.statement(number).items():
             if fields[3:4] == [REPORTED] and result != "total":

@@ -194,7 +194,7 @@ def refuse_statements(target: Target, ending: threading.Event) -> str:
 def hosts_of_scheduler(target: Target) -> list[int]:
     """Returns the numbers that bsched gave the computers."""
     with closing(sqlite3.connect(target.folder / "bridge.db")) as file:
-        rows = file.execute("SELECT scheduler_hostid FROM host WHERE scheduler_hostid > 0").fetchall()
+        rows = file.execute("SELECT scheduler_hostid FROM host_file WHERE scheduler_hostid > 0").fetchall()
     return [int(row[0]) for row in rows]
 
 

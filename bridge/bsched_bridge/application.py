@@ -23,11 +23,11 @@ from .common.host_rules import HostRuleReader
 from .common.http_messages import TEXT, XML, Message, answer, is_of_this_machine, log_fault, plain_answer
 from .common.limits import Places
 from .common.routes import FORMS, Handler, Route, Routes
-from .common.state_file import StateFile, WaitingWrites
+from .common.state_file import StateFile
 from .exchange.answers import Exchange, PutOff, Resending
-from .exchange.call_numbers import CallNumbers
 from .exchange.client_replies import ReplyWriter
 from .exchange.host_search import HostSearch
+from .exchange.host_states import Flushing, HostStates
 from .exchange.large_calls import LargeCalls
 from .exchange.messages import SchedulerMessages
 from .exchange.vain_calls import VainCalls
@@ -45,7 +45,7 @@ from .pages.statements import Statements
 from .pages.team_pages import TeamPages
 from .pages.templates import Templates
 from .pages.volunteer_pages import VolunteerPages
-from .people.archives import read_archives
+from .people.archives import fold, read_archives
 from .people.barring import Barring, is_barred
 from .people.credit_days import CreditDays
 from .people.directory import Directory
@@ -92,6 +92,7 @@ class Application:
         self.faults = faults or CatalogueFaults()
         self.current = current = (lambda: catalogue) if isinstance(catalogue, Catalogue) else catalogue
         key, archives, barring = settings.operator_key, read_archives(settings.archives), Barring(file)
+        fold(file, archives)
         hosts, self.members, recent = Hosts(file), Members(file), RecentCredit(settings.averages)
         self.file, self.rules = file, rules or (lambda: settings.host_rules)
         self.measurements = measured = Measurements()
@@ -119,7 +120,7 @@ class Application:
             reports = ReportChecks(current, store, jobs, hosts, scheduler, key, digests, measured.put_offs)
         self.exchange = Exchange(
             hosts,
-            CallNumbers(file),
+            HostStates(file, archives),
             scheduler,
             settings.retry_delay,
             self.rules,
@@ -292,7 +293,7 @@ class Application:
 
 def new_application(path: Path) -> Application:
     """Returns the application of a settings file, with its state file. A thread sends open messages again in
-    the background, and another one writes what was put off.
+    the background, and another one writes the answers that are only in memory.
     """
     settings = read_settings(path)
     if settings.is_without_addresses:
@@ -308,8 +309,8 @@ def new_application(path: Path) -> Application:
     threading.Thread(target=catalogues.check_digests, name="digest check", daemon=True).start()
     resend_accounts = application.accounts.resend_open if application.accounts else None
     Resending(application.exchange, settings.retry_delay, resend_accounts).start()
-    WaitingWrites(file).start()
-    atexit.register(file.write_waiting)
+    Flushing(application.exchange.states).start()
+    atexit.register(application.exchange.states.flush)
     return application
 
 

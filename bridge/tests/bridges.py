@@ -84,15 +84,15 @@ class Bridge:
         )
         self.application.vain.most_seconds = lambda: 10**6
         self.application.statements.wait_seconds = 60  # tests look at what a page shows after the reading
-        self.hosts, self.numbers = self.application.exchange.hosts, self.application.exchange.numbers
+        self.hosts, self.states = self.application.exchange.hosts, self.application.exchange.states
         self.members: Any = self.application.members
         self.accounts: Any = self.application.accounts  # None without [accounts]
 
     def restart(self) -> None:
-        """Kills the bridge, which loses the writes that it put off, and starts it again from what is on the
-        disk.
+        """Kills the bridge, which loses the answers that are only in memory, and starts it again from what is
+        on the disk.
         """
-        self.file._waiting.clear()
+        self.states._unwritten.clear()
         self.close()
         self.start()
 

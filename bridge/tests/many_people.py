@@ -9,9 +9,14 @@ def people(bridge: Bridge, count: int) -> None:
     with bridge.file.transaction() as connection:
         for number in range(count):
             connection.execute(
-                "INSERT INTO host (authenticator, host_cpid, hostid, scheduler_hostid, last_number, "
-                "user_name, user_credit, host_credit, heard_at) VALUES (?, 'c', ?, ?, 1, 'x', ?, ?, ?)",
-                (f"k{number}", 200_000 + number, number + 1, number * 1000, number * 1000, number),
+                "INSERT INTO host (authenticator, host_cpid, hostid, user_name, user_credit, host_credit, "
+                "heard_at) VALUES (?, 'c', ?, 'x', ?, ?, ?)",
+                (f"k{number}", 200_000 + number, number * 1000, number * 1000, number),
+            )
+            connection.execute(
+                "INSERT INTO host_file (host, file, scheduler_hostid, last_number) "
+                "SELECT id, 1, ?, 1 FROM host WHERE hostid = ?",
+                (number + 1, 200_000 + number),
             )
             connection.execute(
                 "INSERT INTO member (authenticator, name, is_imported, cpid, created_at, credit) "

@@ -3,7 +3,7 @@ import sqlite3
 from collections.abc import Callable
 from typing import cast
 
-NEW_HOSTID = "bsched_bridge.exchange.call_numbers.new_hostid"  # what tests replace
+NEW_HOSTID = "bsched_bridge.exchange.host_states.new_hostid"  # what tests replace
 
 
 def rising(above: Callable[[], int]) -> Callable[[sqlite3.Connection], int]:

@@ -82,6 +82,11 @@ def is_forgotten(project: Path, bridge: Bridge, key: str) -> None:
     )
     assert row == (None, None, "deleted", None, 0)
     assert bridge.file.rows("SELECT * FROM host WHERE authenticator = ?", key) == []
+    query = (
+        "SELECT 1 FROM host_file WHERE host NOT IN (SELECT id FROM host) UNION ALL SELECT 1 FROM member_file "
+    )
+    where = "WHERE member = (SELECT id FROM member WHERE authenticator = ?)"
+    assert bridge.file.rows(f"{query} {where}", key) == []
     bridge.file.close()  # the log is then in the file
     assert files_with(project, ANN) == [] and files_with(project, "Zoë") == []
     bridge.start()

@@ -109,7 +109,9 @@ def test_the_last_answer_is_stored_at_the_end(project: Path, twin: Twin) -> None
         process.terminate()
         assert process.wait(60) == 0
     connection = sqlite3.connect(project / "bridge.db")
-    assert connection.execute("SELECT open_call, client_seqno IS NULL FROM host").fetchall() == [(None, 0)]
+    assert connection.execute(
+        "SELECT open_call, client_seqno IS NULL FROM host JOIN host_file ON host = id"
+    ).fetchall() == [(None, 0)]
     connection.close()
 
 

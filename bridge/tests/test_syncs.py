@@ -58,7 +58,7 @@ def test_a_call_is_synced_before_it_is_sent(bridge: Bridge, events: Callable[...
     seen = events(bridge)
     bridge.call(request(cpid="c2"))
     is_synced, statements = last_commit(before(seen, "SEND /scheduler"))
-    assert is_synced and "INSERT INTO host" in statements[0] and "open_call" in statements[0]
+    assert is_synced and statements[-1].startswith("INSERT INTO host_file") and "open_call" in statements[-1]
 
 
 def test_a_number_is_synced_before_a_client_is_told(bridge: Bridge, events: Callable[..., Any]) -> None:
@@ -90,14 +90,14 @@ def test_a_usual_call_takes_one_transaction(bridge: Bridge, events: Callable[...
     """
     bridge.call(request())
     bridge.call(request(hostid=FIRST, listed=["u1_0"], seconds=0))
-    bridge.file.write_waiting()
+    bridge.states.flush()
     seen = events(bridge)
     bridge.call(request(hostid=FIRST, listed=[], reports=[("u1_0", "42")]))
     assert kinds(seen) == CALL
     bridge.call(request(hostid=FIRST, listed=[]))
-    assert kinds(seen) == [*CALL, "BEGIN", "UPDATE", "UPDATE", "COMMIT", "SEND"]
+    assert kinds(seen) == [*CALL, "BEGIN", "UPDATE", *CALL[2:]]
     bridge.got("/p/computers")
-    assert kinds(seen)[-4:] == ["BEGIN", "SELECT", "UPDATE", "COMMIT"]
+    assert kinds(seen)[-4:] == ["BEGIN", "UPDATE", "UPDATE", "COMMIT"]
     assert not last_commit(seen)[0]
 
 
@@ -107,11 +107,11 @@ def kinds(seen: list[str]) -> list[str]:
     return [one.split()[0] for one in statements]
 
 
-CALL = ["SELECT", "BEGIN", "UPDATE", "COMMIT", "SEND"]
+CALL = ["SELECT", "BEGIN", "UPDATE", "UPDATE", "COMMIT", "SEND"]  # of the host in the file, and of the host
 
 
-def test_another_credit_takes_three_statements(bridge: Bridge, events: Callable[..., Any]) -> None:
-    """One is for the account, and one each for the days of the host and the account."""
+def test_another_credit_takes_four_statements(bridge: Bridge, events: Callable[..., Any]) -> None:
+    """One is for the account, one for the account in the file, and one each for the days of both."""
     bridge.call(request())
     bridge.call(request(hostid=FIRST))
     with bridge.file.transaction() as connection:
@@ -119,8 +119,8 @@ def test_another_credit_takes_three_statements(bridge: Bridge, events: Callable[
             connection.execute(f"UPDATE {table} SET credit = 1")
     seen = events(bridge)
     bridge.call(request(hostid=FIRST))
-    bridge.file.write_waiting()
-    assert kinds(seen) == [*CALL, "BEGIN", "SELECT", "UPDATE", "INSERT", "INSERT", "UPDATE", "COMMIT"]
+    bridge.states.flush()
+    assert kinds(seen) == [*CALL, "BEGIN", *["UPDATE"] * 3, *["INSERT"] * 3, "COMMIT"]
     assert bridge.file.row("SELECT count(*) FROM member_day WHERE credit = 1") == (0,)
 
 
@@ -132,5 +132,5 @@ def test_the_first_call_of_a_day_forgets_days(bridge: Bridge, events: Callable[.
             connection.execute(f"UPDATE {table} SET day = day - 1")
     seen = events(bridge)
     bridge.call(request(hostid=FIRST))
-    bridge.file.write_waiting()
-    assert kinds(seen) == [*CALL, "BEGIN", "SELECT", *["INSERT", "DELETE"] * 2, "UPDATE", "COMMIT"]
+    bridge.states.flush()
+    assert kinds(seen) == [*CALL, "BEGIN", "UPDATE", "UPDATE", *["INSERT", "DELETE"] * 2, "COMMIT"]

@@ -171,10 +171,15 @@ class BrowserTrial(Run):
                     (f"k{number}", name, now - number * 20 * DAY, credit),
                 )
                 connection.execute(
-                    "INSERT INTO host (authenticator, host_cpid, hostid, scheduler_hostid, last_number, "
-                    "user_name, user_credit, host_credit, heard_at, about) VALUES "
-                    "(?, 'c', ?, ?, 1, ?, ?, ?, ?, (SELECT about FROM host WHERE about IS NOT NULL LIMIT 1))",
-                    (f"k{number}", 200_000 + number, 500 + number, name, credit, credit, now - 60 * number),
+                    "INSERT INTO host (authenticator, host_cpid, hostid, user_name, user_credit, "
+                    "host_credit, heard_at, about) VALUES (?, 'c', ?, ?, ?, ?, ?, "
+                    "(SELECT about FROM host WHERE about IS NOT NULL LIMIT 1))",
+                    (f"k{number}", 200_000 + number, name, credit, credit, now - 60 * number),
+                )
+                connection.execute(
+                    "INSERT INTO host_file (host, file, scheduler_hostid, last_number, credit) "
+                    "SELECT id, 1, ?, 1, ? FROM host WHERE hostid = ?",
+                    (500 + number, credit, 200_000 + number),
                 )
             connection.execute("UPDATE member SET created_at = ? WHERE id = 1", (now - 800 * DAY,))
             for day in range(30):

@@ -16,6 +16,7 @@ catalogue             catalogue.toml: applications, versions and their files, wi
 ports                 the ports of a project, in its file environment and in bridge.toml
 timers                when the timers of a project's units elapsed last
 schemas, tables       the tables of bsched in a copy, opened for reading
+project_files         files.toml: the files of a project, their states, and how to reach them
 file_names            the names by which clients know workunits and results, which say their file
 workunits             what became of a workunit, by the rules of docs/PROFILE.md
 copies                copies of SQLite files, and folders of them

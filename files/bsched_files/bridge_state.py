@@ -128,7 +128,86 @@ INSERT INTO host (authenticator, host_cpid, has_former_number, scheduler_hostid,
 DROP TABLE host_of_version_2;
 """
 )
-NEW_FILE = HOSTS + NUMBERS + MEMBERS + BARRED + PEOPLE + TEAMS + PREFERENCES
+# A host, and a host in a file of the project. The columns that are of one file get the number 1. Which jobs a
+# client has is not known, and its call of the file says it.
+FILES = """
+DROP INDEX host_by_number;
+DROP INDEX host_by_scheduler_number;
+DROP INDEX host_of_copy;
+DROP INDEX host_with_open_call;
+DROP INDEX host_of_stranger;
+DROP INDEX host_heard;
+DROP INDEX host_by_credit;
+DROP TRIGGER host_of_deleted;
+ALTER TABLE host RENAME TO host_of_version_7;
+CREATE TABLE host (
+  -- no number is given twice: a late write of a host that was deleted must hit no other
+  id INTEGER PRIMARY KEY AUTOINCREMENT,
+  -- the key, the same in each file; the host_cpid is the one with which the host was made
+  authenticator TEXT NOT NULL, host_cpid TEXT NOT NULL,
+  hostid INTEGER,             -- the bridge's number of the host, once a client was told it
+  -- the client's rpc_seqno in its last request with that number; NULL before the first one
+  client_seqno INTEGER,
+  copy_of INTEGER,            -- the hostid of the computer that the host is a copy of
+  has_former_number INTEGER NOT NULL DEFAULT 0,  -- 1: a former version told a number, which is not known
+  user_name TEXT,             -- as the latest reply told it
+  user_credit INTEGER, host_credit INTEGER,  -- at the latest reply, over all files
+  heard_at INTEGER,           -- when it came; NULL if bsched has the host in no file, as far as is known
+  about TEXT,                 -- what the computer said of itself in its last request, as JSON
+  day INTEGER NOT NULL DEFAULT 0, sent INTEGER NOT NULL DEFAULT 0,  -- the new jobs of a day, over all files
+  UNIQUE (authenticator, host_cpid)
+) STRICT;
+CREATE TABLE host_file (      -- a host in a file of the project
+  host INTEGER NOT NULL, file INTEGER NOT NULL,
+  scheduler_hostid INTEGER,   -- bsched's number of the host in the file, by its last reply
+  last_number INTEGER NOT NULL,  -- the rpc_seqno of the last call
+  open_call BLOB,             -- its bytes, where no answer came yet
+  jobs_in_hand TEXT NOT NULL DEFAULT '[]',  -- those that the client may lack, as JSON, as replies have them
+  -- the names of those that the client may have, by the last call and its reply, with blanks between them
+  jobs TEXT NOT NULL DEFAULT '',
+  credit INTEGER NOT NULL DEFAULT 0,  -- of the host in this file
+  called_at INTEGER NOT NULL DEFAULT 0,  -- when the latest reply came; 0: the next request calls the file
+  dry_until INTEGER NOT NULL DEFAULT 0,  -- until when the host asks the file for no work
+  PRIMARY KEY (host, file)
+) STRICT;
+CREATE TABLE member_file (    -- an account in a file of the project
+  member INTEGER NOT NULL, file INTEGER NOT NULL, credit INTEGER NOT NULL, PRIMARY KEY (member, file)
+) STRICT, WITHOUT ROWID;
+CREATE TABLE closed_credit (  -- of hosts in tables that nobody writes any more
+  authenticator TEXT NOT NULL, host_cpid TEXT NOT NULL, credit INTEGER NOT NULL,
+  PRIMARY KEY (authenticator, host_cpid)
+) STRICT, WITHOUT ROWID;
+CREATE TABLE folded (         -- the marks of these tables
+  mark TEXT PRIMARY KEY
+) STRICT, WITHOUT ROWID;
+INSERT INTO host (authenticator, host_cpid, hostid, client_seqno, copy_of, has_former_number, user_name,
+    user_credit, host_credit, heard_at, about)
+  SELECT authenticator, host_cpid, hostid, client_seqno, copy_of, has_former_number, user_name, user_credit,
+    host_credit, CASE WHEN scheduler_hostid IS NOT NULL THEN coalesce(heard_at, 0) END, about
+  FROM host_of_version_7 ORDER BY rowid;
+INSERT INTO host_file (host, file, scheduler_hostid, last_number, open_call, jobs_in_hand, credit)
+  SELECT id, 1, scheduler_hostid, last_number, open_call, jobs_in_hand, coalesce(former.host_credit, 0)
+  FROM host JOIN host_of_version_7 AS former USING (authenticator, host_cpid) ORDER BY id;
+INSERT INTO member_file (member, file, credit)
+  SELECT id, 1, coalesce(credit, 0) FROM member WHERE is_imported = 1 AND NOT EXISTS (
+    SELECT 1 FROM barred WHERE barred.authenticator = member.authenticator AND is_deleted = 1);
+DROP TABLE host_of_version_7;
+CREATE UNIQUE INDEX host_by_number ON host (hostid);
+CREATE INDEX host_of_copy ON host (authenticator, copy_of) WHERE copy_of IS NOT NULL;
+CREATE INDEX host_heard ON host (heard_at) WHERE heard_at IS NOT NULL;
+CREATE INDEX host_by_credit ON host (host_credit DESC, hostid)
+  WHERE heard_at IS NOT NULL AND hostid IS NOT NULL;
+CREATE INDEX host_file_by_number ON host_file (file, scheduler_hostid) WHERE scheduler_hostid IS NOT NULL;
+CREATE INDEX host_file_with_open_call ON host_file (host, file) WHERE open_call IS NOT NULL;
+CREATE INDEX host_file_of_stranger ON host_file (host)
+  WHERE open_call IS NOT NULL AND scheduler_hostid IS NULL;
+CREATE TRIGGER host_of_deleted BEFORE INSERT ON host
+  WHEN EXISTS (SELECT 1 FROM barred WHERE authenticator = NEW.authenticator AND is_deleted = 1)
+  BEGIN SELECT RAISE(IGNORE); END;
+CREATE TRIGGER host_goes AFTER DELETE ON host
+  BEGIN DELETE FROM host_file WHERE host = OLD.id; END;
+"""
+NEW_FILE = HOSTS + NUMBERS + MEMBERS + BARRED + PEOPLE + TEAMS + PREFERENCES + FILES
 # the statements from each version to the next
 UPGRADES = {
     1: MEMBERS + HEARD_MEMBERS,
@@ -137,11 +216,12 @@ UPGRADES = {
     4: PEOPLE + CREDIT_OF_MEMBERS,
     5: TEAMS,
     6: PREFERENCES,
+    7: FILES,
 }
 STATE = SqliteFormat(
     name="the state file of a bridge",
     application_id=0x62736362,  # "bscb"
-    version=7,
+    version=8,
     new_file=NEW_FILE,
     upgrades=UPGRADES,
 )

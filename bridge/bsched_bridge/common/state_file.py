@@ -1,36 +1,27 @@
 """The state file: what must outlive a stop of the bridge, in SQLite.
 
-Six modules keep their rows in it: `hosts` and `call_numbers` the keys of bsched with their numbers and their
+Six modules keep their rows in it: `hosts` and `host_states` the keys of bsched with their numbers and their
 calls, `members` the accounts, `barring` those whose computers are refused, `credit_days` credit by days, and
 `teams` the teams. Pages read on a connection of their own, so calls don't wait for them.
 
 One bridge has the file: it holds the lock file next to it. Commands of the operator work on the file while
 the bridge serves it; each of their transactions takes a part of a second.
 
-A write can be put off until the next transaction. Until then it is in memory, and a kill undoes it.
+What `host_states` keeps in memory for a while is written before somebody else uses the file.
 """
 import fcntl
-import logging
 import os
 import sqlite3
 import threading
-from collections.abc import Callable, Hashable
+from collections.abc import Callable
 from pathlib import Path
 
 from bsched_files.bridge_state import STATE
 from bsched_files.faults import Fault
 
 BUSY_SECONDS = 10.0  # for a transaction of another process
-# how long a write is put off at most, while WaitingWrites runs, and how many are
-PUT_OFF_SECONDS, MOST_WAITING = 1.0, 1000
-
-
 ADVICE = "; give another name as `state`"  # for a file of another format
 SPOILED = 'it is spoiled or no state file: see docs/VOLUNTEERS.md, "The state file"'
-
-Write = Callable[[sqlite3.Connection], None]  # writes, within a transaction
-
-log = logging.getLogger(__name__)
 
 
 class StateFault(Fault):
@@ -76,10 +67,8 @@ class StateFile:
         self._is_synced: bool | None = None  # whether SQLite syncs a commit now; None: as it does by default
         self._look_lock = threading.Lock()
         self._looking: sqlite3.Connection | None = None
-        self._waiting_lock = threading.Lock()
-        # the writes that wait for a transaction, and those in the one that runs
-        self._waiting: dict[Hashable, Write] = {}
-        self._written: dict[Hashable, Write] = {}
+        # writes what somebody keeps in memory, before others use the file
+        self.before_use: Callable[[], None] = lambda: None
         try:
             if is_guest:
                 path.stat()
@@ -124,16 +113,18 @@ class StateFile:
             os.close(self._held)
             self._held = None
 
-    def transaction(self, is_synced: bool = True, only: Hashable = None) -> "Transaction":
+    def transaction(self, is_synced: bool = True, flushes: bool = True) -> "Transaction":
         """Runs the block of a `with` statement in one transaction. If the block ends without an exception, it
-        is committed; otherwise it is undone. It begins with what was put off: all of it, or only the write of
-        a key.
+        is committed; otherwise it is undone. What somebody keeps in memory is written before, unless flushes
+        is false.
 
         If is_synced is false, a power failure may undo it, until a later transaction is synced.
         """
-        return Transaction(self, is_synced, only)
+        if flushes:
+            self.before_use()
+        return Transaction(self, is_synced)
 
-    def begin(self, is_synced: bool, only: Hashable = None) -> sqlite3.Connection:
+    def begin(self, is_synced: bool) -> sqlite3.Connection:
         """Begins a transaction, for which this thread has the connection from now on."""
         self._lock.acquire()
         try:
@@ -141,90 +132,40 @@ class StateFile:
                 self._connection.execute(f"PRAGMA synchronous = {'FULL' if is_synced else 'NORMAL'}")
                 self._is_synced = is_synced
             self._connection.execute("BEGIN IMMEDIATE")
-            if self._waiting:
-                self._write_waiting(only)
         except BaseException:
-            self._written = {}
-            try:
-                if self._connection.in_transaction:
-                    self._connection.execute("ROLLBACK")
-            finally:
-                self._lock.release()
+            self._lock.release()
             raise
         return self._connection
 
-    def _write_waiting(self, only: Hashable) -> None:
-        """Does what was put off, or only the write of a key, in a transaction that has begun. If that fails,
-        it is forgotten.
-        """
-        with self._waiting_lock:
-            keys = list(self._waiting) if only is None else [only]
-            self._written = {key: self._waiting.pop(key) for key in keys if key in self._waiting}
-        for write in self._written.values():
-            write(self._connection)
-
     def end(self, is_good: bool) -> None:
-        """Commits or undoes the transaction. What was put off before waits again if it was undone with it."""
+        """Commits or undoes the transaction."""
         try:
             if is_good:
                 self._connection.execute("COMMIT")
-                self._written = {}
         finally:
             try:
                 if self._connection.in_transaction:
                     self._connection.execute("ROLLBACK")
             finally:
-                with self._waiting_lock:
-                    for key, write in self._written.items():
-                        self._waiting.setdefault(key, write)
-                    self._written = {}
                 self._lock.release()
-
-    def put_off(self, key: Hashable, write: Write) -> None:
-        """Puts the write of a key off until a transaction begins with it, or until somebody reads the file
-        by this connection. It takes the place of an earlier one of the key, and is done after all others.
-        """
-        with self._waiting_lock:
-            self._waiting.pop(key, None)
-            self._waiting[key] = write
-        if len(self._waiting) > MOST_WAITING:
-            self.write_waiting()
-
-    def waiting(self, key: Hashable) -> Write | None:
-        """Returns the write of a key that was put off."""
-        with self._waiting_lock:
-            return self._waiting.get(key) or self._written.get(key)
-
-    def write_waiting(self) -> None:
-        """Does what was put off. If it can't be done, a line in the log says so."""
-        if not self._waiting:
-            return
-        try:
-            with self.transaction(is_synced=False):
-                pass
-        except sqlite3.Error as error:
-            log.error("what was put off could not be stored: %s", error)
 
     def row(self, statement: str, *values: object) -> tuple[object, ...] | None:
         """Returns the first row of a query."""
         rows = self.rows(statement, *values)
         return rows[0] if rows else None
 
-    def stored_row(self, statement: str, *values: object) -> tuple[object, ...] | None:
-        """Returns the first row of a query, without what was put off."""
-        with self._lock:
-            rows = self._connection.execute(statement, values).fetchall()
-        return rows[0] if rows else None
-
-    def rows(self, statement: str, *values: object) -> list[tuple[object, ...]]:
-        """Returns the rows of a query."""
-        self.write_waiting()
+    def rows(self, statement: str, *values: object, flushes: bool = True) -> list[tuple[object, ...]]:
+        """Returns the rows of a query. What somebody keeps in memory is written before, unless flushes is
+        false.
+        """
+        if flushes:
+            self.before_use()
         with self._lock:
             return self._connection.execute(statement, values).fetchall()
 
     def looked(self, statement: str, *values: object) -> list[tuple[object, ...]]:
         """Returns the rows of a query for a page. Calls don't wait for it, even if it takes long."""
-        self.write_waiting()
+        self.before_use()
         with self._look_lock:
             if self._looking is None:
                 raise sqlite3.ProgrammingError("the file is closed")
@@ -232,7 +173,7 @@ class StateFile:
 
     def close(self) -> None:
         """Closes the file."""
-        self.write_waiting()
+        self.before_use()
         with self._look_lock:
             if self._looking is not None:
                 self._looking.close()
@@ -250,7 +191,7 @@ class StateFile:
 
     def backup(self, target: Path) -> None:
         """Copies the file as it is at one moment into a new file. Others can go on writing meanwhile."""
-        self.write_waiting()
+        self.before_use()
         with self._lock:
             copy = sqlite3.connect(target, isolation_level=None)
             try:
@@ -260,35 +201,16 @@ class StateFile:
                 copy.close()
 
 
-class WaitingWrites(threading.Thread):
-    """A thread that does what was put off, each second until it is ended."""
-
-    def __init__(self, file: StateFile) -> None:
-        super().__init__(name="waiting writes", daemon=True)
-        self._file, self._ending = file, threading.Event()
-
-    def run(self) -> None:
-        """Writes until it is ended."""
-        while not self._ending.wait(PUT_OFF_SECONDS):
-            self._file.write_waiting()
-
-    def end(self) -> None:
-        """Ends the thread, after what was put off."""
-        self._ending.set()
-        self.join()
-        self._file.write_waiting()
-
-
 class Transaction:
     """A transaction of a block."""
 
-    __slots__ = ("_file", "_is_synced", "_only")
+    __slots__ = ("_file", "_is_synced")
 
-    def __init__(self, file: StateFile, is_synced: bool, only: Hashable) -> None:
-        self._file, self._is_synced, self._only = file, is_synced, only
+    def __init__(self, file: StateFile, is_synced: bool) -> None:
+        self._file, self._is_synced = file, is_synced
 
     def __enter__(self) -> sqlite3.Connection:
-        return self._file.begin(self._is_synced, self._only)
+        return self._file.begin(self._is_synced)
 
     def __exit__(self, kind: object, *_fault: object) -> None:
         self._file.end(kind is None)

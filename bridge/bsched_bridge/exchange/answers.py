@@ -14,6 +14,7 @@ import threading
 from collections import OrderedDict
 from collections.abc import Callable, Iterable
 from dataclasses import dataclass, replace
+from typing import TypeVar
 
 from bsched_files.moments import DAY, HOUR
 from bsched_files.project_settings import HostRules
@@ -25,24 +26,25 @@ from ..common.words import shown_key
 from ..people.archives import Archives
 from ..people.barring import Barred, Barring
 from ..people.held_back import HeldBack
-from ..people.hosts import FIRST_KEY, Hosts, Key
+from ..people.hosts import Hosts, Key
 from ..people.measurements import End, Reports
 from ..requests.calls import call_text, of_file
 from ..requests.client_requests import ClientRequest, Report
 from ..scheduler.messages import Job, NoAnswer, Refusal, Reply, Scheduler
 from ..uploads.report_checks import ReportChecks
-from .call_numbers import (
+from .host_search import HostSearch, TooManySearches
+from .host_states import (
     AccountState,
-    CallNumbers,
     ClientState,
     CountEnded,
-    KeyState,
-    KnownHost,
+    HostState,
+    HostStates,
+    StateChanged,
     TooManyHosts,
 )
-from .host_search import HostSearch, TooManySearches
 
 COUNT_ATTEMPTS = 3  # calls of one request, if bsched's count is ahead or it has lost the account
+STATE_ATTEMPTS = 3  # of a request whose host's state has changed, though its key is held
 MOST_CPIDS = 20_000  # host_cpids that hosts may have besides their own, of which the bridge knows
 LOG_SECONDS = 60.0  # between two lines of the log about refused hosts of one account
 END_SECONDS = 60.0  # for the message that is being sent at the end
@@ -148,6 +150,7 @@ def not_taken(names: list[str]) -> Text:
 
 # the key of a client, or None if it is a new host under another key, and the host that has each result
 Found = tuple[Key | None, dict[str, Key]]
+Returned = TypeVar("Returned")
 
 
 class KnownPairs:
@@ -170,19 +173,13 @@ class KnownPairs:
                 self._pairs.popitem(last=False)
 
 
-class StateChanged(Exception):
-    """Raised if the state of a key is another one by now than the one that was read before the key was
-    held.
-    """
-
-
 class Exchange:
     """Answers requests."""
 
     def __init__(
         self,
         hosts: Hosts,
-        numbers: CallNumbers,
+        states: HostStates,
         scheduler: Scheduler,
         retry_delay: int,
         rules: Callable[[], HostRules],
@@ -195,7 +192,7 @@ class Exchange:
         counted: Reports | None = None,
         held_back: HeldBack | None = None,
     ):
-        self.hosts, self.numbers, self.scheduler, self.search = hosts, numbers, scheduler, search
+        self.hosts, self.states, self.scheduler, self.search = hosts, states, scheduler, search
         self.retry_delay, self.rules, self.barring, self.contact = retry_delay, rules, barring, contact
         self.reports = reports  # None if no application has output files
         self.import_again = import_again  # imports an account again that bsched has lost
@@ -224,7 +221,7 @@ class Exchange:
 
     def _answer(self, request: ClientRequest) -> Answered | PutOff:
         """Returns the reply to a request that has no names of other files."""
-        known = self.numbers.of_number(request.authenticator, request.hostid)
+        known = self.states.of_number(request.authenticator, request.hostid)
         reason = self.barring.reason(request.authenticator) if known is None else known.barred
         refused = self._refused(request.authenticator, reason)
         if refused is not None:
@@ -235,7 +232,7 @@ class Exchange:
                 other = self._of_another(request, known)
                 if other is not None:
                     return other
-                reply = self._call(known.key, request, ClientState(seqno=request.rpc_seqno), known.state)
+                reply = self._call(known.key, request, ClientState(seqno=request.rpc_seqno), known)
                 if isinstance(reply, PutOff):
                     return reply
                 notice = self.held_back.notice(known.key, request) if self.rules().holds_back else None
@@ -256,7 +253,7 @@ class Exchange:
         If that can't be known now, its call is put off.
         """
         refused = self._refused(authenticator, self.barring.reason(authenticator))
-        if refused is not None or self.numbers.knows_account(authenticator):
+        if refused is not None or self.states.knows_account(authenticator):
             return refused
         try:
             return None if self.scheduler.has_account(authenticator) else put_off_by(Refusal("bad_account"))
@@ -290,7 +287,7 @@ class Exchange:
 
     # ---- Clients whose number may be that of another host
 
-    def _of_another(self, request: ClientRequest, known: KnownHost) -> Answered | PutOff | None:
+    def _of_another(self, request: ClientRequest, known: HostState) -> Answered | PutOff | None:
         """Returns the reply to a client that sends the number of another computer of its account, or None if
         the number is its own. After a loss of the state file a number may have been given a second time.
 
@@ -310,7 +307,7 @@ class Exchange:
         with self._locks.held((request.authenticator, request.hostid, request.host_cpid)):
             return self._unless_its_own(request, known)
 
-    def _unless_its_own(self, request: ClientRequest, known: KnownHost) -> Answered | PutOff | None:
+    def _unless_its_own(self, request: ClientRequest, known: HostState) -> Answered | PutOff | None:
         """Returns the reply to a client that has results which its host does not have, as far as is known, or
         None if the number is its own. bsched may have a host that the bridge does not know: a call tells it.
 
@@ -335,7 +332,7 @@ class Exchange:
 
     # ---- Clients that don't send the number of their host
 
-    def _of_unknown(self, request: ClientRequest, original: KnownHost | None) -> Answered | PutOff:
+    def _of_unknown(self, request: ClientRequest, original: HostState | None) -> Answered | PutOff:
         """Returns the reply to a client that has no number, one that the bridge does not know, or that of the
         host that it is a copy of. A client is the host that its host_cpid names, unless another one has its
         results. Then it is a new host, and so is a copy, as in BOINC.
@@ -355,7 +352,7 @@ class Exchange:
         return self._of_found(request, None, holders, original)
 
     def _of_found(
-        self, request: ClientRequest, key: Key | None, holders: dict[str, Key], original: KnownHost | None
+        self, request: ClientRequest, key: Key | None, holders: dict[str, Key], original: HostState | None
     ) -> Answered | PutOff:
         """Returns the reply to a client that gets a number, if it is known which host it is and which one has
         each of its results.
@@ -402,7 +399,7 @@ class Exchange:
         if isinstance(reply, PutOff):
             return reply
         reply = replace(reply, result_ack=reply.result_ack + acknowledged)
-        return Answered(reply, self.numbers.give_hostid(key))
+        return Answered(reply, self.states.give_hostid(key))
 
     def _report_aside(
         self, request: ClientRequest, holders: dict[str, Key], but: Key | None
@@ -422,7 +419,7 @@ class Exchange:
             last = replace(reply, result_ack=(last.result_ack if last else []) + reply.result_ack)
         return None if last is None else Answered(last)
 
-    def _holders_for_copy(self, request: ClientRequest, original: KnownHost) -> dict[str, Key] | PutOff:
+    def _holders_for_copy(self, request: ClientRequest, original: HostState) -> dict[str, Key] | PutOff:
         """Returns which host has each of a copy's reported results. Those that the original had when it was
         copied are the original's.
         """
@@ -435,7 +432,7 @@ class Exchange:
             return dict.fromkeys(reported, original.key)
         return self.search.holders(original.key, reported)
 
-    def _is_copy(self, request: ClientRequest, original: KnownHost, holders: dict[str, Key]) -> bool:
+    def _is_copy(self, request: ClientRequest, original: HostState, holders: dict[str, Key]) -> bool:
         """Returns whether a client that sends the number of a host is a copy of its computer. After a loss of
         the state file the number may have been given a second time. Then the client is another computer: it
         has another host_cpid, and reports what the host does not have.
@@ -484,14 +481,16 @@ class Exchange:
         that are in hand for the host's own client stay so.
         """
         aside = replace(request, results=results, other_results=None, work_req_seconds=0)
-        with self._locks.held(key):
-            state = self._settled(key)
+
+        def act(state: HostState) -> Reply | PutOff:
             checked = aside if self.reports is None else self.reports.check(key, aside)
-            reply = self._send(key, checked, ClientState(), state, True)
+            reply = self._send(checked, ClientState(), state)
             if isinstance(reply, Reply):
-                self.numbers.keep_in_hand(key, jobs_with(reply, state.jobs_in_hand))
+                self.states.keep_in_hand(key, jobs_with(reply, state.jobs_in_hand))
                 return replace(reply, results=[], result_abort=[])
             return reply
+
+        return self._with_state(key, act)
 
     # ---- Calls
 
@@ -500,53 +499,60 @@ class Exchange:
         with self._locks.held(key):
             self._settled(key)
 
-    def _settled(self, key: Key) -> KeyState:
+    def _settled(self, key: Key) -> HostState:
         """Returns the state of a key that is held. If the key has an open call, it is sent again first."""
-        state = self.numbers.state(key)
-        if state.open_call is None:
+        state = self.states.begin(key)
+        call = state.in_file.open_call
+        if call is None:
             return state
-        answer = self._answer_to(key, state.open_call)
+        answer = self._answer_to(key, call)
         if isinstance(answer, Refusal):
             log.warning("a call of %s that was sent again is refused as %s", key.host_cpid, answer.error)
-            self.numbers.record_refusal(key)
+            self.states.refused(state)
         else:
-            self.numbers.record_answer(key, answer, jobs_with(answer, state.jobs_in_hand), state)
-        return self.numbers.state(key)
+            self.states.answered(state, answer, jobs_with(answer, state.jobs_in_hand))
+        return self.states.begin(key)
 
     def _answer_to(self, key: Key, call: bytes) -> Reply | Refusal:
         """Returns the answer to a call, with the credit of the archives added."""
         answer = self.scheduler.call(call)
         return self.archives.added_to(key, answer) if isinstance(answer, Reply) else answer
 
-    def _call(
-        self, key: Key, request: ClientRequest, client: ClientState, seen: KeyState | None = None
-    ) -> Reply | PutOff:
-        """Returns the reply to a request under a key. An open call of the key is sent first. The state that
-        was seen before the key is held is nearly always the one that it still has.
+    def _with_state(
+        self, key: Key, act: Callable[[HostState], Returned], seen: HostState | None = None
+    ) -> Returned:
+        """Returns what is done with the state of a key, which is held and has no open call: that is sent
+        first. The state that was seen before the key is held is nearly always the one that it still has.
         """
         with self._locks.held(key):
-            if seen is not None and seen.has_host and seen.open_call is None:
+            state = seen if seen is not None and seen.is_settled else self._settled(key)
+            for _ in range(STATE_ATTEMPTS):
                 try:
-                    return self._checked_call(key, request, client, seen, False)
+                    return act(state)
                 except StateChanged:
-                    pass
-            return self._checked_call(key, request, client, self._settled(key), True)
+                    state = self._settled(key)
+        raise Busy
 
-    def _checked_call(
-        self, key: Key, request: ClientRequest, client: ClientState, state: KeyState, is_sure: bool
+    def _call(
+        self, key: Key, request: ClientRequest, client: ClientState, seen: HostState | None = None
     ) -> Reply | PutOff:
+        """Returns the reply to a request under a key."""
+        return self._with_state(key, lambda state: self._checked_call(request, client, state), seen)
+
+    def _checked_call(self, request: ClientRequest, client: ClientState, state: HostState) -> Reply | PutOff:
         """Returns the reply under a key that is held and has no open call. Raises StateChanged."""
         if self.reports is None:
-            return self._send(key, request, client, state, is_sure)
-        reply = self._send(key, self.reports.check(key, request), client, state, is_sure)
+            return self._send(request, client, state)
+        key = state.key
+        reply = self._send(self.reports.check(key, request), client, state)
         if isinstance(reply, PutOff):
             return reply
         handed = self.reports.hand_out(key, reply.results)
         if len(handed) < len(reply.results):
-            self.numbers.keep_in_hand(key, reply.results)
+            self.states.keep_in_hand(key, reply.results)
         return replace(reply, results=handed)
 
-    def _is_made_up(self, key: Key, state: KeyState) -> bool:
+    def _is_made_up(self, state: HostState) -> bool:
         """Returns whether bsched does not have the account of a key, if it is doubtful.
 
         While bsched gives no answer, each call stays on the disk, and anybody can make accounts up. So of an
@@ -555,17 +561,16 @@ class Exchange:
         """
         if not state.is_of_stranger:
             return False
-        if self.scheduler.silent_since is None and not self.numbers.has_many_of_strangers():
+        if self.scheduler.silent_since is None and not self.states.has_many_of_strangers():
             return False
-        return not self.scheduler.has_account(key.authenticator)
+        return not self.scheduler.has_account(state.key.authenticator)
 
-    def _send(
-        self, key: Key, request: ClientRequest, client: ClientState, state: KeyState, is_sure: bool
-    ) -> Reply | PutOff:
+    def _send(self, request: ClientRequest, client: ClientState, state: HostState) -> Reply | PutOff:
         """Returns the reply to a request, with the name that the user chose and that of the user's team. The
         key is held, and has no open call. Raises StateChanged.
         """
-        if self._is_made_up(key, state):
+        key = state.key
+        if self._is_made_up(state):
             return put_off_by(Refusal("bad_account"))
         if self.rules().holds_back:
             request = self.held_back.limited(key, request)
@@ -579,64 +584,56 @@ class Exchange:
         last = 0
         refusal = Refusal("stale")
         for _ in range(COUNT_ATTEMPTS):
-            call = self._open_call(key, text, last, client, None if is_sure else state)
-            if isinstance(call, PutOff):
-                return call
-            seqno = None if is_sure else client.seqno
-            is_sure = True  # nobody else changes the state from now on
-            answer = self._answer_to(key, call)
+            opened = self._open_call(state, text, client, last)
+            if isinstance(opened, PutOff):
+                return opened
+            answer = self._answer_to(key, opened.in_file.open_call or b"")
             if isinstance(answer, Reply):
                 jobs = [] if request.other_results is None else answer.results
-                self.numbers.record_answer(key, answer, jobs, state, request.about, seqno)
-                self.counted.record(key, request.results, answer.result_ack)
-                self.held_back.gave(key, len(answer.results))
-                self.held_back.record(key, request.results, answer.result_ack)
-                if self.reports is not None:
-                    self.reports.end(answer.result_ack)
+                self.states.answered(opened, answer, jobs, request.about)
+                self._note_answer(key, request, answer)
                 return shown(answer, state.account, in_hand)
             refusal = answer
-            self.numbers.record_refusal(key)
+            self.states.refused(opened)
             if refusal.error == "bad_account" and self.import_again(key.authenticator):
+                state = self.states.begin(key)
                 continue
             if refusal.error not in ("stale", "reused"):
                 break
-            last = refusal.members["last"]
+            state, last = self.states.begin(key), refusal.members["last"]
             log.warning("the count of %s continues from %d, which bsched had reached", key.host_cpid, last)
         return put_off_by(refusal)
 
-    def _open_call(
-        self, key: Key, text: Callable[[int], bytes], last: int, client: ClientState, seen: KeyState | None
-    ) -> bytes | PutOff:
-        """Returns the text of a new call. If the state of the key was seen before it was held, it must still
-        be the same, else StateChanged is raised. A new host is refused if its account has as many as it may
-        have.
-        """
-        if seen is not None:
-            call = self.numbers.open_as(key, seen, text, client)
-            if call is None:
-                raise StateChanged
-            return call
-        try:
-            return self._open_counted(key, text, last, client)
-        except TooManyHosts as many:
-            self._log_refused(key, f"the account has {many.count} hosts")
-            return too_many_hosts(many.count)
+    def _note_answer(self, key: Key, request: ClientRequest, answer: Reply) -> None:
+        """Counts the results of a reply, and ends the uploads of those that it acknowledges."""
+        self.counted.record(key, request.results, answer.result_ack)
+        self.held_back.gave(key, len(answer.results))
+        self.held_back.record(key, request.results, answer.result_ack)
+        if self.reports is not None:
+            self.reports.end(answer.result_ack)
 
-    def _open_counted(self, key: Key, text: Callable[[int], bytes], last: int, client: ClientState) -> bytes:
-        """Returns the text of a new call, unless its account has too many hosts. Raises TooManyHosts.
+    def _open_call(
+        self, state: HostState, text: Callable[[int], bytes], client: ClientState, last: int
+    ) -> HostState | PutOff:
+        """Returns the state with a new call. A new host is refused if its account has as many as it may have.
+        Raises StateChanged.
 
         The hosts are counted in the state file. If that file and bsched's tables are of different moments,
         the two are reconciled first. A host that bsched does not have makes room.
         """
-        most = self.rules().most_hosts
+        most, account = self.rules().most_hosts, state.key.authenticator
         try:
-            return self.numbers.open(key, text, last, most, client)
-        except TooManyHosts:
-            newest = self.hosts.newest(key.authenticator)
-            if newest is None or self.scheduler.has_host(key.authenticator, newest[0].host_cpid, newest[1]):
-                raise
-            self.hosts.mark_gone(newest[0])
-            return self.numbers.open(key, text, last, most, client)
+            try:
+                return self.states.open(state, text, client, last, most)
+            except TooManyHosts:
+                newest = self.hosts.newest(account)
+                if newest is None or self.scheduler.has_host(account, newest[0].host_cpid, newest[1]):
+                    raise
+                self.hosts.mark_gone(newest[0])
+                return self.states.open(state, text, client, last, most)
+        except TooManyHosts as many:
+            self._log_refused(state.key, f"the account has {many.count} hosts")
+            return too_many_hosts(many.count)
 
 
 def names_of(results: Iterable[Report]) -> list[str]:
@@ -679,15 +676,16 @@ class Resending(threading.Thread):
         It pauses after a call that got no answer, and after the last call. Each round begins with the imports
         of accounts.
         """
-        key = FIRST_KEY
+        host = 0
         while not self._ending.is_set():
             try:
-                if key == FIRST_KEY:
+                if host == 0:
                     self._resend_accounts()
-                following = self.exchange.numbers.next_open(key)
-                key = following or FIRST_KEY
+                following = self.exchange.states.next_open(host)
+                host = 0
                 if following is not None:
-                    self.exchange.resend(following)
+                    host, key = following
+                    self.exchange.resend(key)
                     continue
             except (NoAnswer, Busy):
                 pass

@@ -20,7 +20,7 @@ from ..uploads.current_catalogue import CatalogueFaults
 from ..uploads.digest_queue import DigestQueue
 from ..uploads.store import UploadStore
 
-OPEN_CALLS = "SELECT count(*) FROM host WHERE open_call IS NOT NULL"
+OPEN_CALLS = "SELECT count(*) FROM host_file WHERE open_call IS NOT NULL"
 OPEN_IMPORTS = "SELECT count(*) FROM member WHERE is_imported = 0"
 PENDING = "SELECT count(*) FROM upload"
 LARGEST = (

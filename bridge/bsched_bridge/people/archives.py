@@ -10,12 +10,24 @@ from dataclasses import dataclass, field, replace
 from pathlib import Path
 
 from bsched_files.faults import Fault
-from bsched_files.tables import all_opened
+from bsched_files.tables import all_opened, project_mark
 from bsched_files.toml_entries import OperatorFault
 
+from ..common.state_file import StateFile
 from ..scheduler.messages import Reply
-from .hosts import Key
+from .hosts import SERVED, Key
 
+# Until they call again, hosts and accounts have the rest of their credit in the file that is served.
+REST_OF_HOSTS = (
+    "UPDATE host_file SET credit = (SELECT max(0, coalesce(host_credit, 0) - coalesce((SELECT credit FROM "
+    "closed_credit AS closed WHERE closed.authenticator = host.authenticator AND "
+    "closed.host_cpid = host.host_cpid), 0)) FROM host WHERE id = host_file.host) WHERE file = ?"
+)
+REST_OF_ACCOUNTS = (
+    "UPDATE member_file SET credit = (SELECT max(0, coalesce(member.credit, 0) - coalesce((SELECT "
+    "sum(closed.credit) FROM closed_credit AS closed WHERE closed.authenticator = member.authenticator), 0)) "
+    "FROM member WHERE id = member_file.member) WHERE file = ?"
+)
 CREDIT = "SELECT auth, cpid, credit FROM host JOIN account ON account.id = account_id"
 
 
@@ -25,6 +37,7 @@ class Archives:
 
     hosts: Counter[Key] = field(default_factory=Counter)
     users: Counter[str] = field(default_factory=Counter)
+    marks: set[str] = field(default_factory=set)  # of their tables
 
     def added_to(self, key: Key, reply: Reply) -> Reply:
         """Returns the reply to a host with the credit of the archives added."""
@@ -48,6 +61,7 @@ def read_archives(paths: Sequence[Path]) -> Archives:
     try:
         with all_opened(paths, takes_older=True) as all_tables:
             for tables in all_tables:
+                archives.marks.add(project_mark(tables))
                 for authenticator, host_cpid, credit in tables.rows(CREDIT):
                     archives.hosts[Key(authenticator, host_cpid)] += credit
                     archives.users[authenticator] += credit
@@ -56,3 +70,33 @@ def read_archives(paths: Sequence[Path]) -> Archives:
         what = str(fault).removeprefix(f"{path}: ")
         raise OperatorFault(path, None, f"can't be read as an archive: {what}") from None
     return archives
+
+
+def fold(file: StateFile, archives: Archives) -> None:
+    """Has the state file know the credit of archives, all of it in one transaction. If it knows it already,
+    nothing is written. So a stop at any moment does no harm, nor does another list of archives.
+    """
+    hosts = {key: credit for key, credit in archives.hosts.items() if credit}
+    with file.transaction() as connection:
+        marks = {mark for (mark,) in connection.execute("SELECT mark FROM folded")}
+        deleted = {
+            key for (key,) in connection.execute("SELECT authenticator FROM barred WHERE is_deleted = 1")
+        }
+        found = {
+            Key(authenticator, host_cpid): credit
+            for authenticator, host_cpid, credit in connection.execute(
+                "SELECT authenticator, host_cpid, credit FROM closed_credit"
+            )
+        }
+        wanted = {key: credit for key, credit in hosts.items() if key.authenticator not in deleted}
+        if (found, marks) == (wanted, archives.marks):
+            return
+        for table in ("closed_credit", "folded"):
+            connection.execute(f"DELETE FROM {table}")
+        connection.executemany(
+            "INSERT INTO closed_credit (authenticator, host_cpid, credit) VALUES (?, ?, ?)",
+            ((key.authenticator, key.host_cpid, credit) for key, credit in wanted.items()),
+        )
+        connection.executemany("INSERT INTO folded (mark) VALUES (?)", ((one,) for one in archives.marks))
+        connection.execute(REST_OF_HOSTS, (SERVED,))
+        connection.execute(REST_OF_ACCOUNTS, (SERVED,))

@@ -22,6 +22,7 @@ FORGET_MEMBER = (
     "consent_at = NULL, is_exported = 0, is_anonymous = 0, credit = NULL, preferences = NULL "
     "WHERE authenticator = ?"
 )
+FORGET_FILES = "DELETE FROM member_file WHERE member = (SELECT id FROM member WHERE authenticator = ?)"
 
 
 class Barred(Enum):
@@ -84,7 +85,9 @@ def forget(connection: sqlite3.Connection, authenticator: str, now: int) -> None
     leave_by_key(connection, authenticator)
     forget_days(connection, authenticator)
     connection.execute(FORGET_MEMBER, (DELETED_NAME, secrets.token_hex(16), authenticator))
-    connection.execute("DELETE FROM host WHERE authenticator = ?", (authenticator,))
+    connection.execute(FORGET_FILES, (authenticator,))
+    for table in ("host", "closed_credit"):
+        connection.execute(f"DELETE FROM {table} WHERE authenticator = ?", (authenticator,))
     connection.execute(
         "INSERT INTO barred (authenticator, barred_at, is_deleted) VALUES (?, ?, 1) "
         "ON CONFLICT (authenticator) DO UPDATE SET barred_at = excluded.barred_at, is_deleted = 1",

@@ -9,18 +9,20 @@ from typing import cast
 
 from ..common.state_file import StateFile
 from ..requests.descriptions import Description, read_description
+from .hosts import SERVED
 from .members import ANONYMOUS
 
 MOST_SEARCH = 64  # characters of a name that is searched for
 MOST_FOUND = 200  # users whose computers are listed by a search
 MANY, KEPT_SECONDS = 10_000, 60.0  # computers that take long to count, so their number is kept for a while
-CALLED = "scheduler_hostid IS NOT NULL AND hostid IS NOT NULL"
+CALLED = "heard_at IS NOT NULL AND hostid IS NOT NULL"
 USER = (
     "SELECT id, authenticator, name, is_anonymous, credit, created_at, (SELECT count(*) FROM host WHERE "
     f"host.authenticator = member.authenticator AND {CALLED}), team FROM member"
 )
 COMPUTER = (
-    "SELECT hostid, host.authenticator, host_cpid, scheduler_hostid, host_credit, heard_at, about, "
+    "SELECT hostid, host.authenticator, host_cpid, (SELECT scheduler_hostid FROM host_file "
+    f"WHERE host_file.host = host.id AND host_file.file = {SERVED}), host_credit, heard_at, about, "
     "member.id, member.name, is_anonymous FROM host CROSS JOIN member "
     "ON member.authenticator = host.authenticator"
 )
@@ -175,8 +177,8 @@ class Directory:
         order = "ORDER BY host_credit DESC, hostid"
         if not name:
             # the index alone leads to the first row of a late page
-            page = f"SELECT rowid FROM host WHERE {CALLED} {order} LIMIT ? OFFSET ?"
-            rows = self.file.looked(f"{COMPUTER} WHERE host.rowid IN ({page}) {order}", most, first)
+            page = f"SELECT id FROM host WHERE {CALLED} {order} LIMIT ? OFFSET ?"
+            rows = self.file.looked(f"{COMPUTER} WHERE host.id IN ({page}) {order}", most, first)
         else:
             found = f"{CALLED} AND host.authenticator IN ({FOUND}) {order} LIMIT ? OFFSET ?"
             rows = self.file.looked(f"{COMPUTER} WHERE {found}", pattern_of(name), most, first)

@@ -12,13 +12,25 @@ import time
 from dataclasses import dataclass
 from typing import cast
 
+from bsched_files.file_names import FIRST
+
 from ..common.state_file import StateFile
 
 # Hostids have 31 bits. Former versions told clients bsched's numbers, which are at most 100,000.
 LEAST_NUMBER, MOST_NUMBER = 100_001, 2**31 - 1
+SERVED = FIRST  # the file of the project whose bsched the bridge calls
 HEARD = "authenticator, host_cpid, hostid, scheduler_hostid, user_name, user_credit, host_credit, heard_at"
+IN_FILE = f"host CROSS JOIN host_file ON host_file.host = host.id AND host_file.file = {SERVED}"
 # the hosts that count for `most_hosts`: those that bsched has, or may have by now
-COUNTED = "(scheduler_hostid IS NOT NULL OR open_call IS NOT NULL)"
+COUNTED = (
+    "(heard_at IS NOT NULL OR "
+    "EXISTS (SELECT 1 FROM host_file WHERE host_file.host = host.id AND open_call IS NOT NULL))"
+)
+# a host that bsched has in no file was heard by none
+UNHEARD = (
+    "UPDATE host SET heard_at = NULL WHERE id = ?1 AND NOT EXISTS "
+    "(SELECT 1 FROM host_file WHERE host = ?1 AND scheduler_hostid IS NOT NULL)"
+)
 
 
 @dataclass(frozen=True, slots=True)
@@ -30,7 +42,6 @@ class Key:
 
 
 IS_USED = "SELECT 1 FROM host WHERE hostid = ?1 UNION ALL SELECT 1 FROM host_day WHERE hostid = ?1"
-FIRST_KEY = Key("", "")  # before all keys
 
 
 @dataclass(frozen=True, slots=True)
@@ -64,6 +75,14 @@ def new_hostid(connection: sqlite3.Connection) -> int:
     return number
 
 
+def lose_number(connection: sqlite3.Connection, host: int) -> None:
+    """Notes that the served file does not have a host any more, within a transaction."""
+    connection.execute(
+        "UPDATE host_file SET scheduler_hostid = NULL WHERE host = ? AND file = ?", (host, SERVED)
+    )
+    connection.execute(UNHEARD, (host,))
+
+
 class Hosts:
     """The hosts in a state file."""
 
@@ -78,7 +97,7 @@ class Hosts:
         """
         row = self.file.row(
             "SELECT host_cpid FROM host WHERE authenticator = ? AND copy_of = ? AND client_seqno IS NULL "
-            "ORDER BY rowid LIMIT 1",
+            "ORDER BY id LIMIT 1",
             authenticator,
             hostid,
         )
@@ -87,7 +106,7 @@ class Hosts:
     def scheduler_hostid(self, key: Key) -> int | None:
         """Returns bsched's number of a host by the last reply, if there was one."""
         row = self.file.row(
-            "SELECT scheduler_hostid FROM host WHERE authenticator = ? AND host_cpid = ?",
+            f"SELECT scheduler_hostid FROM {IN_FILE} WHERE authenticator = ? AND host_cpid = ?",
             key.authenticator,
             key.host_cpid,
         )
@@ -107,7 +126,7 @@ class Hosts:
     def latest_keys(self, authenticator: str, most: int) -> list[Key]:
         """Returns the keys of the account's hosts that had a reply, the latest reply first."""
         rows = self.file.rows(
-            "SELECT host_cpid FROM host WHERE authenticator = ? AND scheduler_hostid IS NOT NULL "
+            f"SELECT host_cpid FROM {IN_FILE} WHERE authenticator = ? AND scheduler_hostid IS NOT NULL "
             "ORDER BY heard_at DESC, scheduler_hostid DESC LIMIT ?",
             authenticator,
             most,
@@ -119,7 +138,7 @@ class Hosts:
     def newest(self, authenticator: str) -> tuple[Key, int] | None:
         """Returns the account's newest host without an open call, with bsched's number of it."""
         row = self.file.row(
-            "SELECT host_cpid, scheduler_hostid FROM host WHERE authenticator = ? AND "
+            f"SELECT host_cpid, scheduler_hostid FROM {IN_FILE} WHERE authenticator = ? AND "
             "scheduler_hostid IS NOT NULL AND open_call IS NULL ORDER BY scheduler_hostid DESC LIMIT 1",
             authenticator,
         )
@@ -130,18 +149,19 @@ class Hosts:
         its number, and counts again for `most_hosts` once it calls.
         """
         with self.file.transaction() as connection:
-            connection.execute(
-                "UPDATE host SET scheduler_hostid = NULL "
-                "WHERE authenticator = ? AND host_cpid = ? AND open_call IS NULL",
+            row = connection.execute(
+                f"SELECT id FROM {IN_FILE} WHERE authenticator = ? AND host_cpid = ? AND open_call IS NULL",
                 (key.authenticator, key.host_cpid),
-            )
+            ).fetchone()
+            if row is not None:
+                lose_number(connection, row[0])
 
     # ---- Hosts, for people
 
     def heard(self, most: int, authenticator: str | None = None) -> list[HeardHost]:
         """Returns the hosts that called last, of all accounts or of one, the latest first."""
         query, order = (
-            f"SELECT {HEARD} FROM host WHERE scheduler_hostid IS NOT NULL",
+            f"SELECT {HEARD} FROM {IN_FILE} WHERE heard_at IS NOT NULL AND scheduler_hostid IS NOT NULL",
             "ORDER BY heard_at DESC, scheduler_hostid DESC LIMIT ?",
         )
         if authenticator is None:
@@ -152,21 +172,20 @@ class Hosts:
 
     def count(self) -> int:
         """Returns how many hosts have had a reply."""
-        row = self.file.row("SELECT count(*) FROM host WHERE scheduler_hostid IS NOT NULL")
+        row = self.file.row("SELECT count(*) FROM host WHERE heard_at IS NOT NULL")
         return cast(int, row[0]) if row else 0
 
     def counted_by_account(self) -> dict[str, int]:
         """Returns how many hosts each account has that have had a reply, by its key."""
         rows = self.file.rows(
-            "SELECT authenticator, count(*) FROM host WHERE scheduler_hostid IS NOT NULL "
-            "GROUP BY authenticator"
+            "SELECT authenticator, count(*) FROM host WHERE heard_at IS NOT NULL " "GROUP BY authenticator"
         )
         return {cast(str, row[0]): cast(int, row[1]) for row in rows}
 
     def cpids(self, authenticator: str) -> dict[int, str]:
         """Returns the host_cpid of each host of an account that bsched has, by bsched's number."""
         rows = self.file.rows(
-            "SELECT scheduler_hostid, host_cpid FROM host "
+            f"SELECT scheduler_hostid, host_cpid FROM {IN_FILE} "
             "WHERE authenticator = ? AND scheduler_hostid IS NOT NULL",
             authenticator,
         )
@@ -178,7 +197,7 @@ class Hosts:
         """
         rows = self.file.rows(
             "SELECT authenticator, user_credit, max(CASE WHEN heard_at <= ? THEN heard_at ELSE 0 END) "
-            "FROM host WHERE scheduler_hostid IS NOT NULL GROUP BY authenticator",
+            "FROM host WHERE heard_at IS NOT NULL GROUP BY authenticator",
             int(time.time()),
         )
         return [(cast(str, row[0]), cast(int, row[1])) for row in rows]

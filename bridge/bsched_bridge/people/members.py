@@ -12,6 +12,7 @@ from typing import cast
 from bsched_files.moments import DAY
 
 from ..common.state_file import StateFile
+from .hosts import SERVED
 from .passwords import Secret
 
 COLUMNS = (
@@ -21,6 +22,15 @@ COLUMNS = (
 INSERT = (
     "INSERT INTO member (authenticator, email, salt, secret, cost, name, batch, cpid, consent_at, "
     "created_at, is_imported) VALUES (?, ?, ?, ?, ?, ?, ?, ?, ?, ?, 0)"
+)
+# the account is in a file of the project from the import on
+IMPORTED = (
+    "INSERT INTO member_file (member, file, credit) SELECT id, ?2, 0 FROM member "
+    "WHERE id = ?1 AND is_imported = 1 ON CONFLICT DO NOTHING"
+)
+IN_FILE = (
+    "INSERT INTO member_file (member, file, credit) VALUES (?, ?, ?) "
+    "ON CONFLICT (member, file) DO UPDATE SET credit = excluded.credit"
 )
 # Rows of the operator's accounts have no batch. Accounts that a clock made which was ahead don't count later.
 MADE_BETWEEN = "SELECT count(*) FROM member WHERE batch IS NOT NULL AND created_at > ? AND created_at <= ?"
@@ -105,8 +115,8 @@ def new_batch_name() -> str:
 
 
 def first_heard(connection: sqlite3.Connection, authenticator: str, name: str, now: int, credit: int) -> int:
-    """Inserts the account that a reply is for, unless another reply has inserted it, and stores its credit,
-    within a transaction. Returns the account's number.
+    """Inserts the account that a reply is for, unless another reply has inserted it, and stores its credit
+    over all files, within a transaction. Returns the account's number.
     """
     row = connection.execute(
         "INSERT INTO member (authenticator, name, is_imported, cpid, created_at, credit) "
@@ -118,8 +128,13 @@ def first_heard(connection: sqlite3.Connection, authenticator: str, name: str, n
 
 
 def store_credit(connection: sqlite3.Connection, number: int, credit: int) -> None:
-    """Stores the credit of an account, by its number, within a transaction."""
+    """Stores the credit of an account over all files, by its number, within a transaction."""
     connection.execute("UPDATE member SET credit = ? WHERE id = ?", (credit, number))
+
+
+def store_file_credit(connection: sqlite3.Connection, number: int, credit: int) -> None:
+    """Stores the credit of an account in the served file, by its number, within a transaction."""
+    connection.execute(IN_FILE, (number, SERVED, credit))
 
 
 class Members:
@@ -233,6 +248,7 @@ class Members:
         """
         with self.file.transaction(is_synced=False) as connection:
             connection.execute("UPDATE member SET is_imported = 1 WHERE id = ?", (member.id,))
+            connection.execute(IMPORTED, (member.id, SERVED))
 
     def with_new_batch(self, member: Member) -> Member:
         """Gives the account another import name from now on, and returns the account."""

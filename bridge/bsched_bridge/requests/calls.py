@@ -2,7 +2,7 @@
 import json
 from dataclasses import replace
 
-from bsched_files.file_names import FIRST, is_result_of, plain_result
+from bsched_files.file_names import FIRST, is_result_of, plain_result, result_in_file
 
 from .client_requests import ClientRequest, Report
 
@@ -57,6 +57,12 @@ def with_plain_names(request: ClientRequest) -> ClientRequest:
     results = tuple(replace(report, name=plain_result(report.name)) for report in request.results)
     other = None if request.other_results is None else tuple(map(plain_result, request.other_results))
     return replace(request, results=results, other_results=other)
+
+
+def listed_names(call: bytes, file: int = FIRST) -> list[str] | None:
+    """Returns the names by which clients know the results that a call lists, or None if it has no list."""
+    names = json.loads(call).get("other_results")
+    return None if names is None else [result_in_file(name, file) for name in names]
 
 
 def call_text(

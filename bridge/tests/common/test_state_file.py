@@ -1,20 +1,20 @@
 """The state file: only one bridge has it, older formats are upgraded, and other files are refused."""
-import itertools
 import os
 import re
 import sqlite3
-import threading
-import time
-from collections.abc import Callable
+import subprocess
+import sys
+from collections import Counter
+from contextlib import closing
 from pathlib import Path
 from typing import cast
 
 import pytest
-from bridges import Bridge
-from joining import create, wait_until
+from bridges import ENVIRONMENT, Bridge
+from joining import create
 
-from bsched_bridge.common.state_file import StateFault, StateFile, WaitingWrites
-from bsched_bridge.exchange.call_numbers import CallNumbers
+from bsched_bridge.common.state_file import StateFault, StateFile
+from bsched_bridge.exchange.host_states import HostStates
 from bsched_bridge.people.directory import Directory
 from bsched_bridge.people.hosts import Hosts, Key
 from bsched_bridge.people.members import Members
@@ -184,9 +184,9 @@ def test_one_bridge_has_the_file_by_any_name(tmp_path: Path) -> None:
 def test_a_spoiled_file_is_told_at_the_start(tmp_path: Path) -> None:
     path = tmp_path / "state.db"
     file = StateFile(path)
-    numbers = CallNumbers(file)
+    states = HostStates(file)
     for number in range(60):
-        numbers.open(Key("ann-key", f"c{number}"), lambda number: b"x" * 2000)
+        states.open(states.begin(Key("ann-key", f"c{number}")), lambda number: b"x" * 2000)
     file.close()
     good = path.read_bytes()
     size = int.from_bytes(good[16:18], "big")
@@ -206,20 +206,11 @@ def test_a_spoiled_file_is_told_at_the_start(tmp_path: Path) -> None:
     StateFile(path).close()
 
 
-def last_hostid(number: int) -> Callable[[sqlite3.Connection], None]:
-    """Returns a write."""
-
-    def write(connection: sqlite3.Connection) -> None:
-        connection.execute("UPDATE numbers SET last_hostid = ?", (number,))
-
-    return write
-
-
 READ = "SELECT last_hostid FROM numbers"
 
 
 def stored(path: Path) -> int:
-    """Returns what such a write has stored, as another process sees it."""
+    """Returns a number in the file, as another process sees it."""
     file = StateFile(path, is_guest=True)
     try:
         return cast(int, file.rows(READ)[0][0])
@@ -227,133 +218,41 @@ def stored(path: Path) -> int:
         file.close()
 
 
-def test_a_write_that_is_put_off(tmp_path: Path) -> None:
-    """It is done before somebody reads, in the next transaction, or at the end."""
+def test_what_somebody_keeps_in_memory_is_written_before_others_use_the_file(tmp_path: Path) -> None:
     path = tmp_path / "state.db"
     file = StateFile(path)
-    file.put_off("a", last_hostid(1))
-    assert stored(path) == 100_000 and file.waiting("a") is not None
-    assert file.row(READ) == (1,) and file.waiting("a") is None
-    file.put_off("a", last_hostid(2))
-    assert file.looked(READ) == [(2,)]
-    file.put_off("a", last_hostid(3))
+    written = 0
+
+    def write() -> None:
+        nonlocal written
+        written += 1
+        with file.transaction(flushes=False) as connection:
+            connection.execute("UPDATE numbers SET last_hostid = ?", (written,))
+
+    file.before_use = write
+    assert file.rows(READ, flushes=False) == [(100_000,)]
+    assert file.row(READ) == (1,) and file.looked(READ) == [(2,)] and stored(path) == 2
     with file.transaction() as connection:
-        assert connection.execute(READ).fetchone() == (3,) and file.waiting("a") is not None
-    assert stored(path) == 3 and file.waiting("a") is None
-    file.put_off("a", last_hostid(4))
-    file.put_off("b", last_hostid(5))
-    assert file.stored_row(READ) == (3,)
-    with file.transaction(only="a") as connection:
-        assert connection.execute(READ).fetchone() == (4,)
-    assert file.waiting("a") is None and file.waiting("b") is not None
-    with file.transaction(only="a"):
-        pass
-    assert stored(path) == 4
+        assert connection.execute(READ).fetchone() == (3,)
     file.backup(tmp_path / "copy.db")
-    assert contents(tmp_path / "copy.db") == contents(path)
-    file.put_off("a", last_hostid(6))
+    assert stored(path) == 4 and contents(tmp_path / "copy.db") == contents(path)
     file.close()
-    assert stored(path) == 6
-
-
-def test_only_so_many_writes_are_put_off(tmp_path: Path, monkeypatch: pytest.MonkeyPatch) -> None:
-    monkeypatch.setattr("bsched_bridge.common.state_file.MOST_WAITING", 3)
-    file = StateFile(tmp_path / "state.db")
-    for number in range(1, 5):
-        assert file.stored_row(READ) == (100_000,)
-        file.put_off(number, last_hostid(number))
-    assert file.stored_row(READ) == (4,)
-    file.close()
-
-
-def test_a_write_that_is_put_off_waits_if_its_transaction_is_undone(tmp_path: Path) -> None:
-    file = StateFile(tmp_path / "state.db")
-    file.put_off("a", last_hostid(1))
-    with pytest.raises(ZeroDivisionError), file.transaction():
-        raise ZeroDivisionError
-    assert file.waiting("a") is not None and stored(tmp_path / "state.db") == 100_000
-    assert file.row(READ) == (1,)
-    file.close()
-
-
-def test_a_write_that_is_put_off_and_fails(tmp_path: Path, caplog: pytest.LogCaptureFixture) -> None:
-    """It is forgotten, and the next transaction is as good as ever."""
-    file = StateFile(tmp_path / "state.db")
-    for number, fails in ((1, True), (2, False)):
-        file.put_off("a", last_hostid(number))
-        if fails:
-            file.put_off("b", lambda connection: connection.execute("none"))  # type: ignore[arg-type]
-        assert file.row(READ) == (100_000 if fails else number,)
-        assert file.waiting("a") is file.waiting("b") is None
-    assert [record.getMessage() for record in caplog.records] == [
-        'what was put off could not be stored: near "none": syntax error'
-    ]
-    file.close()
-
-
-class SlowKey:
-    """A key whose hash is Python code, as that of a host's key is, so other threads may run meanwhile."""
-
-    def __init__(self) -> None:
-        self.meanwhile: Callable[[], None] = lambda: None
-
-    def __hash__(self) -> int:
-        self.meanwhile()
-        return 1
-
-
-@pytest.mark.parametrize("at", range(1, 6))
-def test_a_write_that_is_put_off_while_an_earlier_one_is_done(tmp_path: Path, at: int) -> None:
-    file, key, passed = StateFile(tmp_path / "state.db"), SlowKey(), itertools.count(1)
-    file.put_off(key, last_hostid(1))
-    other = threading.Thread(target=lambda: file.put_off(key, last_hostid(2)))
-
-    def meanwhile() -> None:
-        if threading.current_thread() is not other and next(passed) == at:
-            other.start()
-            other.join(0.1)
-
-    key.meanwhile = meanwhile
-    with file.transaction():
-        pass
-    key.meanwhile = lambda: None
-    if other.ident is None:  # there were fewer steps
-        other.start()
-    other.join()
-    assert file.row(READ) == (2,)
-    file.close()
+    assert stored(path) == 5
 
 
 def test_a_transaction_that_can_not_begin_leaves_none_open(tmp_path: Path) -> None:
-    file, key = StateFile(tmp_path / "state.db"), SlowKey()
-    file.put_off(key, last_hostid(1))
+    file = StateFile(tmp_path / "state.db")
 
     def fails() -> None:
         raise ZeroDivisionError
 
-    key.meanwhile = fails
-    with pytest.raises(ZeroDivisionError), file.transaction(only=key):
+    file.before_use = fails
+    with pytest.raises(ZeroDivisionError), file.transaction():
         pass
-    key.meanwhile = lambda: None
-    with file.transaction(is_synced=False):
+    with file.transaction(is_synced=False, flushes=False):
         pass
-    assert file.row(READ) == (1,)
-    file.close()
-
-
-def test_a_write_waits_for_a_second_at_most(tmp_path: Path, monkeypatch: pytest.MonkeyPatch) -> None:
-    monkeypatch.setattr("bsched_bridge.common.state_file.PUT_OFF_SECONDS", 0.01)
-    file = StateFile(tmp_path / "state.db")
-    writing = WaitingWrites(file)
-    writing.start()
-    file.put_off("a", last_hostid(1))
-    wait_until(lambda: file.waiting("a") is None)
-    assert stored(tmp_path / "state.db") == 1
-    monkeypatch.setattr("bsched_bridge.common.state_file.PUT_OFF_SECONDS", 600.0)
-    time.sleep(0.05)
-    file.put_off("a", last_hostid(2))
-    writing.end()
-    assert stored(tmp_path / "state.db") == 2
+    assert file.rows(READ, flushes=False) == [(100_000,)]
+    file.before_use = lambda: None
     file.close()
 
 
@@ -395,7 +294,7 @@ def test_a_newer_file_is_refused_and_not_changed(tmp_path: Path) -> None:
     with pytest.raises(StateFault) as raised:
         StateFile(path)
     assert str(raised.value) == (
-        f"{path}: a newer bridge wrote this file (format 8, and this bridge knows 7): run that bridge"
+        f"{path}: a newer bridge wrote this file (format 9, and this bridge knows 8): run that bridge"
     )
     assert contents(path) == before
 
@@ -405,15 +304,15 @@ def test_a_file_of_an_older_version_keeps_its_hosts(tmp_path: Path, version: int
     path = tmp_path / "state.db"
     old_file(path, version)
     file = StateFile(path)
-    numbers, hosts = CallNumbers(file), Hosts(file)
-    assert [numbers.open_call(Key("ann-key", cpid)) for cpid in ("c1", "c2")] == [None, b"call 9"]
-    assert numbers.open_call(Key("eve-key", "c4")) == b"call 1"
-    assert numbers.open(Key("ann-key", "c1"), lambda number: b"%d" % number) == b"8"
+    states, hosts = HostStates(file), Hosts(file)
+    first, second, third = (states.begin(Key(*row[:2])) for row in (ROWS[0], ROWS[1], ROWS[3]))
+    assert [one.in_file.open_call for one in (first, second, third)] == [None, b"call 9", b"call 1"]
+    assert states.open(first, lambda number: b"%d" % number).in_file.open_call == b"8"
     # which numbers the clients were told is not known: they may be from earlier tables
-    assert [numbers.of_number("ann-key", number) for number in (1, 2, 3)] == [None] * 3
+    assert [states.of_number("ann-key", number) for number in (1, 2, 3)] == [None] * 3
     assert [host.scheduler_hostid for host in hosts.heard(9)] == [1, 3, 2]
-    assert numbers.give_hostid(Key("ann-key", "c2")) == 100_001
-    known = numbers.of_number("ann-key", 100_001)
+    assert states.give_hostid(Key("ann-key", "c2")) == 100_001
+    known = states.of_number("ann-key", 100_001)
     assert known is not None and known.key == Key("ann-key", "c2")
     assert hosts.count() == 3
     file.close()
@@ -436,7 +335,7 @@ def test_a_file_of_version_1_gets_accounts(tmp_path: Path) -> None:
     kept = contents(path)
     StateFile(path).close()  # no upgrade is needed
     assert contents(path) == kept
-    assert kept[1] == 7
+    assert kept[1] == 8
 
 
 @pytest.mark.parametrize("version", [1, 2])
@@ -464,7 +363,7 @@ def test_a_new_file_and_an_upgraded_one_have_the_same_tables(tmp_path: Path) -> 
         kept = file.rows("SELECT type, name FROM sqlite_schema WHERE name NOT LIKE 'sqlite_%' ORDER BY name")
         shapes.append([(kind, table, file.rows(f"PRAGMA table_xinfo({table})")) for kind, table in kept])
         file.close()
-    assert shapes[0] == shapes[1] == shapes[2] == shapes[3] and len(shapes[0]) == 20
+    assert shapes[0] == shapes[1] == shapes[2] == shapes[3] and len(shapes[0]) == 25
 
 
 def file_of_version_4(path: Path) -> None:
@@ -486,7 +385,7 @@ def test_a_file_of_version_4_gets_what_pages_show(tmp_path: Path) -> None:
     ]
     assert [computer.number for computer in people.computers(0, 9)] == [100_001, 100_002, 100_003]
     computer, ann = people.computer(100_001), Members(file).of_key("ann-key")
-    known = CallNumbers(file).of_number("ann-key", 100_001)
+    known = HostStates(file).of_number("ann-key", 100_001)
     assert computer is not None and ann is not None and known is not None
     assert computer.about == Description()
     assert (ann.is_exported, ann.is_anonymous, ann.shown_name) == (True, False, "Ann")
@@ -509,6 +408,147 @@ def test_a_stopped_upgrade_of_version_4_changes_nothing(
         with pytest.raises(StateFault):
             StateFile(path)
         assert contents(path) == before
+
+
+VERSION_7 = """
+UPDATE host SET open_call = x'7b7d', jobs_in_hand = '[{"name":"u1_0"}]' WHERE host_cpid = 'c2';
+INSERT INTO host (authenticator, host_cpid, last_number, open_call) VALUES ('eve-key', 'c5', 1, x'7b7d');
+INSERT INTO host (authenticator, host_cpid, hostid, scheduler_hostid, last_number, heard_at, host_credit,
+    user_credit, about) VALUES ('bob-key', 'c6', 100004, NULL, 4, 200, 7, 8, '{}');
+INSERT INTO host (authenticator, host_cpid, hostid, copy_of, last_number)
+  VALUES ('ann-key', 'c0', 100005, 100001, 2);
+INSERT INTO member (authenticator, name, is_imported, cpid, created_at)
+  VALUES ('wait-key', 'Wait', 0, 'z', 100), ('gone-key', 'deleted', 1, 'z', 100);
+INSERT INTO barred (authenticator, barred_at, is_deleted) VALUES ('gone-key', 100, 1), ('bob-key', 100, 0);
+INSERT INTO host_day (hostid, day, credit) VALUES (100001, 20000, 5);
+"""
+
+
+def file_of_version_7(path: Path) -> None:
+    """Makes a state file of version 7."""
+    connection = sqlite3.connect(path)
+    connection.executescript(VERSION_4)
+    for version in (4, 5, 6):
+        connection.executescript(UPGRADES[version])
+    connection.executescript(VERSION_7)
+    connection.execute("PRAGMA user_version = 7")
+    connection.close()
+
+
+def rows_of(path: Path, query: str) -> list[tuple[object, ...]]:
+    """Returns the rows of a query."""
+    with closing(sqlite3.connect(path)) as connection:
+        return list(connection.execute(query))
+
+
+FORMER = (
+    "SELECT authenticator, host_cpid, hostid, client_seqno, copy_of, has_former_number, scheduler_hostid, "
+    "last_number, open_call, jobs_in_hand, user_name, user_credit, host_credit, about FROM "
+)
+
+
+def test_a_file_of_version_7_gets_hosts_in_files(tmp_path: Path) -> None:
+    """Nothing of its calls and its jobs in hand is lost, and its hosts stay in their order."""
+    path = tmp_path / "state.db"
+    file_of_version_7(path)
+    before = rows_of(path, f"{FORMER} host ORDER BY rowid")
+    StateFile(path).close()
+    assert rows_of(path, f"{FORMER} host JOIN host_file ON host = id ORDER BY id") == before
+    assert len(before) == 7 and rows_of(path, "SELECT DISTINCT file FROM host_file") == [(1,)]
+    query = (
+        "SELECT host_cpid, heard_at, credit, jobs, called_at, dry_until FROM host JOIN host_file ON host = id"
+    )
+    assert rows_of(path, f"{query} ORDER BY id") == [
+        ("c1", 300, 4000, "", 0, 0),
+        ("c2", 400, 2000, "", 0, 0),
+        ("c3", 100, 0, "", 0, 0),
+        ("c4", None, 0, "", 0, 0),
+        ("c5", None, 0, "", 0, 0),
+        ("c6", None, 7, "", 0, 0),  # bsched does not have it any more
+        ("c0", None, 0, "", 0, 0),
+    ]
+    # those of imported accounts that are not deleted
+    query = "SELECT authenticator, file, member_file.credit FROM member JOIN member_file ON member = id"
+    assert rows_of(path, query) == [("ann-key", 1, 6000), ("bob-key", 1, 0), ("new-key", 1, 0)]
+    assert rows_of(path, "SELECT * FROM host_day") == [(100_001, 20_000, 5)]
+    file = StateFile(path)
+    states, hosts = HostStates(file), Hosts(file)
+    assert states.next_open(0) == (2, Key("ann-key", "c2"))
+    assert states.next_open(2) == (5, Key("eve-key", "c5")) and states.next_open(5) is None
+    known = states.of_number("ann-key", 100_001)
+    assert known is not None and known.client_seqno == 3 and known.is_settled
+    assert states.open(known, lambda number: b"{}").in_file.last_number == 8
+    assert [host.host_cpid for host in hosts.heard(9)] == ["c2", "c1", "c3"]
+    assert hosts.key_for_copy("ann-key", 100_001) == Key("ann-key", "c0")
+    file.close()
+
+
+# kills itself before or after the statement with a number, or before or after the commit
+KILLED = """
+import os, shutil, signal, sqlite3, sys
+from pathlib import Path
+from bsched_bridge.common import state_file
+
+source, folder = map(Path, sys.argv[1:])
+
+
+class Connection:
+    def __init__(self, connection, at, is_after):
+        self.connection, self.at, self.is_after, self.passed = connection, at, is_after, 0
+
+    def execute(self, statement, *values):
+        self.passed += 1
+        if self.passed == self.at and not self.is_after:
+            os.kill(os.getpid(), signal.SIGKILL)
+        done = self.connection.execute(statement, *values)
+        if self.passed == self.at:
+            os.kill(os.getpid(), signal.SIGKILL)
+        return done
+
+    def __getattr__(self, name):
+        return getattr(self.connection, name)
+
+
+def upgraded(path, at, is_after):
+    connect = sqlite3.connect
+    sqlite3.connect = lambda *words, **more: Connection(connect(*words, **more), at, is_after)
+    state_file.StateFile(path)
+
+
+at = 0
+while True:
+    at += 1
+    for is_after in (False, True):
+        path = folder / f"{at}-{is_after}.db"
+        shutil.copy(source, path)
+        child = os.fork()
+        if not child:
+            try:
+                upgraded(path, at, is_after)
+            finally:
+                os._exit(0)
+        if os.waitpid(child, 0)[1] == 0:
+            path.unlink()
+            sys.exit()
+"""
+
+
+def test_an_upgrade_that_is_killed_leaves_a_file_of_the_one_or_the_other_version(tmp_path: Path) -> None:
+    """It is killed before and after each statement. The next start ends it, with the same rows."""
+    source, whole, folder = tmp_path / "7.db", tmp_path / "8.db", tmp_path / "killed"
+    file_of_version_7(source)
+    whole.write_bytes(source.read_bytes())
+    StateFile(whole).close()
+    folder.mkdir()
+    subprocess.run([sys.executable, "-c", KILLED, source, folder], env=ENVIRONMENT, check=True)
+    found = Counter[int]()
+    for path in folder.glob("*.db"):
+        dump, version = contents(path)
+        found[version] += 1
+        assert dump == contents(source if version == 7 else whole)[0]
+        StateFile(path).close()
+        assert contents(path) == contents(whole)
+    assert found[7] > 60 and found[8] >= 1 and found.keys() == {7, 8}
 
 
 def test_a_second_bridge_is_refused_while_a_command_works(project: Path, open_bridge: Bridge) -> None:

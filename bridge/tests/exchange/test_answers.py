@@ -11,8 +11,8 @@ from messages import FIRST, jobs, names, request, value
 from twin import Twin
 
 from bsched_bridge.exchange.answers import Resending, jobs_with
-from bsched_bridge.exchange.call_numbers import MOST_OF_STRANGERS
-from bsched_bridge.people.hosts import FIRST_KEY, Key
+from bsched_bridge.exchange.host_states import MOST_OF_STRANGERS
+from bsched_bridge.people.hosts import Key
 from bsched_bridge.scheduler.messages import Job, NoAnswer, Reply
 
 
@@ -194,7 +194,7 @@ def test_a_stop_between_a_call_and_its_answer(bridge: Bridge, twin: Twin) -> Non
     handle = twin.service.scheduler
 
     def looked(body: bytes, now: int) -> str:
-        seen.append((body, bridge.numbers.open_call(Key("ann-key", "c1"))))
+        seen.append((body, bridge.states.begin(Key("ann-key", "c1")).in_file.open_call))
         return handle(body, now)
 
     twin.handle = looked
@@ -209,7 +209,7 @@ def test_open_calls_are_sent_again_at_the_start(bridge: Bridge, twin: Twin) -> N
     bridge.restart()
     resending = Resending(bridge.application.exchange, 0.01)
     resending.start()
-    wait_until(lambda: bridge.numbers.next_open(FIRST_KEY) is None)
+    wait_until(lambda: bridge.states.next_open(0) is None)
     resending.end()
     assert twin.heard[3] == twin.heard[4]
     assert len(twin.heard) == 5  # and no more after the answer
@@ -231,10 +231,10 @@ def test_a_call_that_gets_no_answer_does_not_keep_others_from_theirs(bridge: Bri
     resending = Resending(bridge.application.exchange, 0.01)
     resending.start()
     ann, bob = Key("ann-key", "c1"), Key("bob-key", "c2")
-    wait_until(lambda: bridge.numbers.open_call(bob) is None)
-    assert bridge.numbers.open_call(ann) == twin.heard[0]
+    wait_until(lambda: bridge.states.begin(bob).in_file.open_call is None)
+    assert bridge.states.begin(ann).in_file.open_call == twin.heard[0]
     twin.handle = None
-    wait_until(lambda: bridge.numbers.open_call(ann) is None)
+    wait_until(lambda: bridge.states.begin(ann).in_file.open_call is None)
     resending.end()
 
 
@@ -264,7 +264,7 @@ def test_a_server_error_is_no_answer(
 def test_a_computer_that_used_all_its_numbers(bridge: Bridge) -> None:
     bridge.call(request())
     with bridge.file.transaction() as connection:
-        connection.execute("UPDATE host SET last_number = 2147483647")
+        connection.execute("UPDATE host_file SET last_number = 2147483647")
     reply = bridge.call(request(hostid=FIRST, reports=[("u1_0", "42")]))
     assert "This computer has called so often" in value(reply, "message") and names(reply, "result_ack") == []
     assert value(reply, "request_delay") == "86400.000000"
@@ -279,7 +279,7 @@ def test_imports_that_get_no_answer_keep_no_calls_from_theirs(bridge: Bridge, tw
 
     resending = Resending(bridge.application.exchange, 0.01, imports)
     resending.start()
-    wait_until(lambda: bridge.numbers.open_call(Key("ann-key", "c1")) is None)
+    wait_until(lambda: bridge.states.begin(Key("ann-key", "c1")).in_file.open_call is None)
     resending.end()
 
 
@@ -409,7 +409,7 @@ def test_calls_of_known_hosts_and_accounts_are_stored(bridge: Bridge, twin: Twin
     twin.faults = ["unheard"] * 9
     for cpid, hostid in (("c1", FIRST), ("c2", 0), ("c3", 0)):
         bridge.call(request(cpid=cpid, hostid=hostid))
-    assert bridge.file.row("SELECT count(*) FROM host WHERE open_call IS NOT NULL") == (3,)
+    assert bridge.file.row("SELECT count(*) FROM host_file WHERE open_call IS NOT NULL") == (3,)
 
 
 def test_a_resent_call_that_is_refused_is_let_go(bridge: Bridge, twin: Twin) -> None:
@@ -424,8 +424,8 @@ def test_a_call_that_was_sent_again_and_is_refused_is_closed(bridge: Bridge, twi
     bridge.call(request(hostid=FIRST, listed=["u1_0"]))
     twin.faults = ['{"error":"hosts_full","number":12}']
     bridge.application.exchange.resend(Key("ann-key", "c1"))
-    assert bridge.numbers.open_call(Key("ann-key", "c1")) is None
-    assert bridge.numbers.next_open(FIRST_KEY) is None
+    assert bridge.states.begin(Key("ann-key", "c1")).in_file.open_call is None
+    assert bridge.states.next_open(0) is None
 
 
 def test_the_thread_that_sends_again_pauses_and_ends(bridge: Bridge) -> None:

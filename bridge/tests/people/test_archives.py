@@ -3,7 +3,9 @@ name no host of the present one.
 """
 import re
 import sqlite3
+from collections.abc import Callable
 from pathlib import Path
+from typing import Any
 
 import plain_tables
 import pytest
@@ -11,7 +13,8 @@ from bridges import Bridge
 from messages import FIRST, request, value
 from twin import Twin
 
-from bsched_bridge.people.archives import Archives, read_archives
+from bsched_bridge.people.archives import Archives, fold, read_archives
+from bsched_bridge.people.barring import Barring
 from bsched_bridge.people.hosts import Key
 from bsched_files.project_settings import read_settings
 from bsched_files.toml_entries import OperatorFault
@@ -110,6 +113,123 @@ def test_replies_and_the_page_have_the_credit(project: Path, bridge: Bridge) -> 
     # the user's credit in the latest reply; the host's credit by its statement, which is 5.000 in the twin
     assert shown(bridge, "status") == [str(FIRST), "9", *"11111", *"11111"]  # the last are all together
     assert shown(bridge, "users") == ["1", "6.5", "1"]
+
+
+CLOSED = "SELECT authenticator, host_cpid, credit FROM closed_credit"
+IN_FILE = "SELECT host_cpid, credit, host_credit FROM host JOIN host_file ON host = id"
+OF_MEMBERS = (
+    "SELECT authenticator, member_file.credit, member.credit FROM member JOIN member_file ON member = id"
+)
+
+
+def with_archives(project: Path, *names: str) -> None:
+    """Has the settings name some archives."""
+    lines = (project / "bridge.toml").read_text().splitlines()
+    lines = [line for line in lines if not line.startswith("archives")]
+    listed = ", ".join(f'"{name}"' for name in names)
+    (project / "bridge.toml").write_text("\n".join([*lines, f"archives = [{listed}]", ""]))
+
+
+def test_the_state_file_has_the_credit_of_archives_once(project: Path, bridge: Bridge) -> None:
+    """It is that of the archives that the settings name now, also if a start was stopped or an older state
+    file is restored.
+    """
+    bridge.call(request())
+    with bridge.file.transaction() as connection:
+        connection.execute("UPDATE host SET host_credit = 7000, user_credit = 9000")
+        connection.execute("UPDATE host_file SET credit = 7000")
+        connection.execute("UPDATE member SET credit = 9000")
+        connection.execute("UPDATE member_file SET credit = 9000")
+    archive(project / "1.db", {("ann-key", "c1"): 4000, ("ann-key", "other"): 2500})
+    archive(project / "2.db", {("ann-key", "c1"): 30, ("bob-key", "b"): 0}, first_sent=2000)
+    one = [("ann-key", "c1", 4000), ("ann-key", "other", 2500)]
+    both = [("ann-key", "c1", 4030), ("ann-key", "other", 2500)]
+    cases: list[tuple[list[str], list[tuple[str, str, int]], int, int]] = [
+        (["1.db"], one, 3000, 2500),
+        (["1.db"], one, 3000, 2500),
+        (["1.db", "2.db"], both, 2970, 2470),
+        (["2.db"], [("ann-key", "c1", 30)], 6970, 8970),
+        ([], [], 7000, 9000),
+    ]
+    for names, closed, of_host, of_account in cases:
+        with_archives(project, *names)
+        bridge.restart()
+        assert bridge.file.rows(CLOSED) == closed
+        assert bridge.file.rows(IN_FILE) == [("c1", of_host, 7000)]
+        assert bridge.file.rows(OF_MEMBERS) == [("ann-key", of_account, 9000)]
+        assert bridge.file.row("SELECT count(*) FROM folded") == (len(names),)
+
+
+def test_a_reply_has_the_credit_in_the_file_and_that_of_archives(project: Path, bridge: Bridge) -> None:
+    archive(project / "1.db", {("ann-key", "c1"): 4000, ("ann-key", "other"): 2500})
+    with_archives(project, "1.db")
+    bridge.restart()
+    bridge.call(request())
+    bridge.call(request(hostid=FIRST, reports=[("u1_0", "42")], seconds=0))
+    bridge.call(request(key="bob-key", cpid="b"))
+    bridge.call(request(key="bob-key", cpid="b", hostid=FIRST + 1, reports=[("u1_1", "42")], seconds=0))
+    reply = bridge.call(request(hostid=FIRST, seconds=0))
+    assert (value(reply, "user_total_credit"), value(reply, "host_total_credit")) == ("11.500", "9.000")
+    assert bridge.file.rows(f"{IN_FILE} ORDER BY id") == [("c1", 5000, 9000), ("b", 5000, 5000)]
+    assert bridge.file.rows(OF_MEMBERS) == [("ann-key", 5000, 11_500), ("bob-key", 5000, 5000)]
+
+
+class Stopping:
+    """A connection that is stopped at one of its statements."""
+
+    def __init__(self, connection: sqlite3.Connection, at: int) -> None:
+        self.connection, self.left = connection, at
+
+    def execute(self, statement: str, *values: Any) -> sqlite3.Cursor:
+        """Runs a statement."""
+        return self._run(self.connection.execute, statement, *values)
+
+    def executemany(self, statement: str, values: Any) -> sqlite3.Cursor:
+        """Runs a statement with each of some values."""
+        return self._run(self.connection.executemany, statement, values)
+
+    def _run(self, act: Callable[..., sqlite3.Cursor], statement: str, *values: Any) -> sqlite3.Cursor:
+        """Runs a statement, unless it is the one at which the connection is stopped."""
+        if statement != "ROLLBACK":
+            self.left -= 1
+            if self.left == 0:
+                raise sqlite3.OperationalError("stopped")
+        return act(statement, *values)
+
+    def __getattr__(self, name: str) -> Any:
+        return getattr(self.connection, name)
+
+
+def test_a_fold_that_is_stopped_changes_nothing(
+    project: Path, bridge: Bridge, monkeypatch: pytest.MonkeyPatch
+) -> None:
+    """It is stopped at each of its statements, and the next start does all of it."""
+    archives, file = read_archives([archive(project / "1.db", {("ann-key", "c1"): 4000})]), bridge.file
+    for at in range(1, 30):
+        with monkeypatch.context() as patched:
+            patched.setattr(file, "_connection", Stopping(file._connection, at))
+            try:
+                fold(file, archives)
+            except sqlite3.OperationalError:
+                pass
+        closed = file.rows(CLOSED)
+        if closed:
+            break
+        assert file.rows("SELECT * FROM folded") == []
+    assert 8 < at < 29 and closed == [("ann-key", "c1", 4000)]
+
+
+def test_a_deleted_account_has_no_credit_in_archives(project: Path, bridge: Bridge) -> None:
+    bridge.call(request())
+    archive(project / "1.db", {("ann-key", "c1"): 4000, ("bob-key", "b"): 2500})
+    with_archives(project, "1.db")
+    bridge.restart()
+    assert len(bridge.file.rows(CLOSED)) == 2
+    Barring(bridge.file).delete("ann-key", 1000)
+    for _ in range(2):
+        assert bridge.file.rows(CLOSED) == [("bob-key", "b", 2500)]
+        assert bridge.file.rows(OF_MEMBERS) == bridge.file.rows(IN_FILE) == []
+        bridge.restart()
 
 
 def shown(bridge: Bridge, page: str) -> list[str]:

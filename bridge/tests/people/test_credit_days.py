@@ -14,12 +14,12 @@ TODAY = 20_000
 
 def days_lived(bridge: Bridge, monkeypatch: pytest.MonkeyPatch, days: list[tuple[int, int, int]]) -> None:
     """Lets a host have replies on some days, with credit of its user and of its own."""
-    numbers, key = bridge.numbers, Key("ann-key", "c1")
+    states, key = bridge.states, Key("ann-key", "c1")
     for day, user, host in days:
         monkeypatch.setattr("time.time", lambda day=day: float(day * DAY + 10))
-        numbers.open(key, lambda _number: b"")
-        numbers.record_answer(key, reply(1, user, host), [])
-        numbers.give_hostid(key)
+        opened = states.open(states.begin(key), lambda _number: b"{}")
+        states.answered(opened, reply(1, user, host), [])
+        states.give_hostid(key)
 
 
 def test_a_day_has_one_row(bridge: Bridge, monkeypatch: pytest.MonkeyPatch) -> None:

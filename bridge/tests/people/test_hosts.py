@@ -31,7 +31,7 @@ def test_numbers_are_random_whatever_the_clock_says(tmp_path: Path, monkeypatch:
             for number in range(1000):
                 given.append(hosts.new_hostid(connection))
                 connection.execute(
-                    "INSERT INTO host (authenticator, host_cpid, last_number, hostid) VALUES ('a', ?, 1, ?)",
+                    "INSERT INTO host (authenticator, host_cpid, hostid) VALUES ('a', ?, ?)",
                     (str(number), given[-1]),
                 )
         file.close()
@@ -45,7 +45,7 @@ def test_a_number_that_is_used_is_not_given(tmp_path: Path, monkeypatch: pytest.
     monkeypatch.setattr("bsched_bridge.people.hosts.random_number", numbers.__next__)
     file = StateFile(tmp_path / "bridge.db")
     with file.transaction() as connection:
-        insert = "INSERT INTO host (authenticator, host_cpid, last_number, hostid) VALUES ('a', 'c', 1, ?)"
+        insert = "INSERT INTO host (authenticator, host_cpid, hostid) VALUES ('a', 'c', ?)"
         connection.execute(insert, (hosts.new_hostid(connection),))
         connection.execute("INSERT INTO host_day (hostid, day, credit) VALUES (200002, 1, 1)")
         assert hosts.new_hostid(connection) == 200_003
@@ -183,7 +183,10 @@ def test_a_copy_of_a_host_that_bsched_knows_by_another_number(two: Bridge, twin:
     """As after a restore of an older state file: the statement of that number is another host's."""
     two.call(request(hostid=A, cpid="a", seqno=3, listed=["u1_0"], seconds=0))
     with two.file.transaction() as connection:
-        connection.execute("UPDATE host SET scheduler_hostid = 77 WHERE host_cpid = 'a'")
+        connection.execute(
+            "UPDATE host_file SET scheduler_hostid = 77 WHERE host IN (SELECT id FROM host "
+            "WHERE host_cpid = 'a')"
+        )
     reply = two.call(request(hostid=A, cpid="a", seqno=2, reports=[("u1_0", "42")], seconds=0))
     assert names(reply, "result_ack") == ["u1_0"] and recorded(twin, "u1_0") == "a"
 
@@ -264,7 +267,7 @@ def test_a_host_without_a_reply_is_forgotten_after_a_refusal_and_one_with_a_numb
     twin.faults = ['{"error":"hosts_full","number":12}'] * 2
     two.call(request(cpid="c"))
     two.call(request(hostid=A, cpid="a"))
-    known = two.numbers.of_number("ann-key", A)
+    known = two.states.of_number("ann-key", A)
     assert known is not None and known.key == Key("ann-key", "a")
     assert two.file.row("SELECT count(*) FROM host") == (2,)
 
@@ -280,7 +283,7 @@ def test_a_call_for_another_host_asks_for_no_work_and_takes_no_job(two: Bridge, 
     assert names(reply, "result_ack") == ["u1_0"] and recorded(twin, "u1_0") == "a"
     aside = [call for call in twin.calls()[before:] if call["rpc_seqno"] and call["results"]]
     assert [(call["host_info"]["host_cpid"], call["work_req_seconds"]) for call in aside] == [("a", 0)]
-    assert two.numbers.jobs_in_hand(Key("ann-key", "a")) != []
+    assert two.states.begin(Key("ann-key", "a")).jobs_in_hand != []
     assert jobs(two.call(request(hostid=A, cpid="a", seqno=2, seconds=0))) == ["u3_0"]
     assert twin.calls()[-1]["other_results"] == ["u3_0"]
 

@@ -94,7 +94,8 @@ def test_a_job_that_is_computed_anew_is_checked_anew(file_bridge: Bridge) -> Non
     infos = worked(file_bridge)
     file_bridge.twin.faults = ["unheard"] * 3
     file_bridge.call(report("u1_0", infos))  # its files are stored, and bsched does not hear of it
-    file_bridge.numbers.record_refusal(Key("ann-key", "c1"))  # as after a loss of the state file
+    states = file_bridge.states
+    states.refused(states.begin(Key("ann-key", "c1")))  # as after a loss of the state file
     # the client lost the job, gets it again, and computes other bytes
     reply = file_bridge.call(request(hostid=FIRST, seconds=0))
     assert jobs(reply) == ["u1_0"]
