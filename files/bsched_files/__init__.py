@@ -26,4 +26,5 @@ findings              findings.json: what the checks of a project's health found
 operator_state        what a bridge that serves says of itself to `bsched-tools health`
 averages              averages.json: recent average credit, with its decay and its keyed digest
 plots                 plots.json, and the plots of the last month
+news                  a folder of texts: the news of a project
 """
