@@ -621,7 +621,8 @@ class Exchange:
         The hosts are counted in the state file. If that file and bsched's tables are of different moments,
         the two are reconciled first. A host that bsched does not have makes room.
         """
-        most, account = self.rules().most_hosts, state.key.authenticator
+        account = state.key.authenticator
+        most = None if state.in_file.has_host else self.rules().most_hosts
         try:
             try:
                 return self.states.open(state, text, client, last, most)
