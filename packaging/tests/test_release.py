@@ -61,13 +61,17 @@ def test_the_man_page_has_each_command_of_the_profile() -> None:
 
 
 def test_the_tools_complete_each_option() -> None:
-    for command, options in synopsis("bsched-tools.1").items():
-        if command:
-            words = f". {TOP}/packaging/completion/bsched-tools; _bsched_tools_options {command}"
-            completed = subprocess.run(
-                ["bash", "-c", words], capture_output=True, text=True, timeout=600, check=True
-            )
-            assert set(completed.stdout.split()) == options, command
+    by_command: dict[str, set[str]] = {}
+    for name, options in synopsis("bsched-tools.1").items():
+        command, *actions = name.split() or [""]
+        by_command.setdefault(command, set()).update(options, actions)
+    del by_command[""]
+    for command, words in by_command.items():
+        script = f". {TOP}/packaging/completion/bsched-tools; _bsched_tools_options {command}"
+        completed = subprocess.run(
+            ["bash", "-c", script], capture_output=True, text=True, timeout=600, check=True
+        )
+        assert set(completed.stdout.split()) == words, command
 
 
 def test_the_man_page_of_the_settings_has_each_key_of_the_profile() -> None:
@@ -77,13 +81,19 @@ def test_the_man_page_of_the_settings_has_each_key_of_the_profile() -> None:
     assert len(keys) == 7 and re.findall(r"^\.TP\n\.B (\w+)$", page, re.MULTILINE) == keys
 
 
+# a program with the words of its command, and what follows up to the next program
+USAGE = re.compile(r"^bsched[a-z-]* ?((?:[a-z]+(?: (?=[a-z]))?)*)(.*(?:\n(?!bsched).*)*)", re.MULTILINE)
+
+
 def synopsis(page: str) -> dict[str, set[str]]:
-    """Returns the options in the synopsis of a man page, by command. Without a command the name is empty."""
+    """Returns the options in the synopsis of a man page, by command, such as "report" or "news add". Without
+    a command the name is empty.
+    """
     text = (TOP / "packaging" / "man" / page).read_text()
     text = text.partition("\n.SH SYNOPSIS\n")[2].partition("\n.SH ")[0]
     plain = re.sub(r"\\f[A-Z]|^\.\w+ ?", "", text.replace("\\-", "-"), flags=re.MULTILINE)
     found: dict[str, set[str]] = {}
-    for command, rest in re.findall(r"^bsched[a-z-]* ?([a-z]*)(.*(?:\n(?!bsched).*)*)", plain, re.MULTILINE):
+    for command, rest in USAGE.findall(plain):
         found.setdefault(command, set()).update(re.findall(r"--[a-z-]+", rest))
     return found
 
@@ -101,8 +111,7 @@ def test_each_synopsis_has_the_options_of_the_help(module: str) -> None:
     page = synopsis(f"{module.replace('_', '-')}.1")
     assert len(page) > 2
     for command, options in page.items():
-        args = [command] if command else []
-        assert offered_by(sys.executable, "-m", module, *args) == options, command
+        assert offered_by(sys.executable, "-m", module, *command.split()) == options, command
 
 
 def test_the_synopsis_of_bsched_project_has_the_options_of_its_help() -> None:
