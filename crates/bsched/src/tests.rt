@@ -261,11 +261,11 @@ fn replayed_interrupted<S: Store + Drop>(
 fn replayed_before_a_fault<S: Store + Drop>(
     alloc: Global,
     store: S,
-    front: &[u8],
+    prefix: &[u8],
 ) -> Result<(Vec<u8>, Ended), Fail> {
     let reader = BufReader::new(
         alloc,
-        front.chain(Broken {
+        prefix.chain(Broken {
             kind: ErrorKind::ConnectionReset,
         }),
     )?;
@@ -296,7 +296,7 @@ fn replayed_into<S: Store + Drop>(
     printed_into(alloc, &mut service_over(alloc, store)?, length, lines)
 }
 
-/// Whether a run printed a front of this text, and ended as its reader or its writer failed.
+/// Whether a run printed a prefix of this text, and ended as its reader or its writer failed.
 fn broke(run: &(Vec<u8>, Ended), told: &[u8]) -> bool {
     let (printed, ended) = run;
     *ended == Ended::File && told.starts_with(printed.as_slice())
@@ -318,8 +318,8 @@ fn a_broken_reader_ends_the_run(rt: HostRuntime) -> Result<(), Fail> {
     let lines = short_run(alloc)?;
     let told = short_answers(alloc)?;
     for length in 0..lines.len() {
-        let front = lines.as_bytes().get(..length).unwrap_or(&[]);
-        let run = replayed_before_a_fault(alloc, new_store(alloc)?, front)?;
+        let prefix = lines.as_bytes().get(..length).unwrap_or(&[]);
+        let run = replayed_before_a_fault(alloc, new_store(alloc)?, prefix)?;
         assert!(rt; broke(&run, told.as_bytes()), "{length}");
     }
     Ok(())

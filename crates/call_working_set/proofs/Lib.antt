@@ -1,4 +1,5 @@
 pub mod SetRows
+pub mod KnownEdits
 pub mod CallStates
 pub mod UnitStates
 pub mod OnUnitStates

@@ -7,6 +7,9 @@ use Rattle.sched_book.specs.Classes.{rule_after}
 use Rattle.sched_book.specs.Count.{status}
 use Rattle.sched_book.specs.Places.{unit_at, host_at, unit_named, agreement_by}
 use Rattle.sched_book.specs.Delta.{edited, set_at}
+use Rattle.sched_book.specs.Limits.{most_instances}
+use Rattle.sched_book.specs.declared.delta.Edit.{Edit}
+use Rattle.sched_book.specs.declared.delta.Edit.TheVariants as edit
 use Rattle.sched_book.specs.declared.instance.Instance.{Instance}
 use Rattle.sched_book.specs.declared.instance.Place.{Place}
 use Rattle.sched_book.specs.declared.instance.Status.{Status}
@@ -56,6 +59,12 @@ pub record IsCallStateOf (entry : World) (p : CallState) : Type 0 where
 -- the number of a host, or the next number
 abbrev pub HasPlace : World → ℕ → Type 0
 HasPlace w number = (1 ≤ number) × (number ≤ length w.hosts + 1)
+
+-- an edit of a host or of a workunit that exists, with at most as many instances as a workunit may have
+abbrev pub IsOfKnown : World → Edit → Type 0
+IsOfKnown w (edit.Host number h) = IsSome (host_at w number)
+IsOfKnown w (edit.Instance p x) = IsSome (unit_at w p.unit) × (p.number < most_instances)
+IsOfKnown w (edit.Class unit class) = IsSome (unit_at w unit)
 
 -- a unit state with an instance put at a number
 abbrev pub with_put : Place → Instance → UnitState → UnitState

@@ -1,12 +1,12 @@
 //! Places by names, and several edits at once.
 
-ghost use Rattle.std.specs.Prelude.{◌≡◌, ◌++◌, [], ◌∷◌, IfOk, OnOk};
+ghost use Rattle.std.specs.Prelude.{◌≡◌, ◌++◌, [], ◌∷◌, IfOk, IfErr, OnOk, All};
 ghost use Rattle.std.specs.Option.{option_copied};
 ghost use Rattle.sched_book.specs.Places.{place_named};
 ghost use Rattle.sched_book.specs.Delta.{edited, edited_one};
 ghost use Rattle.sched_book.specs.Trusted.{Trusted};
 ghost use Rattle.sched_book.specs.declared.delta.Edit.TheVariants as edit;
-ghost use Rattle.call_working_set.specs.WorkingSets.{existing_on};
+ghost use Rattle.call_working_set.specs.WorkingSets.{existing_on, IsOfKnown};
 
 use crate::draft::Draft;
 use crate::unit_state::UnitState;
@@ -35,6 +35,7 @@ pub fn place_before<S: Draft>(
 ) -> Result<Option<Place>, Unavailable>
     ensures reads { S.reads working_set.old working_set.new }
     ensures answer { Trusted S.Units working_set.old working_set.new (IfOk result (λ place. place ≡ place_named (S.entry working_set.old) name.now)) }
+    ensures causes { Trusted S.Units working_set.old working_set.new (IfErr result (S.may_fail working_set.old)) }
 {
     let Some((unit, number)) = split_name(name) else {
         return Ok(None);
@@ -57,6 +58,7 @@ fn put_row<S: Draft>(
     ensures put { Trusted S.Units working_set.old working_set.new (
         OnOk result (S.world working_set.new ≡ edited_one (S.world working_set.old) (edit.Host number row.now))) }
     ensures edits { OnOk result (S.edits working_set.new ≡ S.edits working_set.old ++ edit.Host number row.now ∷ []) }
+    ensures causes { Trusted S.Units working_set.old working_set.new (IsOfKnown (S.world working_set.old) (edit.Host number row.now) → IfErr result (S.may_fail working_set.old)) }
 {
     if working_set.host(alloc, number)?.is_some() {
         return working_set.put_host(alloc, number, row);
@@ -73,6 +75,7 @@ fn put_one<S: Draft>(alloc: Global, working_set: &mut S, edit: &Edit) -> Result<
     ensures put { Trusted S.Units working_set.old working_set.new (
         OnOk result (S.world working_set.new ≡ edited_one (S.world working_set.old) edit.now)) }
     ensures edits { OnOk result (S.edits working_set.new ≡ S.edits working_set.old ++ edit.now ∷ []) }
+    ensures causes { Trusted S.Units working_set.old working_set.new (IsOfKnown (S.world working_set.old) edit.now → IfErr result (S.may_fail working_set.old)) }
 {
     match edit {
         Edit::Instance { place, row } => {
@@ -97,6 +100,7 @@ pub fn put_all<S: Draft>(
     ensures put { Trusted S.Units working_set.old working_set.new (
         OnOk result (S.world working_set.new ≡ edited (S.world working_set.old) edits.now)) }
     ensures edits { OnOk result (S.edits working_set.new ≡ S.edits working_set.old ++ edits.now) }
+    ensures causes { Trusted S.Units working_set.old working_set.new (All (IsOfKnown (S.world working_set.old)) edits.now → IfErr result (S.may_fail working_set.old)) }
 {
     for edit in edits {
         put_one(alloc, working_set, edit)?;

@@ -1,10 +1,12 @@
 //! What a call read, and the edits that it makes.
 
-ghost use Rattle.std.specs.Prelude.{ℕ, ◌≡◌, ◌==◌, ◌++◌, if◌then◌else◌, [], ◌∷◌, Some, IfOk, OnOk, OnErr, option_map, is_some};
+ghost use Rattle.std.specs.Prelude.{ℕ, ◌≡◌, ◌==◌, ◌++◌, if◌then◌else◌, [], ◌∷◌, Some, IfOk, IfErr, OnOk, OnErr, option_map, is_some, ◌<◌, IsSome};
 ghost use Rattle.std.specs.BTreeMap.{get};
 ghost use Rattle.std.specs.Option.{option_copied};
 ghost use Rattle.std.specs.Ordering.{nat_cmp};
 ghost use Rattle.sched_book.specs.Delta.{edited};
+ghost use Rattle.sched_book.specs.Limits.{most_instances};
+ghost use Rattle.sched_book.specs.declared.cause.Cause.TheVariants.{Memory};
 ghost use Rattle.sched_book.specs.declared.delta.Edit.TheVariants as edit;
 ghost use Rattle.sched_book.specs.declared.world.World.{World};
 ghost use Rattle.call_working_set.specs.WorkingSets.{IsCallStateOf, IsUnitStateAt, IsHostAt, HasPlace, ArePut, AreClassed, AreAllOf};
@@ -121,6 +123,7 @@ impl CallState {
         ensures hosts { self.new.hosts ≡ self.old.hosts }
         ensures settings { self.new.settings ≡ self.old.settings }
         ensures edits { self.new.edits ≡ self.old.edits }
+        ensures causes { IsSome (get nat_cmp self.old.unit_states place.unit) → place.number < most_instances → IfErr result (λ u. u.0 ≡ Memory) }
     {
         match self.unit_states.get_mut(&place.unit) {
             None => Err(Unavailable(Cause::Broken(Invariant::ReadBeforePut))),
@@ -135,6 +138,7 @@ impl CallState {
         ensures call_state { (w : World) → IsCallStateOf w self.old → IsCallStateOf w self.new }
         ensures ok { OnOk result (self.new.edits ≡ self.old.edits ++ edit.Instance place row.now ∷ []) }
         ensures err { OnErr result (self.new.edits ≡ self.old.edits) }
+        ensures causes { IsSome (get nat_cmp self.old.unit_states place.unit) → place.number < most_instances → IfErr result (λ u. u.0 ≡ Memory) }
     {
         let pushed = copy_of(row)?;
         let put = copy_of(row)?;
@@ -155,6 +159,7 @@ impl CallState {
         ensures hosts { self.new.hosts ≡ self.old.hosts }
         ensures settings { self.new.settings ≡ self.old.settings }
         ensures edits { self.new.edits ≡ self.old.edits }
+        ensures causes { IsSome (get nat_cmp self.old.unit_states unit) → IfErr result (λ u. u.0 ≡ Memory) }
     {
         match self.unit_states.get_mut(&unit) {
             None => Err(Unavailable(Cause::Broken(Invariant::ReadBeforeClass))),
@@ -171,6 +176,7 @@ impl CallState {
         ensures call_state { (w : World) → IsCallStateOf w self.old → IsCallStateOf w self.new }
         ensures ok { OnOk result (self.new.edits ≡ self.old.edits ++ edit.Class unit class.now ∷ []) }
         ensures err { OnErr result (self.new.edits ≡ self.old.edits) }
+        ensures causes { IsSome (get nat_cmp self.old.unit_states unit) → IfErr result (λ u. u.0 ≡ Memory) }
     {
         let pushed = copy_of(class)?;
         self.edits.push(Edit::Class {

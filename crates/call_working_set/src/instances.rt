@@ -1,8 +1,9 @@
 //! The instances of one workunit: never more than a workunit may have.
 
-ghost use Rattle.std.specs.Prelude.{◌≡◌, ◌≤◌, length, IfOk, OnOk, OnErr};
+ghost use Rattle.std.specs.Prelude.{◌≡◌, ◌≤◌, length, IfOk, IfErr, OnOk, OnErr, ◌<◌};
 ghost use Rattle.sched_book.specs.Delta.{set_at};
 ghost use Rattle.sched_book.specs.Limits.{most_instances};
+ghost use Rattle.sched_book.specs.declared.cause.Cause.TheVariants.{Memory};
 
 use sched_book::limits::MOST_INSTANCES;
 use sched_book::{Cause, Instance, Invariant, Unavailable};
@@ -66,6 +67,7 @@ impl Instances {
     pub fn put(&mut self, number: u32, row: Instance) -> Result<(), Unavailable>
         ensures ok { OnOk result (self.new ≡ set_at self.old number row) }
         ensures err { OnErr result (self.new ≡ self.old) }
+        ensures causes { number < MOST_INSTANCES → IfErr result (λ u. u.0 ≡ Memory) }
     {
         let index = number as usize;
         if index < self.rows.len() {
@@ -73,7 +75,7 @@ impl Instances {
             return Ok(());
         }
         if self.rows.len() >= MOST_INSTANCES {
-            return Err(Unavailable(Cause::Broken(Invariant::InstancesOnWorkingSet)));
+            return Err(Unavailable(Cause::Spoiled(Invariant::InstancesOnWorkingSet)));
         }
         self.rows.push(row)?;
         Ok(())

@@ -1,6 +1,6 @@
 //! What a call state asks of its desk.
 
-ghost use Rattle.std.specs.Prelude.{◌≡◌, ◌≤◌, ◌+◌, ◌++◌, [], ◌∷◌, None, length, IfOk, OnOk, OnErr, IfSome};
+ghost use Rattle.std.specs.Prelude.{◌≡◌, ◌≤◌, ◌+◌, ◌++◌, [], ◌∷◌, None, length, IfOk, IfErr, OnOk, OnErr, IfSome, IsSome};
 ghost use Rattle.std.specs.BTreeMap.{get};
 ghost use Rattle.std.specs.Ordering.{nat_cmp};
 ghost use Rattle.sched_book.specs.Places.{host_at};
@@ -23,12 +23,13 @@ fn ask_unit_state<D: Desk>(
 ) -> Result<Option<UnitState>, Unavailable>
     ensures reads { D.reads desk.old desk.new }
     ensures answer { Trusted D.Units desk.old desk.new (IfOk result (IsReadAt (D.world desk.old) (D.world desk.old) unit)) }
+    ensures causes { Trusted D.Units desk.old desk.new (IfErr result (D.may_fail desk.old)) }
 {
     let Some(row) = desk.unit(alloc, unit)? else {
         return Ok(None);
     };
     let Some(agreement) = desk.agreement_of(alloc, unit)? else {
-        return Err(Unavailable(Cause::Broken(Invariant::AppOfUnit)));
+        return Err(Unavailable(Cause::Spoiled(Invariant::AppOfUnit)));
     };
     let instances = Instances::of(desk.instances_of(alloc, unit)?);
     Ok(Some(UnitState::new(row, agreement, instances)?))
@@ -46,6 +47,7 @@ pub(crate) fn read_unit_state<D: Desk>(
     ensures answer { Trusted D.Units desk.old desk.new (IsCallStateOf (D.world desk.old) call_state.old → OnOk result (
         IsReadAt (D.world desk.old) (edited (D.world desk.old) call_state.old.edits) unit (get nat_cmp call_state.new.unit_states unit))) }
     ensures edits { call_state.new.edits ≡ call_state.old.edits }
+    ensures causes { Trusted D.Units desk.old desk.new (IfErr result (D.may_fail desk.old)) }
 {
     if call_state.unit_state(unit).is_some() {
         return Ok(());
@@ -69,6 +71,7 @@ pub(crate) fn read_host<D: Desk>(
     ensures answer { Trusted D.Units desk.old desk.new (IsCallStateOf (D.world desk.old) call_state.old →
         IfOk result (λ r. r ≡ host_at (edited (D.world desk.old) call_state.old.edits) number)) }
     ensures edits { call_state.new.edits ≡ call_state.old.edits }
+    ensures causes { Trusted D.Units desk.old desk.new (IfErr result (D.may_fail desk.old)) }
 {
     if let Some(row) = call_state.host(number) {
         return Ok(Some(copy_of(row)?));
@@ -92,9 +95,10 @@ pub(crate) fn put_host<D: Desk>(
     ensures call_state { Trusted D.Units desk.old desk.new (IsCallStateOf (D.world desk.old) call_state.old → IsCallStateOf (D.world desk.old) call_state.new) }
     ensures edits { OnOk result (call_state.new.edits ≡ call_state.old.edits ++ edit.Host number row.now ∷ []) }
     ensures err { OnErr result (call_state.new.edits ≡ call_state.old.edits) }
+    ensures causes { Trusted D.Units desk.old desk.new (IsCallStateOf (D.world desk.old) call_state.old → IsSome (host_at (edited (D.world desk.old) call_state.old.edits) number) → IfErr result (D.may_fail desk.old)) }
 {
     let Some(_) = read_host(alloc, desk, call_state, number)? else {
-        return Err(Unavailable(Cause::Broken(Invariant::ReplacedHost)));
+        return Err(Unavailable(Cause::Spoiled(Invariant::ReplacedHost)));
     };
     call_state.put_host(number, row)?;
     Ok(())
@@ -116,6 +120,7 @@ pub(crate) fn add_host<D: Desk>(
     ensures added { IfOk result (λ n. IfSome n (λ number. call_state.new.edits ≡ call_state.old.edits ++ edit.Host number row.now ∷ [])) }
     ensures none { IfOk result (λ n. n ≡ None → call_state.new.edits ≡ call_state.old.edits) }
     ensures err { OnErr result (call_state.new.edits ≡ call_state.old.edits) }
+    ensures causes { Trusted D.Units desk.old desk.new (call_state.old.edits ≡ [] → IfErr result (D.may_fail desk.old)) }
 {
     if !call_state.edits.is_empty() {
         return Err(Unavailable(Cause::Broken(Invariant::HostBeforeEdits)));

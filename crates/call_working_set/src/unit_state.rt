@@ -1,10 +1,11 @@
 //! One workunit in a call state, with what is decided of it.
 
-ghost use Rattle.std.specs.Prelude.{◌≡◌, ◌≤◌, length, IfOk, IfSome, OnOk, OnErr};
+ghost use Rattle.std.specs.Prelude.{◌≡◌, ◌≤◌, length, IfOk, IfErr, IfSome, OnOk, OnErr, ◌<◌};
 ghost use Rattle.sched_book.specs.Count as spec;
 ghost use Rattle.sched_book.specs.Classes.{rule_after};
 ghost use Rattle.sched_book.specs.Delta.{set_at};
 ghost use Rattle.sched_book.specs.Limits.{most_instances};
+ghost use Rattle.sched_book.specs.declared.cause.Cause.TheVariants.{Memory};
 
 use crate::instances::Instances;
 use sched_book::count::{Decided, decide};
@@ -169,6 +170,7 @@ impl UnitState {
     pub fn put(&mut self, number: u32, row: Instance) -> Result<(), Unavailable>
         ensures ok { OnOk result (self.new ≡ record self.old { present = set_at self.old.present number row }) }
         ensures err { OnErr result (self.new ≡ self.old) }
+        ensures causes { number < MOST_INSTANCES → IfErr result (λ u. u.0 ≡ Memory) }
     {
         let decided = self.decided_with(number, &row);
         match &mut self.changed {

@@ -47,6 +47,8 @@ impl<'a, D: Desk> Units for WorkingSet<'a, D> {
         × (D.honest t.desk.now → D.well_kept s.desk.now → IsCallStateOf (D.world s.desk.now) s.call_state.now → IsCallStateOf (D.world s.desk.now) t.call_state.now)
         × (t.desk.ghost_name ≡ s.desk.ghost_name) × (t.call_state.ghost_name ≡ s.call_state.ghost_name) };
 
+    ghost may_fail = { λ s. D.may_fail s.desk.now };
+
     fn unit_by_name(&mut self, name: &str) -> Result<Option<u32>, Unavailable> {
         self.desk.unit_by_name(name)
     }
@@ -100,6 +102,10 @@ impl<'a, D: Desk> Units for WorkingSet<'a, D> {
     ghost stays_kept = { λ a b h k l. (D.stays_kept _ _ h.0 k l.0, Prim.search rules) };
 
     ghost stays_same = { λ a b h k l. Prim.search rules };
+
+    ghost fails_for_memory = { λ s. D.fails_for_memory s.desk.now };
+
+    ghost stays_failing = { λ s t h k l. D.stays_failing _ _ h.0 k l.0 };
 }
 
 impl<'a, D: Desk> Draft for WorkingSet<'a, D> {
@@ -219,6 +225,8 @@ impl<'a, D: Desk> Draft for WorkingSet<'a, D> {
     ghost works_honest = { λ s t h k. D.stays_honest _ _ h.0 k };
 
     ghost works_kept = { λ s t h k l. (D.stays_kept _ _ h.0 k l.0, Prim.search rules) };
+
+    ghost works_failing = { λ s t h k l. D.stays_failing _ _ h.0 k l.0 };
 
     ghost works_entry = { λ s t h k l. D.stays_same _ _ h.0 k l.0 };
 }

@@ -36,7 +36,7 @@ status_of_failure failure.Unavailable = 2
 
 -- ---- why an order failed
 
--- a call of the system failed: for want of memory, or else a file, a socket or a stream did
+-- a call of the system failed: there was no memory, or a file, a socket or a stream failed
 abbrev pub failure_of_system : ErrorKind → Failure
 failure_of_system OutOfMemory = failure.Unavailable
 failure_of_system _ = failure.File

@@ -1,17 +1,24 @@
 -- Offers in turns, each up to a candidate that could not be judged, make one choice among all candidates.
-use Rattle.std.proofs.Common.{◌≡◌, ◌⊎◌, inl, inr, ℕ, Bool, true, false, cond, List, [], ◌∷◌, ◌++◌, Option, Some, None, sym, refl, ap, ◌∙◌, subst}
-use Rattle.std.specs.Prelude.{◌||◌, is_some, unwrap_or}
+use Rattle.std.proofs.Common.{◌≡◌, ◌⊎◌, inl, inr, ℕ, zero, suc, ◌+◌, ◌*◌, ◌<◌, ◌≤◌, Bool, true, false, cond, not, List, [], ◌∷◌, ◌++◌, length, length-append, Option, Some, None, sym, refl, ap, ◌∙◌, subst, arith}
+use Rattle.std.specs.Prelude.{◌||◌, ◌&&◌, All, is_none, is_some, option_map, unwrap_or}
+use Rattle.std.proofs.lemmas.List.Elements.{All-head, All-tail}
 use Rattle.std.proofs.lemmas.Bool.{both_ways}
+use Rattle.sched_book.specs.Count.{is_open}
 use Rattle.sched_book.specs.Fits.{fits, version_for}
+use Rattle.sched_book.specs.Limits.{most_instances, most_workunits, IsBounded}
+use Rattle.sched_book.specs.Places.{option_any, status_of, is_before}
 use Rattle.sched_book.specs.Skipping.{user_had_at, IsHadBy}
-use Rattle.sched_book.specs.Offers.{unsent, OffersAll, OrSkips}
+use Rattle.sched_book.specs.Offers.{unsent, unsent_in, unsent_among, OffersAll, OrSkips}
 use Rattle.sched_book.specs.declared.desk.Candidate.{Candidate}
 use Rattle.sched_book.specs.declared.desk.Flow.{Flow}
 use Rattle.sched_book.specs.declared.desk.Flow.TheVariants.{GoOn, Stop}
+use Rattle.sched_book.specs.declared.instance.Instance.{Instance}
 use Rattle.sched_book.specs.declared.instance.Place.{Place}
+use Rattle.sched_book.specs.declared.instance.UnitBook.{UnitBook}
 use Rattle.sched_book.specs.declared.rows.Version.{Version}
+use Rattle.sched_book.specs.declared.rows.Workunit.{Workunit}
 use Rattle.sched_book.specs.declared.world.World.{World}
-use Rattle.job_choice.specs.Choosing.{is_full, has_job_of, known_of, unjudged_of, unjudged_at, with_job, after_past, after_version, after_app, after, Takes}
+use Rattle.job_choice.specs.Choosing.{is_full, can_judge, has_job_of, known_of, unjudged_of, unjudged_at, with_job, after_past, after_version, after_app, after, Takes}
 use Rattle.job_choice.specs.Offered.{first_place, IsRight, IsUpToDate, judged, Chooses, HasChosen}
 use Rattle.job_choice.specs.Past.{known_had, IsUserPast}
 use Rattle.job_choice.specs.declared.choosing.Choosing.{Choosing}
@@ -91,6 +98,55 @@ module _ (w : World) (account : ℕ) where
         by_job true is = inl is
         by_job false is = by_known known_past refl is
 
+    -- at a candidate that can be judged it does not stop
+    not_judged : t.unjudged ≡ None → after t c ≡ unjudged_at t c → can_judge t.known (unjudged_of c) ≡ false
+    not_judged none is = by_job (has_job_of t.jobs c.place.unit) is
+      where
+        known_past : Option Bool
+        known_past = known_had t.known.past c.place.unit
+
+        never : (new : Choosing) → new.unjudged ≡ None → new ≡ unjudged_at t c → ⊥
+        never new left is = let no : None ≡ Some (unjudged_of c) = sym left ∙ ap (λ (n : Choosing). n.unjudged) is in absurd cc
+
+        by_past : (v : Version) (fit : Bool) (o : Option Bool) → cond fit (after_past t c v o) t ≡ unjudged_at t c → is_some o ≡ false
+        by_past v false o is = absurd (never t none is)
+        by_past v true None is = refl
+        by_past v true (Some true) is = absurd (never t none is)
+        by_past v true (Some false) is = absurd (never (with_job t c v) none is)
+
+        by_version : (o : Option Version) → after_version t c known_past o ≡ unjudged_at t c → (not (is_some o) || is_some known_past) ≡ false
+        by_version None is = absurd (never t none is)
+        by_version (Some v) is = by_past v (fits t.host.now c.unit (Some v)) known_past is
+
+        by_app : (k : Option KnownApp) → after_app t c known_past k ≡ unjudged_at t c
+            → option_any (λ runs. not runs || is_some known_past) (option_map (λ (a : KnownApp). is_some a.version) k) ≡ false
+        by_app None is = refl
+        by_app (Some k) is = by_version k.version is
+
+        by_job : (has : Bool) → cond (has || unwrap_or known_past false) t (after_app t c known_past (known_of t.known.apps c.unit.app)) ≡ unjudged_at t c
+            → can_judge t.known (unjudged_of c) ≡ false
+        by_job true is = absurd (never t none is)
+        by_job false is = by_left (unwrap_or known_past false) is
+          where
+            by_left : (left : Bool) → cond left t (after_app t c known_past (known_of t.known.apps c.unit.app)) ≡ unjudged_at t c
+                → can_judge t.known (unjudged_of c) ≡ false
+            by_left true is = absurd (never t none is)
+            by_left false is = by_app (known_of t.known.apps c.unit.app) is
+
+    -- judging learns nothing
+    same_known : (judged w t c).known ≡ t.known
+    same_known = by (has_job_of t.jobs c.place.unit) (version_for w t.host.now c.unit.app)
+      where
+        fit : (fits has_had : Bool) (v : Version) → (cond fits (cond has_had t (with_job t c v)) t).known ≡ t.known
+        fit true true v = refl
+        fit true false v = refl
+        fit false has_had v = refl
+
+        by : (has : Bool) (o : Option Version) → (cond has t (after_version t c (Some had) o)).known ≡ t.known
+        by true o = refl
+        by false None = refl
+        by false (Some v) = fit (fits t.host.now c.unit (Some v)) had v
+
     -- what is known does not change what the world says
     knows_else : (known later : Known) → record (judged w (record t { known = known }) c) { known = later } ≡ record (judged w t c) { known = later }
     knows_else known later = by (has_job_of t.jobs c.place.unit) (version_for w t.host.now c.unit.app)
@@ -149,6 +205,7 @@ module _ (w : World) (account : ℕ) where
     is : new ≡ unjudged_at before c
     ready : IsReadyFor before
     room : is_full before ≡ false
+    unknown : can_judge old.known (unjudged_of c) ≡ false
     leads : (last : Choosing) → OffersAll (Chooses w) before (c ∷ left) last → OffersAll (Chooses w) old all last
 
   -- what becomes of one turn of offers
@@ -156,9 +213,9 @@ module _ (w : World) (account : ℕ) where
   Turned old all new = (OffersAll (Chooses w) old all new × IsReadyFor new) ⊎ StoppedAt old all new
 
   -- with one more candidate in front, which was judged
-  one_before : (c : Candidate) (cs : List Candidate) (old mid new : Choosing) → Chooses w old c GoOn mid → Turned mid cs new → Turned old (c ∷ cs) new
-  one_before c cs old mid new one (inl (all, ready)) = inl (inr (mid, one, all), ready)
-  one_before c cs old mid new one (inr stopped) = inr (record {
+  one_before : (c : Candidate) (cs : List Candidate) (old mid new : Choosing) → Chooses w old c GoOn mid → mid.known ≡ old.known → Turned mid cs new → Turned old (c ∷ cs) new
+  one_before c cs old mid new one same (inl (all, ready)) = inl (inr (mid, one, all), ready)
+  one_before c cs old mid new one same (inr stopped) = inr (record {
     front = c ∷ stopped.front;
     c = stopped.c;
     left = stopped.left;
@@ -167,6 +224,7 @@ module _ (w : World) (account : ℕ) where
     is = stopped.is;
     ready = stopped.ready;
     room = stopped.room;
+    unknown = subst (λ known. can_judge known (unjudged_of stopped.c) ≡ false) same stopped.unknown;
     leads = λ last h. inr (mid, one, stopped.leads last h);
   })
 
@@ -187,19 +245,30 @@ module _ (w : World) (account : ℕ) where
       is = not_yet;
       ready = ready;
       room = room;
+      unknown = not_judged old c ready.0.unjudged (sym taken ∙ not_yet);
       leads = λ last h. h;
     })
   ]
   one_turn (c ∷ cs) old new ready room kept (inr (mid, inr (one, flow, same), more)) =
-      one_before c cs old mid new (skipped old c mid ready room one same)
+      one_before c cs old mid new (skipped old c mid ready room one same) (ap (λ (n : Choosing). n.known) same)
       (one_turn cs mid new (subst IsReadyFor (sym same) ready) (ap is_full same ∙ room) kept more)
   one_turn (c ∷ cs) old new ready room kept (inr (mid, inl (inl (never, refused)), more)) = absurd (let differ : GoOn ≡ Stop = never in cc)
   one_turn (c ∷ cs) old new ready room kept (inr (mid, inl (inr (flow, taken)), more)) = elim (judged_or_not old c mid ready.0 taken) [
     | inl is ↦ (let one = chooses old c GoOn mid ready flow is in
-        one_before c cs old mid new one
+        one_before c cs old mid new one (ap (λ (n : Choosing). n.known) is ∙ same_known old c)
         (one_turn cs mid new (subst IsReadyFor (sym is) (stays_ready old c ready)) (goes (is_full mid) one.0) kept more))
     | inr not_yet ↦ absurd (let differ : GoOn ≡ Stop = subst (λ (n : Choosing). GoOn ≡ cond (is_some n.unjudged || is_full n) Stop GoOn) not_yet flow in cc)
   ]
+
+  -- At the place of a stop the candidate can be judged. After each stop but the first there is one candidate less.
+  abbrev pub Passes : ℕ → Choosing → Place → Type 0
+  Passes stops now from =
+      ((stops ≡ 0) × (length (unsent w from) ≤ length (unsent w first_place)))
+      ⊎ ((c : Candidate) × (cs : List Candidate) × (unsent w from ≡ c ∷ cs) × (can_judge now.known (unjudged_of c) ≡ true)
+      × (stops + length (unsent w from) ≤ length (unsent w first_place) + 1))
+
+  pub begins : (now : Choosing) → Passes 0 now first_place
+  begins now = inl (refl, omega arith)
 
   -- What is chosen from a place on is chosen from all candidates.
   pub record Resumes (old now : Choosing) (from : Place) : Type 0 where
@@ -231,6 +300,39 @@ module _ (w : World) (account : ℕ) where
     pub past_is : new.unjudged ≡ None → IsUserPast w account new.known.past
     past_is none = let last = (ended none).1 in subst (λ a. IsUserPast w a new.known.past) last.1 last.0.known.past
 
+    -- a turn that stopped, after the candidate was judged
+    pub passes_on : (stops : ℕ) (left : Option Unjudged) (at : Unjudged) (more : Known) → new.unjudged ≡ Some at → can_judge more at ≡ true
+        → Passes stops now from → Passes (stops + 1) (record new { unjudged = left; known = more }) at.place
+    passes_on stops left at more some judged passes = elim turned [
+      | inl all ↦ absurd (let never : None ≡ Some at = sym all.1.0.unjudged ∙ some in cc)
+      | inr stopped ↦ passed_at stopped
+    ]
+      where
+        passed_at : StoppedAt now (unsent w from) new → Passes (stops + 1) (record new { unjudged = left; known = more }) at.place
+        passed_at s =
+            let at_is : at ≡ unjudged_of s.c = (let same : Some (unjudged_of s.c) ≡ Some at = sym (ap (λ (n : Choosing). n.unjudged) s.is) ∙ some in cc) in
+            subst (λ (p : Place). Passes (stops + 1) (record new { unjudged = left; known = more }) p) (sym (ap (λ (a : Unjudged). a.place) at_is))
+            (inr (s.c, s.left, here, subst (λ a. can_judge more a ≡ true) at_is judged, fewer passes s.front s.parts))
+          where
+            here : unsent w s.c.place ≡ s.c ∷ s.left
+            here = resumed w from s.front s.c s.left s.parts
+
+            fewer : Passes stops now from → (front : List Candidate) → unsent w from ≡ front ++ s.c ∷ s.left
+                → stops + 1 + length (unsent w s.c.place) ≤ length (unsent w first_place) + 1
+            fewer (inl (none, all)) front parts =
+                let long : length (unsent w from) ≡ length front + length (s.c ∷ s.left) = ap length parts ∙ length-append front (s.c ∷ s.left) in
+                let left : length (unsent w s.c.place) ≡ length (s.c ∷ s.left) = ap length here in
+                omega (arith, all, left, long, none)
+            fewer (inr (c, cs, is, known, all)) [] parts =
+                let first : c ∷ cs ≡ s.c ∷ s.left = sym is ∙ parts in
+                let same : c ≡ s.c = cc in
+                let never : true ≡ false = sym known ∙ ap (λ d. can_judge now.known (unjudged_of d)) same ∙ s.unknown in
+                absurd cc
+            fewer (inr (c, cs, is, known, all)) (d ∷ front) parts =
+                let long : length (unsent w from) ≡ length (d ∷ front) + length (s.c ∷ s.left) = ap length parts ∙ length-append (d ∷ front) (s.c ∷ s.left) in
+                let left : length (unsent w s.c.place) ≡ length (s.c ∷ s.left) = ap length here in
+                omega (arith, all, left, long)
+
     -- a turn that stopped at a candidate that could not be judged, after more was learned
     pub turns_go_on : (left : Option Unjudged) (at : Unjudged) (more : Known) → new.unjudged ≡ Some at → left ≡ None
         → (IsRight w new.host.now new.known → IsRight w new.host.now more) → Resumes old (record new { unjudged = left; known = more }) at.place
@@ -255,3 +357,47 @@ module _ (w : World) (account : ℕ) where
               leads = λ last h. on.leads last (s.leads last (knows_more before more s.c s.left last
                   (subst (λ cs. OffersAll (Chooses w) (record before { known = more }) cs last) (resumed w from s.front s.c s.left s.parts) h)));
             }))
+
+-- there are no more candidates than instances
+in_unit : (from : Place) (place : ℕ) (unit : Workunit) (number : ℕ) (xs : List Instance) → length (unsent_in from place unit number xs) ≤ length xs
+in_unit from place unit number [] = omega arith
+in_unit from place unit number (x ∷ xs) =
+    cases (is_none x.owner && not (is_before (record { unit = place; number = number }) from)) (in_unit from place unit (number + 1) xs)
+  where
+    rest : List Candidate
+    rest = unsent_in from place unit (number + 1) xs
+
+    cases : (b : Bool) → length rest ≤ length xs → length (cond b (record { place = record { unit = place; number = number }; unit = unit } ∷ rest) rest) ≤ length (x ∷ xs)
+    cases true less = omega arith
+    cases false less = omega arith
+
+among : (w : World) (from : Place) (place : ℕ) (bs : List UnitBook) → All (λ (b : UnitBook). length b.instances ≤ most_instances) bs
+    → length (unsent_among w from place bs) ≤ length bs * 100
+among w from place [] few = omega arith
+among w from place (b ∷ bs) few =
+    cases (is_open (status_of w b)) (among w from (place + 1) bs (All-tail (λ (b : UnitBook). length b.instances ≤ most_instances) b bs few))
+  where
+    cases : (is : Bool) → length (unsent_among w from (place + 1) bs) ≤ length bs * 100
+        → length (cond is (unsent_in from place b.unit 0 b.instances ++ unsent_among w from (place + 1) bs) (unsent_among w from (place + 1) bs)) ≤ length (b ∷ bs) * 100
+    cases false more = omega arith
+    cases true more =
+        let here : length (unsent_in from place b.unit 0 b.instances) ≤ length b.instances = in_unit from place b.unit 0 b.instances in
+        let hundred : length b.instances ≤ most_instances = All-head (λ (b : UnitBook). length b.instances ≤ most_instances) b bs few in
+        let both : length (unsent_in from place b.unit 0 b.instances ++ unsent_among w from (place + 1) bs)
+        ≡ length (unsent_in from place b.unit 0 b.instances) + length (unsent_among w from (place + 1) bs) =
+        length-append (unsent_in from place b.unit 0 b.instances) (unsent_among w from (place + 1) bs) in
+        omega arith
+
+pub candidates_are_few : (w : World) → IsBounded w → length (unsent w first_place) ≤ 20000000
+candidates_are_few w bounded =
+    let less : length (unsent_among w first_place 1 w.units) ≤ length w.units * 100 = among w first_place 1 w.units bounded.instances in
+    let few : length w.units ≤ most_workunits = bounded.units in
+    omega arith
+
+-- so the stops end
+pub stops_end : (w : World) (account stops : ℕ) (now : Choosing) (from : Place) → IsBounded w → 20000000 < stops → Passes w account stops now from → ⊥
+stops_end w account stops now from bounded many (inl (none, all)) = absurd (omega (arith, many, none))
+stops_end w account stops now from bounded many (inr (c, cs, is, known, all)) =
+    let few : length (unsent w first_place) ≤ 20000000 = candidates_are_few w bounded in
+    let one : length (unsent w from) ≡ length (c ∷ cs) = ap length is in
+    absurd (omega (arith, few, one, all, many))

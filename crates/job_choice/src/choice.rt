@@ -1,7 +1,8 @@
 //! The choice of jobs over a desk.
 
-ghost use Rattle.std.specs.Prelude.{◌≡◌, ◌-◌, Some, IsTrue, IfOk, OnOk};
+ghost use Rattle.std.specs.Prelude.{◌≡◌, ◌-◌, Some, IsTrue, IfOk, IfErr, OnOk};
 ghost use Rattle.sched_book.specs.Fits.{version_for};
+ghost use Rattle.sched_book.specs.Limits.{IsBounded};
 ghost use Rattle.sched_book.specs.Trusted.{Trusted};
 ghost use Rattle.job_choice.specs.Chosen.{IsChoice};
 ghost use Rattle.job_choice.specs.Choosing.{known_runs, can_judge};
@@ -10,16 +11,15 @@ ghost use Rattle.job_choice.specs.Offered.{first_place, limits_on, IsRight, IsUp
 
 use crate::choosing::{Choosing, Known, KnownApp, Limits, Unjudged, begin, finish, is_done};
 use crate::granted::Grant;
-use crate::past::{MOST_LOOKED_AT, look_at};
+use crate::past::look_at;
 use crate::seeking::note_had;
-use sched_book::limits::MOST_APPS;
+use sched_book::limits::{MOST_INSTANCES, MOST_WORKUNITS};
 use sched_book::{Cause, Desk, HostRow, Invariant, Moment, Place, Unavailable, Version};
 use std::alloc::Global;
 use texts::Text;
 
-/// The most stops of the offers: at each one the choice learns about an application, a workunit, or everything that the
-/// user had.
-const MOST_STOPS: usize = MOST_APPS + MOST_LOOKED_AT + 1;
+/// The most stops of the offers: the choice goes on with fewer candidates after each, and a world has no more instances.
+const MOST_STOPS: usize = MOST_WORKUNITS * MOST_INSTANCES;
 
 /// The place of the first instance of the first workunit.
 pub(crate) fn first_place() -> Place
@@ -40,6 +40,7 @@ fn read_limits<D: Desk>(
     ensures reads { D.reads desk.old desk.new }
     ensures answer { Trusted D.Units desk.old desk.new (
         IfOk result (λ limits. limits ≡ limits_on (D.world desk.old) number host.now held day)) }
+    ensures causes { Trusted D.Units desk.old desk.new (IfErr result (D.may_fail desk.old)) }
 {
     let settings = desk.settings(alloc)?;
     let sent = desk.sent_on_day(number, day)?;
@@ -72,6 +73,7 @@ pub fn version_for<D: Desk>(
     ensures reads { D.reads desk.old desk.new }
     ensures answer { Trusted D.Units desk.old desk.new (
         IfOk result (λ version. version ≡ version_for (D.world desk.old) host.now app.now)) }
+    ensures causes { Trusted D.Units desk.old desk.new (IfErr result (D.may_fail desk.old)) }
 {
     match desk.app_by_name(alloc, app)? {
         None => Ok(None),
@@ -92,6 +94,7 @@ fn learn_app<D: Desk>(
     ensures answer { Trusted D.Units desk.old desk.new (
         OnOk result (IsRight (D.world desk.old) host.now known.old → IsRight (D.world desk.old) host.now known.new)) }
     ensures runs { IfOk result (λ runs. known_runs known.new.apps app ≡ Some runs) }
+    ensures causes { Trusted D.Units desk.old desk.new (IfErr result (D.may_fail desk.old)) }
 {
     if let Some(runs) = known.runs(app.as_str()) {
         return Ok(runs);
@@ -115,6 +118,7 @@ fn learn<D: Desk>(
     ensures answer { Trusted D.Units desk.old desk.new (
         OnOk result (IsRight (D.world desk.old) host.now known.old → IsRight (D.world desk.old) host.now known.new)) }
     ensures judged { OnOk result (IsTrue (can_judge known.new unjudged)) }
+    ensures causes { Trusted D.Units desk.old desk.new (IfErr result (D.may_fail desk.old)) }
 {
     let unit = unjudged.place.unit;
     if !learn_app(alloc, desk, host, known, unjudged.app)? {
@@ -126,7 +130,7 @@ fn learn<D: Desk>(
 /// Offers the candidates, unless none could be taken. If the offers stop at a candidate that could not be judged, it
 /// asks for what is needed, and the offers continue from there.
 ///
-/// Unavailable if more applications occur than a world may have.
+/// Unavailable if there are more candidates than a world may have.
 fn offer_all<D: Desk>(
     alloc: Global,
     desk: &mut D,
@@ -138,13 +142,14 @@ fn offer_all<D: Desk>(
     ensures past { Trusted D.Units desk.old desk.new (
         OnOk result (IsUpToDate (D.world desk.old) choosing.old
         → IsUserPast (D.world desk.old) choosing.old.host.now.account choosing.new.known.past)) }
+    ensures causes { Trusted D.Units desk.old desk.new (IsBounded (D.world desk.old) → IsUpToDate (D.world desk.old) choosing.old → IfErr result (D.may_fail desk.old)) }
 {
     if is_done(choosing) {
         return Ok(());
     }
     let account = choosing.host.account;
     let mut from = first_place();
-    for _ in 0..=MOST_STOPS {
+    for stops in 0..=MOST_STOPS {
         desk.unsent_for(account, from, choosing)?;
         if choosing.refused {
             return Err(Unavailable(Cause::Memory));
@@ -155,15 +160,15 @@ fn offer_all<D: Desk>(
         from = unjudged.place;
         learn(alloc, desk, choosing.host, &mut choosing.known, unjudged)?;
     }
-    Err(Unavailable(Cause::Broken(Invariant::StopsOfChoice)))
+    Err(Unavailable(Cause::Spoiled(Invariant::StopsOfChoice)))
 }
 
 /// Chooses jobs for the host of this number, which has this row and asks for `asked` seconds of work. Jobs that are sent
 /// to it again give it `before` seconds of these.
 ///
 /// `held` is how many jobs it holds. The candidates are offered by place, until the host has enough or a limit is
-/// reached. Unavailable if there is no memory, if the desk is unavailable, or if more applications occur among the
-/// candidates than a world may have.
+/// reached. Unavailable if there is no memory, if the desk is unavailable, or if there are more candidates than a world
+/// may have.
 pub fn choose<D: Desk>(
     alloc: Global,
     desk: &mut D,
@@ -184,6 +189,7 @@ pub fn choose<D: Desk>(
           asked = asked;
           now = now;
         }))) }
+    ensures causes { Trusted D.Units desk.old desk.new (IsBounded (D.world desk.old) → IfErr result (D.may_fail desk.old)) }
 {
     let limits = read_limits(alloc, desk, number, host, held, now.day())?;
     let mut choosing = begin(alloc, host, limits, still_wanted(asked, before));

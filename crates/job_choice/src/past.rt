@@ -1,6 +1,6 @@
 //! What is known of a user's past: the workunits that the user had an instance of.
 
-ghost use Rattle.std.specs.Prelude.{◌≡◌, is_some, IsTrue, IfOk, OnOk};
+ghost use Rattle.std.specs.Prelude.{◌≡◌, is_some, IsTrue, IfOk, IfErr, OnOk};
 ghost use Rattle.std.specs.List.{list_any};
 ghost use Rattle.std.specs.Option.{option_copied};
 ghost use Rattle.sched_book.specs.Places.{is_of_user};
@@ -14,7 +14,7 @@ use std::alloc::Global;
 use texts::{Listed, Memory, SeenSet};
 
 /// The most workunits that are looked at one by one. After them the desk is asked for all that the user had.
-pub(crate) const MOST_LOOKED_AT: usize = 8;
+const MOST_LOOKED_AT: usize = 8;
 
 /// What was found of a workunit that was looked at by itself.
 #[derive(Drop)]
@@ -100,6 +100,7 @@ fn is_of_user<D: Desk>(
     ensures reads { D.reads desk.old desk.new }
     ensures answer { Trusted D.Units desk.old desk.new (
         IfOk result (λ is. is ≡ is_of_user (D.world desk.old).hosts account instance.now)) }
+    ensures causes { Trusted D.Units desk.old desk.new (IfErr result (D.may_fail desk.old)) }
 {
     let Some(host) = instance.owner_host() else {
         return Ok(false);
@@ -120,6 +121,7 @@ fn is_any_of_user<D: Desk>(
     ensures reads { D.reads desk.old desk.new }
     ensures answer { Trusted D.Units desk.old desk.new (
         IfOk result (λ any. any ≡ list_any (is_of_user (D.world desk.old).hosts account) instances.now)) }
+    ensures causes { Trusted D.Units desk.old desk.new (IfErr result (D.may_fail desk.old)) }
 {
     for instance in instances {
         if is_of_user(alloc, desk, account, instance)? {
@@ -139,6 +141,7 @@ fn user_had<D: Desk>(
     ensures reads { D.reads desk.old desk.new }
     ensures answer { Trusted D.Units desk.old desk.new (
         IfOk result (λ had. had ≡ user_had_at (D.world desk.old) account unit)) }
+    ensures causes { Trusted D.Units desk.old desk.new (IfErr result (D.may_fail desk.old)) }
 {
     let instances = desk.instances_of(alloc, unit)?;
     is_any_of_user(alloc, desk, account, instances.as_slice())
@@ -153,6 +156,7 @@ fn units_had<D: Desk>(
     ensures reads { D.reads desk.old desk.new }
     ensures answer { Trusted D.Units desk.old desk.new (
         IfOk result (λ had. IsUserPast (D.world desk.old) account (Whole had))) }
+    ensures causes { Trusted D.Units desk.old desk.new (IfErr result (D.may_fail desk.old)) }
 {
     let units = desk.units_of_user(alloc, account)?;
     Ok(SeenSet::of(alloc, units.as_slice())?)
@@ -171,6 +175,7 @@ pub(crate) fn look_at<D: Desk>(
     ensures answer { Trusted D.Units desk.old desk.new (
         OnOk result (IsUserPast (D.world desk.old) account past.old → IsUserPast (D.world desk.old) account past.new)) }
     ensures known { OnOk result (IsTrue (is_some (known_had past.new unit))) }
+    ensures causes { Trusted D.Units desk.old desk.new (IfErr result (D.may_fail desk.old)) }
 {
     if past.user_had(unit).is_some() {
         return Ok(());

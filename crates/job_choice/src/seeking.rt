@@ -1,7 +1,7 @@
 //! The first candidate that is new to a user: each one before it is of a workunit that the user had an instance of. It is sought
 //! after a choice that met such a workunit, so that the next choice for the user begins there.
 
-ghost use Rattle.std.specs.Prelude.{◌≡◌, false, unwrap_or};
+ghost use Rattle.std.specs.Prelude.{◌≡◌, false, unwrap_or, IfErr};
 ghost use Rattle.sched_book.specs.Trusted.{Trusted};
 ghost use Rattle.job_choice.specs.Past.{known_had, IsUserPast};
 
@@ -56,6 +56,7 @@ pub(crate) fn note_had<D: Desk>(
     ensures honest { D.honest desk.new → D.honest desk.old }
     ensures reads { (begun : D) → D.reads begun desk.old
         → Trusted D.Units begun desk.new (IsUserPast (D.world begun) account past.now) → D.reads begun desk.new }
+    ensures causes { Trusted D.Units desk.old desk.new (IfErr result (D.may_fail desk.old)) }
 {
     if !past.has_had() {
         return Ok(());

@@ -1,14 +1,16 @@
 -- A unit state says the same of lost jobs as the worlds before the call and now.
-use Rattle.std.proofs.Common.{◌≡◌, ℕ, Bool, true, false, cond, List, [], Option, Some, None, sym, refl, ap, ap₂, ◌∙◌}
-use Rattle.std.specs.Prelude.{◌&&◌, ◌||◌, not, option_map, option_and_then, unwrap_or}
+use Rattle.std.proofs.Common.{◌≡◌, ℕ, ◌<◌, Bool, true, false, cond, List, [], Option, Some, None, sym, refl, ap, ap₂, ◌∙◌, subst, IfSome}
+use Rattle.std.specs.Prelude.{◌&&◌, ◌||◌, not, IsSome, option_map, option_and_then, unwrap_or}
 use Rattle.std.specs.Str.{bytes_eq}
 use Rattle.sched_book.specs.Count.{is_open, has_failed}
 use Rattle.sched_book.specs.Fits.{version_for, unit_fits, fits, estimate}
+use Rattle.sched_book.specs.Limits.{most_instances}
 use Rattle.sched_book.specs.Lost.{deadline_after, is_aborted}
 use Rattle.sched_book.specs.Names.{instance_name}
 use Rattle.sched_book.specs.Places.{option_any, unit_at, status_at, is_held_by, name_at, deadline_of, place_named}
 use Rattle.sched_book.specs.Reports.{awaits_report}
 use Rattle.sched_book.specs.Step.{deadline_at}
+use Rattle.sched_book.specs.declared.delta.Edit.{Edit}
 use Rattle.sched_book.specs.declared.delta.Edit.TheVariants as edit
 use Rattle.sched_book.specs.declared.instance.Instance.{Instance}
 use Rattle.sched_book.specs.declared.instance.Place.{Place}
@@ -18,7 +20,7 @@ use Rattle.sched_book.specs.declared.rows.HostRow.{HostRow}
 use Rattle.sched_book.specs.declared.rows.Workunit.{Workunit}
 use Rattle.sched_book.specs.declared.world.World.{World}
 use Rattle.sched_book.proofs.Recording.{passes-is}
-use Rattle.call_working_set.specs.WorkingSets.{IsReadAt, instance_now}
+use Rattle.call_working_set.specs.WorkingSets.{IsOfKnown, IsReadAt, instance_now}
 use Rattle.call_working_set.specs.UnitState.{UnitState}
 use Rattle.call_working_set.proofs.OnUnitStates.{instance_before-is, instance_now-is, status_before-is, status_now-is}
 use Rattle.texts.specs.SeenSet.{has_seen}
@@ -55,6 +57,24 @@ change-is entry present f o read =
     ap (option_map (λ x. edit.Instance f.place (fated f.resent x))) (instance_now-is entry present f.place o read)
 
 pub ruleset change_steps = (change-is)
+
+-- it is of a workunit that exists
+pub change_known : (entry present : World) (f : Fate) (o : Option UnitState) (change : Option Edit) → IsReadAt entry present f.place.unit o → change ≡ change_on o f
+    → IfSome change (λ e. f.place.number < most_instances) → IfSome (fate_change present f) (IsOfKnown present)
+change_known entry present f o change read is few =
+    subst (λ c. IfSome c (IsOfKnown present)) (change-is entry present f o read)
+    (known o read (subst (λ c. IfSome c (λ e. f.place.number < most_instances)) is few))
+  where
+    at : (k : UnitState) → IsReadAt entry present f.place.unit (Some k) → (x : Option Instance)
+        → IfSome (option_map (λ y. edit.Instance f.place (fated f.resent y)) x) (λ e. f.place.number < most_instances)
+        → IfSome (option_map (λ y. edit.Instance f.place (fated f.resent y)) x) (IsOfKnown present)
+    at k read None few = tt
+    at k read (Some x) few = (subst IsSome (sym read.here) refl, few)
+
+    known : (o : Option UnitState) → IsReadAt entry present f.place.unit o → IfSome (change_on o f) (λ e. f.place.number < most_instances)
+        → IfSome (change_on o f) (IsOfKnown present)
+    known None read few = tt
+    known (Some k) read few = at k read (instance_now (Some k) f.place.number) few
 
 -- whether the client may forget a name
 pub aborted_on-is : (entry present : World) (host : ℕ) (name : List ℕ) (p : Place) (o : Option UnitState)

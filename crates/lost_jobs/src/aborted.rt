@@ -1,6 +1,6 @@
 //! The names that a client may forget.
 
-ghost use Rattle.std.specs.Prelude.{◌≡◌, IfOk};
+ghost use Rattle.std.specs.Prelude.{◌≡◌, IfOk, IfErr};
 ghost use Rattle.std.specs.Option.{option_copied};
 ghost use Rattle.sched_book.specs.Lost.{is_aborted, aborts};
 ghost use Rattle.sched_book.specs.Trusted.{Trusted};
@@ -38,6 +38,7 @@ fn is_aborted<S: Draft>(
     ensures reads { S.reads working_set.old working_set.new }
     ensures answer { Trusted S.Units working_set.old working_set.new (
         IfOk result (λ aborted. aborted ≡ is_aborted (S.world working_set.old) host name.now)) }
+    ensures causes { Trusted S.Units working_set.old working_set.new (IfErr result (S.may_fail working_set.old)) }
 {
     let Some(place) = place_named(alloc, working_set, name)? else {
         return Ok(true);
@@ -62,6 +63,7 @@ pub fn aborts_on<S: Draft>(
     ensures reads { S.reads working_set.old working_set.new }
     ensures answer { Trusted S.Units working_set.old working_set.new (
         IfOk result (λ names. names ≡ aborts (S.world working_set.old) host request.now.other_results)) }
+    ensures causes { Trusted S.Units working_set.old working_set.new (IfErr result (S.may_fail working_set.old)) }
 {
     let Some(names) = &request.other_results else {
         return Ok(Listed::new(alloc));

@@ -1,6 +1,6 @@
 //! What happens to lost jobs.
 
-ghost use Rattle.std.specs.Prelude.{◌≡◌, map, IfOk};
+ghost use Rattle.std.specs.Prelude.{◌≡◌, map, IfOk, IfErr};
 ghost use Rattle.std.specs.Option.{option_copied};
 ghost use Rattle.sched_book.specs.Fits.{version_for};
 ghost use Rattle.sched_book.specs.Lost.{deadline_after};
@@ -77,6 +77,7 @@ pub fn version_on<S: Draft>(
     ensures reads { S.reads working_set.old working_set.new }
     ensures answer { Trusted S.Units working_set.old working_set.new (
         IfOk result (λ version. version ≡ version_for (S.entry working_set.old) host.now app.now)) }
+    ensures causes { Trusted S.Units working_set.old working_set.new (IfErr result (S.may_fail working_set.old)) }
 {
     match working_set.app_by_name(alloc, app)? {
         None => Ok(None),
@@ -95,6 +96,7 @@ fn resent_to<S: Draft>(
     ensures reads { S.reads working_set.old working_set.new }
     ensures answer { Trusted S.Units working_set.old working_set.new (
         IfOk result (λ deadline. deadline ≡ resent_to (S.entry working_set.old) host.now now place)) }
+    ensures causes { Trusted S.Units working_set.old working_set.new (IfErr result (S.may_fail working_set.old)) }
 {
     working_set.read(alloc, place.unit)?;
     let Some(job) = open_job_on(working_set.unit_state(place.unit), place.number)? else {
@@ -125,6 +127,7 @@ pub fn fates_on<S: Draft>(
     ensures reads { S.reads working_set.old working_set.new }
     ensures answer { Trusted S.Units working_set.old working_set.new (
         IfOk result (λ fates. fates ≡ map (fate (S.entry working_set.old) host.now now) lost.now)) }
+    ensures causes { Trusted S.Units working_set.old working_set.new (IfErr result (S.may_fail working_set.old)) }
 {
     let mut fates = Listed::new(alloc);
     for place in lost {

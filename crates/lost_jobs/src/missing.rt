@@ -1,6 +1,6 @@
 //! The jobs that a client lost.
 
-ghost use Rattle.std.specs.Prelude.{◌≡◌, IfOk};
+ghost use Rattle.std.specs.Prelude.{◌≡◌, IfOk, IfErr};
 ghost use Rattle.std.specs.Option.{option_copied};
 ghost use Rattle.sched_book.specs.Places.{held_by};
 ghost use Rattle.sched_book.specs.Lost.{lost};
@@ -55,6 +55,7 @@ pub fn lost_on<S: Draft>(
     ensures answer { Trusted S.Units working_set.old working_set.new (IfOk result (λ places.
         held.now ≡ held_by (S.entry working_set.old) host → HoldsNoMore (S.entry working_set.old) (S.world working_set.old) host →
         places ≡ lost (S.world working_set.old) host request.now.other_results)) }
+    ensures causes { Trusted S.Units working_set.old working_set.new (IfErr result (S.may_fail working_set.old)) }
 {
     if !working_set.settings().resend_lost_results {
         return Ok(Listed::new(alloc));

@@ -2,7 +2,7 @@
 //! scheduler. [`lost`] and [`resend_or_drop`] open a working set for the steps that the program runs, [`lost_on`] and
 //! [`fates_on`]; [`aborts`] needs no desk.
 
-ghost use Rattle.std.specs.Prelude.{◌≡◌, map, IfOk};
+ghost use Rattle.std.specs.Prelude.{◌≡◌, map, IfOk, IfErr};
 ghost use Rattle.sched_book.specs.Delta.{edited};
 ghost use Rattle.sched_book.specs.Lost.{lost, is_aborted, aborts};
 ghost use Rattle.sched_book.specs.Trusted.{Trusted};
@@ -63,6 +63,7 @@ pub fn resend_or_drop<D: Desk>(
     ensures reads { D.reads desk.old desk.new }
     ensures answer { Trusted D.Units desk.old desk.new (
         IfOk result (λ fates. fates ≡ map (fate (D.world desk.old) host.now now) lost.now)) }
+    ensures causes { Trusted D.Units desk.old desk.new (IfErr result (D.may_fail desk.old)) }
 {
     let mut call_state = CallState::new(alloc, desk.settings(alloc)?);
     let mut working_set = WorkingSet {
@@ -83,6 +84,7 @@ fn is_aborted_in<U: Units>(
     ensures reads { U.reads units.old units.new }
     ensures answer { Trusted U.Units units.old units.new (
         IfOk result (λ aborted. aborted ≡ is_aborted (U.world units.old) host name.now)) }
+    ensures causes { Trusted U.Units units.old units.new (IfErr result (U.may_fail units.old)) }
 {
     let Some(place) = place_named(alloc, units, name)? else {
         return Ok(true);
@@ -108,6 +110,7 @@ pub fn aborts<U: Units>(
     ensures reads { U.reads units.old units.new }
     ensures answer { Trusted U.Units units.old units.new (
         IfOk result (λ names. names ≡ aborts (U.world units.old) host request.now.other_results)) }
+    ensures causes { Trusted U.Units units.old units.new (IfErr result (U.may_fail units.old)) }
 {
     let Some(names) = &request.other_results else {
         return Ok(Listed::new(alloc));

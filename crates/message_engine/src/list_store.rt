@@ -2,6 +2,7 @@
 
 ghost use Rattle.std.specs.Prelude.{◌≡◌, [], length, find, Ok, ⊤, IfOk, OnOk, OnErr};
 ghost use Rattle.std.specs.Option.{option_copied};
+ghost use Rattle.sched_book.specs.declared.cause.Cause.TheVariants.{Memory};
 ghost use Rattle.sched_book.specs.declared.delta.Delta.TheVariants as kinds;
 ghost use Rattle.sched_book.specs.Desk.{counts, agreement_at, unit_status};
 ghost use Rattle.sched_book.specs.Places.{unit_named, known_host, held_by, sent_on_day, host_credit, user_credit};
@@ -118,6 +119,8 @@ impl Units for ListStore {
 
     ghost reads = { λ a b. a ≡ b };
 
+    ghost may_fail = { λ _ u. u.0 ≡ Memory };
+
     fn unit_by_name(&mut self, name: &str) -> Result<Option<u32>, Unavailable>
         ensures reads { self.new ≡ self.old }
         ensures answer { result ≡ Ok (unit_named (world_of_list self.old) name.now) }
@@ -158,6 +161,10 @@ impl Units for ListStore {
     ghost stays_kept = { λ a b h k l. Prim.search rules };
 
     ghost stays_same = { λ a b h k l. Prim.search rules };
+
+    ghost fails_for_memory = { λ a. Prim.search rules };
+
+    ghost stays_failing = { λ a b h k l u m. m };
 }
 
 impl Desk for ListStore {

@@ -9,6 +9,7 @@ pub mod SettledAll
 pub mod FreshOnes
 pub mod Grown
 pub mod GrownFits
+pub mod KnownGrowth
 pub mod Scored
 pub mod Sums
 pub mod Numbered

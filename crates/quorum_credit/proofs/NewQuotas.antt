@@ -4,7 +4,8 @@ use Rattle.std.proofs.lemmas.Bool.{eqb-true}
 use Rattle.std.proofs.lemmas.Nat.{pow_pos, mul-le}
 use borrow.Author.Tests.{ltb-true, ltb-false}
 use Rattle.std.proofs.Math.Nat.{one-le-mul, pow-succ'}
-use Rattle.std.specs.Prelude.{◌||◌, All, max, min, map, option_map}
+use Rattle.std.specs.Prelude.{◌||◌, All, IsSome, max, min, map, option_map}
+use Rattle.std.proofs.lemmas.List.Elements.{All-nil, All-cons}
 use Rattle.std.specs.List.{enumerate_from, cons_option}
 use Rattle.sched_book.specs.Places.{host_at}
 use Rattle.sched_book.specs.Settle.{next_quota}
@@ -13,6 +14,7 @@ use Rattle.sched_book.specs.declared.delta.Edit.{Edit}
 use Rattle.sched_book.specs.declared.delta.Edit.TheVariants as edit
 use Rattle.sched_book.specs.declared.rows.HostRow.{HostRow}
 use Rattle.sched_book.specs.declared.world.World.{World}
+use Rattle.call_working_set.specs.WorkingSets.{IsOfKnown}
 use Rattle.quorum_credit.specs.Scores.{charges_in, merits_in}
 use Rattle.quorum_credit.specs.Settling.{AreHostsInLimits, quota_by, with_quotas_by, AreQuotasBy}
 use Rattle.quorum_credit.specs.Tallies.{with_quota_by, new_quotas, is_tallied, most_counted, AreSums}
@@ -210,6 +212,17 @@ hosts_alone w v most (m ∷ ms) = cases (host_at w m.host) (λ z. hosts_alone w 
     cases None more = more v
     cases (Some h) more = more (edited_one v (edit.Host m.host (with_quota_by most m h)))
 
+-- each is of a host that exists
+quotas_known : (w : World) (most : ℕ) (ms : List Tally) → All (IsOfKnown w) (new_quotas w most ms)
+quotas_known w most [] = All-nil (IsOfKnown w)
+quotas_known w most (m ∷ ms) = cases (host_at w m.host) refl (quotas_known w most ms)
+  where
+    cases : (o : Option HostRow) → host_at w m.host ≡ o → All (IsOfKnown w) (new_quotas w most ms)
+        → All (IsOfKnown w) (cons_option (option_map (λ h. edit.Host m.host (with_quota_by most m h)) o) (new_quotas w most ms))
+    cases None stands more = more
+    cases (Some h) stands more =
+        All-cons (IsOfKnown w) (edit.Host m.host (with_quota_by most m h)) (new_quotas w most ms) (subst IsSome (sym stands) refl) more
+
 pub are_quotas : (scores : List Score) (sums : List Tally) (w : World) (most : ℕ) (quotas : List Edit) → AreSums scores sums → most ≡ w.settings.daily_result_quota → most ≤ most_counted
     → quotas ≡ new_quotas w most sums → AreQuotasBy scores w quotas
 are_quotas scores sums w most quotas are limit capped is =
@@ -218,4 +231,5 @@ are_quotas scores sums w most quotas are limit capped is =
       quoted = λ limits. quotas_are_new scores w limits (subst (λ n. n ≤ most_counted) limit capped) sums are;
       fit = λ limits some. quotas_fit w limits some sums;
       alone = hosts_alone w w w.settings.daily_result_quota sums;
+      known = quotas_known w w.settings.daily_result_quota sums;
     })

@@ -1,5 +1,5 @@
 -- Words. The steps from the world with its changes to the settled one. They look only at workunits that the changes touch.
-use Rattle.std.specs.Prelude.{◌≡◌, ℕ, ◌≤◌, ◌++◌, false, if◌then◌else◌, List, length, drop, map, Some, is_some, IsTrue}
+use Rattle.std.specs.Prelude.{◌≡◌, ℕ, ◌≤◌, ◌++◌, false, if◌then◌else◌, All, List, length, drop, map, Some, is_some, IsTrue}
 use Rattle.std.specs.List.{enumerate_from}
 use Rattle.sched_book.specs.Classes.{imported}
 use Rattle.sched_book.specs.Delta.{edited, EditsFit}
@@ -15,7 +15,7 @@ use Rattle.sched_book.specs.declared.rows.HostRow.{HostRow}
 use Rattle.sched_book.specs.declared.world.World.{World}
 use Rattle.quorum_credit.specs.Scoring.{scores_of_units}
 use Rattle.quorum_credit.specs.Scores.{charges_in, merits_in}
-use Rattle.call_working_set.specs.WorkingSets.{AreRising, is_among}
+use Rattle.call_working_set.specs.WorkingSets.{AreRising, IsOfKnown, is_among}
 use Rattle.quorum_credit.specs.declared.scores.Score.{Score}
 
 -- Between two worlds only these workunits are touched, and their places rise.
@@ -61,6 +61,7 @@ pub record AreQuotasBy (scores : List Score) (w : World) (quotas : List Edit) : 
   pub quoted : AreHostsInLimits w → edited w quotas ≡ with_quotas_by scores w
   pub fit : AreHostsInLimits w → 1 ≤ w.settings.daily_result_quota → EditsFit w quotas
   pub alone : edited w quotas ≡ record w { hosts = (edited w quotas).hosts }
+  pub known : All (IsOfKnown w) quotas
 
 -- the later changes are the earlier ones, followed by others
 abbrev pub Extends : List Edit → List Edit → Type 0

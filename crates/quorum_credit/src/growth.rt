@@ -1,12 +1,13 @@
 //! The instances that workunits need.
 
-ghost use Rattle.std.specs.Prelude.{◌≡◌, ◌++◌, Some, IfOk, OnOk};
+ghost use Rattle.std.specs.Prelude.{◌≡◌, ◌++◌, Some, IfOk, IfErr, OnOk, ◌≤◌};
 ghost use Rattle.sched_book.specs.Trusted.{Trusted};
+ghost use Rattle.sched_book.specs.declared.cause.Cause.TheVariants.{Memory};
 ghost use Rattle.call_working_set.specs.WorkingSets.{AreRising};
 ghost use Rattle.quorum_credit.specs.Growing.{growth, all_growth};
 ghost use Rattle.quorum_credit.specs.UnitStates.{growth_on};
 ghost use Rattle.quorum_credit.specs.Settled.{new_instances};
-ghost use Rattle.quorum_credit.specs.Settling.{with_grown_among};
+ghost use Rattle.quorum_credit.specs.Settling.{AreUnitsInLimits, with_grown_among};
 
 use crate::settlement::new_instances;
 use call_working_set::{Draft, UnitState, put_all};
@@ -30,14 +31,13 @@ fn new_instances_on(unit_state: &UnitState) -> usize
 /// many.
 #[tactic(auto, using(crate::proofs::FreshOnes::growth_steps))]
 fn push_growth(more: &mut Edits, unit: u32, unit_state: &UnitState) -> Result<(), Unavailable>
-    ensures { OnOk result (more.new ≡ more.old ++ growth_on unit (Some unit_state.now)) }
+    ensures grown { OnOk result (more.new ≡ more.old ++ growth_on unit (Some unit_state.now)) }
+    ensures causes { unit_state.now.unit.max_total_results ≤ MOST_INSTANCES → IfErr result (λ u. u.0 ≡ Memory) }
 {
     let instances = unit_state.present();
     let count = new_instances_on(unit_state);
     if count > MOST_INSTANCES - instances.len() {
-        // Does not happen for workunits within limits: an open one has and needs at most `max_total_results`, which is
-        // at most 100.
-        return Err(Unavailable(Cause::Broken(Invariant::Growth)));
+        return Err(Unavailable(Cause::Spoiled(Invariant::Growth)));
     }
     let first = instances.len() as u32;
     let end = (instances.len() + count) as u32;
@@ -61,6 +61,7 @@ fn add_growth<S: Draft>(
 ) -> Result<(), Unavailable>
     ensures reads { S.reads working_set.old working_set.new }
     ensures answer { Trusted S.Units working_set.old working_set.new (OnOk result (more.new ≡ more.old ++ growth (S.world working_set.old) unit)) }
+    ensures causes { Trusted S.Units working_set.old working_set.new (AreUnitsInLimits (S.world working_set.old) → IfErr result (S.may_fail working_set.old)) }
 {
     working_set.read(alloc, unit)?;
     working_set.decide(unit);
@@ -78,6 +79,7 @@ fn growth_in_turn<S: Draft>(
 ) -> Result<Edits, Unavailable>
     ensures reads { S.reads working_set.old working_set.new }
     ensures answer { Trusted S.Units working_set.old working_set.new (IfOk result (λ more. more ≡ all_growth (S.world working_set.old) touched.now)) }
+    ensures causes { Trusted S.Units working_set.old working_set.new (AreUnitsInLimits (S.world working_set.old) → IfErr result (S.may_fail working_set.old)) }
 {
     let mut more = Listed::new(alloc);
     for unit in touched {
@@ -97,6 +99,7 @@ pub(crate) fn grow_on<S: Draft>(
         S.world working_set.new ≡ with_grown_among touched.now (S.world working_set.old))) }
     ensures edits { Trusted S.Units working_set.old working_set.new (OnOk result (
         S.edits working_set.new ≡ S.edits working_set.old ++ all_growth (S.world working_set.old) touched.now)) }
+    ensures causes { Trusted S.Units working_set.old working_set.new (AreUnitsInLimits (S.world working_set.old) → IfErr result (S.may_fail working_set.old)) }
 {
     let more = growth_in_turn(alloc, working_set, touched)?;
     put_all(alloc, working_set, more.as_slice())?;

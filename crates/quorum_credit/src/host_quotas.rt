@@ -1,6 +1,6 @@
 //! The quotas of hosts after settlement.
 
-ghost use Rattle.std.specs.Prelude.{◌≡◌, ℕ, ◌==◌, if◌then◌else◌, None, Some, [], ◌∷◌, ◌++◌, IfOk, OnOk};
+ghost use Rattle.std.specs.Prelude.{◌≡◌, ℕ, ◌==◌, if◌then◌else◌, None, Some, [], ◌∷◌, ◌++◌, IfOk, IfErr, OnOk};
 ghost use Rattle.sched_book.specs.Trusted.{Trusted};
 ghost use Rattle.quorum_credit.specs.Settling.{AreQuotasBy};
 ghost use Rattle.quorum_credit.specs.Tallies.{new_quotas, tally_with, tally_after, tally_in, AreSums};
@@ -34,6 +34,7 @@ fn add_quota<S: Draft>(
     ensures reads { S.reads working_set.old working_set.new }
     ensures answer { Trusted S.Units working_set.old working_set.new (
         OnOk result (quotas.new ≡ quotas.old ++ new_quotas (S.world working_set.old) limit (tally.now ∷ []))) }
+    ensures causes { Trusted S.Units working_set.old working_set.new (IfErr result (S.may_fail working_set.old)) }
 {
     let Some(host) = working_set.host(alloc, tally.host)? else {
         return Ok(());
@@ -58,6 +59,7 @@ fn quotas_in_turn<S: Draft>(
     ensures reads { S.reads working_set.old working_set.new }
     ensures answer { Trusted S.Units working_set.old working_set.new (
         IfOk result (λ quotas. quotas ≡ new_quotas (S.world working_set.old) limit tallies.now)) }
+    ensures causes { Trusted S.Units working_set.old working_set.new (IfErr result (S.may_fail working_set.old)) }
 {
     let mut quotas = Listed::new(alloc);
     for tally in tallies {
@@ -121,6 +123,7 @@ pub(crate) fn new_quotas<S: Draft>(
     ensures reads { S.reads working_set.old working_set.new }
     ensures answer { Trusted S.Units working_set.old working_set.new (
         IfOk result (λ quotas. AreQuotasBy scores.now (S.world working_set.old) quotas)) }
+    ensures causes { Trusted S.Units working_set.old working_set.new (IfErr result (S.may_fail working_set.old)) }
 {
     let sums = sums_of(alloc, scores)?;
     let limit = working_set.settings().daily_result_quota;

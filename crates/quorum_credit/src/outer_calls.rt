@@ -2,7 +2,7 @@
 //! working set: tests, or another scheduler. They use the steps that the program runs, [`record_on`], [`settle_on`] and
 //! [`lapse_places`].
 
-ghost use Rattle.std.specs.Prelude.{◌≡◌, ◌≤◌, ◌++◌, All, drop, length, map, IfOk, OnOk};
+ghost use Rattle.std.specs.Prelude.{◌≡◌, ◌≤◌, ◌++◌, All, drop, length, map, IfOk, IfErr, OnOk};
 ghost use Rattle.rpc_records.specs.Ranges.{IsReport};
 ghost use Rattle.rpc_records.specs.declared.request.Report.{Report};
 ghost use Rattle.sched_book.specs.Count.{agree, status, verdict_by};
@@ -150,6 +150,7 @@ pub fn take_reports<D: Desk>(
     ensures fits { Trusted D.Units desk.old desk.new (
         IfOk result (λ taken. All IsReport request.now.results → Sound (D.world desk.old) → EditsFit (D.world desk.old) taken.edits)) }
     ensures touched { IfOk result (λ taken. AreTouched taken.edits taken.touched) }
+    ensures causes { Trusted D.Units desk.old desk.new (IfErr result (D.may_fail desk.old)) }
 {
     let mut call_state = CallState::new(alloc, desk.settings(alloc)?);
     let mut working_set = WorkingSet {
@@ -229,6 +230,7 @@ pub fn lapse<D: Desk>(alloc: Global, desk: &mut D, now: Moment) -> Result<Edits,
         Sound (D.world desk.old) → edited (D.world desk.old) edits ≡ settled (D.world desk.old) (lapsed (D.world desk.old) now))) }
     ensures fits { Trusted D.Units desk.old desk.new (
         IfOk result (λ edits. Sound (D.world desk.old) → EditsFit (D.world desk.old) edits)) }
+    ensures causes { Trusted D.Units desk.old desk.new (Sound (D.world desk.old) → IfErr result (D.may_fail desk.old)) }
 {
     let places = desk.due_before(alloc, now)?;
     lapse_places(alloc, desk, places.as_slice())

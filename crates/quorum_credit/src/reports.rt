@@ -1,6 +1,6 @@
 //! The reports of a call.
 
-ghost use Rattle.std.specs.Prelude.{◌≡◌, All, ◌==◌, ◌+◌, ◌≤◌, length, map, fold, IfOk, OnOk};
+ghost use Rattle.std.specs.Prelude.{◌≡◌, All, ◌==◌, ◌+◌, ◌≤◌, length, map, fold, IfOk, IfErr, OnOk, ◌<◌, IfSome, IsSome};
 ghost use Rattle.std.specs.Option.{option_copied};
 ghost use Rattle.rpc_records.specs.Ranges.{IsReport};
 ghost use Rattle.rpc_records.specs.declared.request.Report.{Report};
@@ -67,7 +67,8 @@ fn reported_on(
     unit_state: Option<&UnitState>,
     number: u32,
 ) -> Result<Option<Instance>, Memory>
-    ensures { IfOk result (λ row. row ≡ reported_on host report.now (option_copied unit_state.entry) number) }
+    ensures value { IfOk result (λ row. row ≡ reported_on host report.now (option_copied unit_state.entry) number) }
+    ensures there { IfOk result (λ row. IfSome row (λ _. IsSome (option_copied unit_state.entry) × (number < most_instances))) }
 {
     let Some(unit_state) = unit_state else {
         return Ok(None);
@@ -97,6 +98,7 @@ fn put_report<S: Draft>(
         OnOk result (S.world working_set.new ≡ record_at (S.entry working_set.old) host report.now (S.world working_set.old) place)) }
     ensures fits { Trusted S.Units working_set.old working_set.new (OnOk result (IsReport report.now →
         FitWithin (S.entry working_set.old) (S.edits working_set.old) → FitWithin (S.entry working_set.old) (S.edits working_set.new))) }
+    ensures causes { Trusted S.Units working_set.old working_set.new (IfErr result (S.may_fail working_set.old)) }
 {
     working_set.read(alloc, place.unit)?;
     match reported_on(
@@ -125,6 +127,7 @@ fn take_report<S: Draft>(
         OnOk result (S.world working_set.new ≡ record_one (S.entry working_set.old) host (S.world working_set.old) report.now)) }
     ensures fits { Trusted S.Units working_set.old working_set.new (OnOk result (IsReport report.now →
         FitWithin (S.entry working_set.old) (S.edits working_set.old) → FitWithin (S.entry working_set.old) (S.edits working_set.new))) }
+    ensures causes { Trusted S.Units working_set.old working_set.new (IfErr result (S.may_fail working_set.old)) }
 {
     match place_before(alloc, working_set, report.name.as_str())? {
         None => Ok(()),
@@ -144,6 +147,7 @@ fn take_in_turn<S: Draft>(
         S.world working_set.new ≡ fold (record_one (S.entry working_set.old) host) (S.world working_set.old) (map (λ r. r.now) reports.now))) }
     ensures fits { Trusted S.Units working_set.old working_set.new (OnOk result (All (λ r. IsReport r.now) reports.now →
         FitWithin (S.entry working_set.old) (S.edits working_set.old) → FitWithin (S.entry working_set.old) (S.edits working_set.new))) }
+    ensures causes { Trusted S.Units working_set.old working_set.new (IfErr result (S.may_fail working_set.old)) }
 {
     for report in reports {
         take_report(alloc, working_set, host, report)?;
@@ -173,6 +177,7 @@ pub fn record_on<S: Draft>(
     ensures acked { IfOk result (λ acked. acked ≡ map (λ (r : Report). r.name) (first_reports request.now.results)) }
     ensures fits { Trusted S.Units working_set.old working_set.new (OnOk result (All IsReport request.now.results →
         FitWithin (S.entry working_set.old) (S.edits working_set.old) → FitWithin (S.entry working_set.old) (S.edits working_set.new))) }
+    ensures causes { Trusted S.Units working_set.old working_set.new (IfErr result (S.may_fail working_set.old)) }
 {
     let firsts = first_of_each(alloc, request.results.as_slice())?;
     let acked = names_of(alloc, firsts.as_slice())?;

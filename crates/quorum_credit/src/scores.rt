@@ -1,6 +1,6 @@
 //! What settlement counts for and against the hosts of instances, and the credit that they get from it.
 
-ghost use Rattle.std.specs.Prelude.{◌≡◌, ◌≤◌, ◌++◌, Some, map, IfOk, OnOk};
+ghost use Rattle.std.specs.Prelude.{◌≡◌, ◌≤◌, ◌++◌, Some, map, IfOk, IfErr, OnOk};
 ghost use Rattle.sched_book.specs.Count.{is_invalid, verdict_by};
 ghost use Rattle.sched_book.specs.Settle.{is_late};
 ghost use Rattle.sched_book.specs.Trusted.{Trusted};
@@ -219,6 +219,7 @@ fn add_scores<S: Draft>(
     ensures reads { S.reads working_set.old working_set.new }
     ensures answer { Trusted S.Units working_set.old working_set.new (
         OnOk result (scores.new ≡ scores.old ++ scores_at (S.entry working_set.old) (S.world working_set.old) unit)) }
+    ensures causes { Trusted S.Units working_set.old working_set.new (IfErr result (S.may_fail working_set.old)) }
 {
     working_set.read(alloc, unit)?;
     let Some(unit_state) = working_set.unit_state(unit) else {
@@ -238,6 +239,7 @@ pub(crate) fn scores_of_units<S: Draft>(
     ensures reads { S.reads working_set.old working_set.new }
     ensures answer { Trusted S.Units working_set.old working_set.new (
         IfOk result (λ scores. scores ≡ scores_of_units (S.entry working_set.old) (S.world working_set.old) units.now)) }
+    ensures causes { Trusted S.Units working_set.old working_set.new (IfErr result (S.may_fail working_set.old)) }
 {
     let mut scores = Listed::new(alloc);
     for unit in units {

@@ -1,12 +1,12 @@
 //! The settlement of the workunits that edits touch.
 
-ghost use Rattle.std.specs.Prelude.{◌≡◌, [], IfOk, OnOk};
+ghost use Rattle.std.specs.Prelude.{◌≡◌, [], IfOk, IfErr, OnOk};
 ghost use Rattle.sched_book.specs.Delta.{edited, EditsFit};
 ghost use Rattle.sched_book.specs.Settle.{settled};
 ghost use Rattle.sched_book.specs.Sound.{Sound};
 ghost use Rattle.sched_book.specs.Trusted.{Trusted};
 ghost use Rattle.quorum_credit.specs.Scoring.{scores_of_units};
-ghost use Rattle.quorum_credit.specs.Late.{lapsed_at};
+ghost use Rattle.quorum_credit.specs.Late.{lapsed_at, AreHeldInTurn};
 ghost use Rattle.quorum_credit.specs.Settling.{TouchJust, Extends, AreScores};
 
 use crate::growth::grow_on;
@@ -40,6 +40,7 @@ pub fn settle_on<S: Draft>(
     ensures scores { Trusted S.Units working_set.old working_set.new (
         IfOk result (λ scores. scores ≡ scores_of_units (S.entry working_set.old) (S.world working_set.new) touched.now)) }
     ensures edits { Trusted S.Units working_set.old working_set.new (OnOk result (Extends (S.edits working_set.old) (S.edits working_set.new))) }
+    ensures causes { Trusted S.Units working_set.old working_set.new (Sound (S.entry working_set.old) → IfErr result (S.may_fail working_set.old)) }
 {
     grow_on(alloc, working_set, touched)?;
     let scores = scores_of_units(alloc, working_set, touched)?;
@@ -66,6 +67,7 @@ pub fn settle_read<S: Draft>(
         Sound (S.entry working_set.old) → EditsFit (S.entry working_set.old) (S.edits working_set.old) → EditsFit (S.entry working_set.old) (S.edits working_set.new))) }
     ensures scores { Trusted S.Units working_set.old working_set.new (IfOk result (λ scores.
         Sound (S.entry working_set.old) → EditsFit (S.entry working_set.old) (S.edits working_set.old) → AreScores (S.entry working_set.old) (S.world working_set.new) scores)) }
+    ensures causes { Trusted S.Units working_set.old working_set.new (Sound (S.entry working_set.old) → IfErr result (S.may_fail working_set.old)) }
 {
     let touched = working_set.units(alloc)?;
     let scores = settle_on(alloc, working_set, touched.as_slice())?;
@@ -83,6 +85,7 @@ fn lapse_read<S: Draft>(
         S.world working_set.new ≡ settled (S.entry working_set.old) (lapsed_at (S.entry working_set.old) places.now))) }
     ensures fits { Trusted S.Units working_set.old working_set.new (OnOk result (S.edits working_set.old ≡ [] → Sound (S.entry working_set.old) →
         EditsFit (S.entry working_set.old) (S.edits working_set.new))) }
+    ensures causes { Trusted S.Units working_set.old working_set.new (Sound (S.entry working_set.old) → AreHeldInTurn (S.world working_set.old) places.now → IfErr result (S.may_fail working_set.old)) }
 {
     lapse_on(alloc, working_set, places)?;
     settle_read(alloc, working_set)?;
@@ -105,6 +108,7 @@ pub fn lapse_places<D: Desk>(
         edited (D.world desk.old) edits ≡ settled (D.world desk.old) (lapsed_at (D.world desk.old) places.now))) }
     ensures fits { Trusted D.Units desk.old desk.new (
         IfOk result (λ edits. Sound (D.world desk.old) → EditsFit (D.world desk.old) edits)) }
+    ensures causes { Trusted D.Units desk.old desk.new (Sound (D.world desk.old) → AreHeldInTurn (D.world desk.old) places.now → IfErr result (D.may_fail desk.old)) }
 {
     let mut call_state = CallState::new(alloc, desk.settings(alloc)?);
     let mut working_set = WorkingSet {

@@ -52,7 +52,7 @@ pub record IsSettledUnit (hosts : List HostRow) (apps : List App) (b : UnitBook)
   pub well : IsWellUnit hosts apps b
   pub satisfied : IsTrue (is_open (book_status apps b)) → need b.unit b.instances ≡ 0
 
--- A sound workunit is a settled one that has its class, if it is marked and any of its instances was given out.
+-- A workunit is sound if it is settled and, when it is marked and was given out, has a class.
 pub record IsSoundUnit (hosts : List HostRow) (apps : List App) (b : UnitBook) : Type 0 where
   pub well : IsWellUnit hosts apps b
   pub satisfied : IsTrue (is_open (book_status apps b)) → need b.unit b.instances ≡ 0

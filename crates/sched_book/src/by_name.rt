@@ -1,6 +1,6 @@
 //! What has a name or is at a place: asked of a desk, or of anything else that knows the workunits.
 
-ghost use Rattle.std.specs.Prelude.{◌≡◌, IfOk};
+ghost use Rattle.std.specs.Prelude.{◌≡◌, IfOk, IfErr};
 ghost use Rattle.sched_book.specs.Places.{status_at, place_named, place_of_parts};
 ghost use Rattle.sched_book.specs.Trusted.{Trusted};
 
@@ -14,6 +14,7 @@ use std::alloc::Global;
 pub fn status_at<U: Units>(alloc: Global, units: &mut U, unit: u32) -> Result<Status, Unavailable>
     ensures reads { U.reads units.old units.new }
     ensures answer { Trusted U.Units units.old units.new (IfOk result (λ status. status ≡ status_at (U.world units.old) unit)) }
+    ensures causes { Trusted U.Units units.old units.new (IfErr result (U.may_fail units.old)) }
 {
     let Some(row) = units.unit(alloc, unit)? else {
         return Ok(Status::FailedTotal);
@@ -35,6 +36,7 @@ fn place_of_parts<U: Units>(
     ensures reads { U.reads units.old units.new }
     ensures answer { Trusted U.Units units.old units.new (
         IfOk result (λ place. place ≡ place_of_parts (U.world units.old) (name.now, number))) }
+    ensures causes { Trusted U.Units units.old units.new (IfErr result (U.may_fail units.old)) }
 {
     let Some(unit) = units.unit_by_name(name)? else {
         return Ok(None);
@@ -54,6 +56,7 @@ pub fn place_named<U: Units>(
     ensures reads { U.reads units.old units.new }
     ensures answer { Trusted U.Units units.old units.new (
         IfOk result (λ place. place ≡ place_named (U.world units.old) name.now)) }
+    ensures causes { Trusted U.Units units.old units.new (IfErr result (U.may_fail units.old)) }
 {
     match split_name(name) {
         None => Ok(None),

@@ -43,7 +43,6 @@ impl fmt::Display for StorageFault {
 #[derive(Clone, Copy, Debug, PartialEq, Eq)]
 pub enum Invariant {
     ListsOfDesk,
-    InstancesOfNewUnit,
     InstancesOnWorkingSet,
     AppOfUnit,
     ReplacedHost,
@@ -53,11 +52,7 @@ pub enum Invariant {
     NumberOfHost,
     StopsOfChoice,
     Growth,
-    GrowingUnit,
     LateInstance,
-    ScoredHost,
-    ChargesOfHost,
-    MeritsOfHost,
     JobsOfHost,
     SecondsSentAgain,
     GrantedInstance,
@@ -105,8 +100,6 @@ impl fmt::Display for Invariant {
     fn fmt<W: fmt::Write>(&self, f: &mut fmt::Formatter<W>) -> fmt::Result {
         f.write_str(match self {
             Invariant::ListsOfDesk => "sched_book::ListDesk::of: each list fits its table",
-            Invariant::InstancesOfNewUnit =>
-                "sched_book::new_book: a new workunit has at most 100 instances",
             Invariant::InstancesOnWorkingSet =>
                 "call_working_set::Instances::put: a workunit has at most 100 instances",
             Invariant::AppOfUnit =>
@@ -120,16 +113,10 @@ impl fmt::Display for Invariant {
                 "call_working_set::class_on_unit_state: the workunit was read",
             Invariant::NumberOfHost => "call_working_set::put_row: a new host gets the next number",
             Invariant::StopsOfChoice =>
-                "job_choice::offer_all: a choice stops once for each application at most",
+                "job_choice::offer_all: a choice stops at most once for each instance",
             Invariant::Growth =>
                 "quorum_credit::push_growth: a workunit grows to at most 100 instances",
-            Invariant::GrowingUnit => "quorum_credit::add_growth: the workunit exists",
             Invariant::LateInstance => "quorum_credit::put_late: a host holds the late instance",
-            Invariant::ScoredHost => "quorum_credit::add_quota: the host of a score exists",
-            Invariant::ChargesOfHost =>
-                "quorum_credit::tally_with: the charges of a host fit 32 bits",
-            Invariant::MeritsOfHost =>
-                "quorum_credit::tally_with: the merits of a host fit 32 bits",
             Invariant::JobsOfHost => "sched_machine::held_now: the jobs of a host fit 32 bits",
             Invariant::SecondsSentAgain =>
                 "sched_machine::seconds_of: the seconds of jobs sent again fit 64 bits",
@@ -210,6 +197,8 @@ pub enum Cause {
     BadRow,
     /// The clock can't be read, or shows a moment out of its range.
     Clock,
+    /// Stored rows contradict each other: this fact about them does not hold.
+    Spoiled(Invariant),
     /// A fact that the code relies on does not hold.
     Broken(Invariant),
 }
@@ -221,6 +210,9 @@ impl fmt::Display for Cause {
             Cause::Storage(fault) => write!(f, "{fault}"),
             Cause::BadRow => write!(f, "a stored row has a wrong form or a value out of range"),
             Cause::Clock => write!(f, "the clock can't be read"),
+            Cause::Spoiled(invariant) => {
+                write!(f, "stored rows contradict each other, {invariant}")
+            }
             Cause::Broken(invariant) => write!(f, "broken invariant, {invariant}"),
         }
     }

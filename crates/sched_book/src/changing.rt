@@ -8,7 +8,6 @@ ghost use Rattle.sched_book.specs.Reports.{modify_nth};
 
 use crate::by_place::copy_of;
 use crate::delta::{Delta, Edit, changed_book, classed_book, new_books};
-use crate::desk::Unavailable;
 use crate::instance::{Instance, Place, UnitBook};
 use crate::rows::Rows;
 use crate::world::World;
@@ -92,7 +91,7 @@ fn make_all(world: &mut World, edits: &[Edit]) -> Result<(), Memory>
 }
 
 /// Appends copies of rows. A workunit comes with its first instances.
-fn add_rows(alloc: Global, world: &mut World, rows: &Rows) -> Result<(), Unavailable>
+fn add_rows(alloc: Global, world: &mut World, rows: &Rows) -> Result<(), Memory>
     ensures { OnOk result (world.new ≡ with_rows world.old rows.now) }
 {
     match rows {
@@ -105,7 +104,7 @@ fn add_rows(alloc: Global, world: &mut World, rows: &Rows) -> Result<(), Unavail
 }
 
 /// Returns a copy of a world with these changes made.
-pub(crate) fn changed(alloc: Global, world: &World, delta: &Delta) -> Result<World, Unavailable>
+pub(crate) fn changed(alloc: Global, world: &World, delta: &Delta) -> Result<World, Memory>
     ensures { IfOk result (λ changed. changed ≡ applied world.now delta.now) }
 {
     let mut changed = copy_of(world)?;

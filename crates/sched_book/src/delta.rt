@@ -1,6 +1,6 @@
 //! Changes of a world: the rows of an import, or the edits of a call or of a tick.
 
-ghost use Rattle.std.specs.Prelude.{◌≡◌, ◌≤◌, All, IsTrue, IfOk, length, map, replicate};
+ghost use Rattle.std.specs.Prelude.{◌≡◌, ◌≤◌, ◌↔◌, All, IsTrue, IfOk, length, map, replicate};
 ghost use Rattle.sched_book.specs.Settle.{fresh};
 ghost use Rattle.sched_book.specs.Limits.{IsBounded};
 ghost use Rattle.sched_book.specs.Imports.{new_unit};
@@ -9,9 +9,7 @@ ghost use Rattle.sched_book.specs.Delta.{with_instance};
 ghost use Rattle.sched_book.specs.Classes.{with_class};
 
 use crate::by_place::copy_of;
-use crate::cause::{Cause, Invariant};
 use crate::changing::put;
-use crate::desk::Unavailable;
 use crate::instance::{Instance, Place, UnitBook};
 use crate::limits::{
     MOST_ACCOUNTS, MOST_APPS, MOST_HOSTS, MOST_INSTANCES, MOST_VERSIONS, MOST_WORKUNITS,
@@ -56,22 +54,18 @@ pub fn fresh_instances(alloc: Global, count: usize) -> Result<Listed<Instance>, 
     Ok(instances)
 }
 
-/// A new workunit with its instances. Refused if these are too many.
-fn new_book(alloc: Global, unit: &Workunit) -> Result<UnitBook, Unavailable>
+/// A new workunit with its instances.
+fn new_book(alloc: Global, unit: &Workunit) -> Result<UnitBook, Memory>
     ensures { IfOk result (λ book. book ≡ new_unit unit.now) }
 {
-    let count = unit.target_nresults as usize;
-    if count > MOST_INSTANCES {
-        return Err(Unavailable(Cause::Broken(Invariant::InstancesOfNewUnit)));
-    }
     Ok(UnitBook {
         unit: unit.clone()?,
-        instances: fresh_instances(alloc, count)?,
+        instances: fresh_instances(alloc, unit.target_nresults as usize)?,
     })
 }
 
-/// New workunits with their instances. Refused if one of them has too many.
-pub(crate) fn new_books(alloc: Global, units: &[Workunit]) -> Result<Listed<UnitBook>, Unavailable>
+/// New workunits with their instances.
+pub(crate) fn new_books(alloc: Global, units: &[Workunit]) -> Result<Listed<UnitBook>, Memory>
     ensures { IfOk result (λ books. books ≡ map new_unit units.now) }
 {
     let mut books = Listed::new(alloc);
@@ -100,7 +94,7 @@ pub(crate) fn classed_book(book: &UnitBook, class: &Text) -> Result<UnitBook, Me
 }
 
 fn are_books_bounded(books: &[UnitBook]) -> bool
-    ensures { IsTrue result → All (λ (b : UnitBook). length b.instances ≤ MOST_INSTANCES) books.now }
+    ensures { IsTrue result ↔ All (λ (b : UnitBook). length b.instances ≤ MOST_INSTANCES) books.now }
 {
     books
         .iter()
@@ -109,7 +103,7 @@ fn are_books_bounded(books: &[UnitBook]) -> bool
 
 /// Whether no list of the world is longer than its table may be.
 pub(crate) fn is_bounded(world: &World) -> bool
-    ensures { IsTrue result → IsBounded world.now }
+    ensures { IsTrue result ↔ IsBounded world.now }
 {
     world.accounts.len() <= MOST_ACCOUNTS
         && world.apps.len() <= MOST_APPS

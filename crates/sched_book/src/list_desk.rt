@@ -1,6 +1,8 @@
 //! The plain desk, which keeps a world as lists and searches them.
 
-ghost use Rattle.std.specs.Prelude.{◌≡◌, ⊤, length, IfOk, OnOk, OnErr};
+ghost use Rattle.std.specs.Prelude.{◌≡◌, ⊤, true, length, is_ok, IfOk, IfErr, OnOk, OnErr};
+ghost use Rattle.sched_book.specs.Limits.{IsBounded};
+ghost use Rattle.sched_book.specs.declared.cause.Cause.TheVariants.{Memory};
 ghost use Rattle.sched_book.specs.Delta.{applied};
 ghost use Rattle.sched_book.specs.Places.{unit_named, known_host, held_by, sent_on_day, host_credit, user_credit};
 ghost use Rattle.sched_book.specs.Desk.{counts, agreement_at, unit_status};
@@ -65,10 +67,11 @@ impl ListDesk {
 
     /// The desk of a world. Refused if a list is longer than its table may be.
     pub fn of(alloc: Global, world: World) -> Result<ListDesk, Unavailable>
-        ensures { IfOk result (λ d. d ≡ world) }
+        ensures ok { IfOk result (λ d. d ≡ world) }
+        ensures bounded { IsBounded world → is_ok result ≡ true }
     {
         if !is_bounded(&world) {
-            return Err(Unavailable(Cause::Broken(Invariant::ListsOfDesk)));
+            return Err(Unavailable(Cause::Spoiled(Invariant::ListsOfDesk)));
         }
         Ok(ListDesk { alloc, world })
     }
@@ -82,7 +85,8 @@ impl ListDesk {
 
     /// Returns the desk of the world with these changes made; this desk stays as it is.
     pub fn with(&self, delta: &Delta) -> Result<ListDesk, Unavailable>
-        ensures { IfOk result (λ d. d ≡ applied self.now delta.now) }
+        ensures ok { IfOk result (λ d. d ≡ applied self.now delta.now) }
+        ensures causes { IsBounded (applied self.now delta.now) → IfErr result (λ u. u.0 ≡ Memory) }
     {
         ListDesk::of(self.alloc, changed(self.alloc, &self.world, delta)?)
     }
@@ -91,6 +95,7 @@ impl ListDesk {
     pub fn apply(&mut self, delta: &Delta) -> Result<(), Unavailable>
         ensures ok { OnOk result (self.new ≡ applied self.old delta.now) }
         ensures err { OnErr result (self.new ≡ self.old) }
+        ensures causes { IsBounded (applied self.old delta.now) → IfErr result (λ u. u.0 ≡ Memory) }
     {
         *self = self.with(delta)?;
         Ok(())
@@ -107,6 +112,8 @@ impl Units for ListDesk {
     ghost well_kept = { λ _. ⊤ };
 
     ghost reads = { λ a b. a ≡ b };
+
+    ghost may_fail = { λ _ u. u.0 ≡ Memory };
 
     fn unit_by_name(&mut self, name: &str) -> Result<Option<u32>, Unavailable>
         ensures reads { self.new ≡ self.old }
@@ -163,6 +170,10 @@ impl Units for ListDesk {
     ghost stays_kept = { λ a b h k l. Prim.search rules };
 
     ghost stays_same = { λ a b h k l. Prim.search rules };
+
+    ghost fails_for_memory = { λ a. Prim.search rules };
+
+    ghost stays_failing = { λ a b h k l u m. m };
 }
 
 impl Desk for ListDesk {

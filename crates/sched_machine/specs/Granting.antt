@@ -1,15 +1,16 @@
 -- Words. Jobs that are given to a host, as changes of a world, and what a reply says of them.
-use Rattle.std.specs.Prelude.{◌≡◌, ℕ, ◌+◌, Bool, true, false, IsTrue, List, All, Option, None, Some, fold, is_some, option_map, unwrap_or, slice_get}
+use Rattle.std.specs.Prelude.{◌≡◌, ℕ, ◌+◌, Bool, true, false, IsTrue, List, All, Option, None, Some, IsSome, fold, is_some, option_map, unwrap_or, slice_get}
 use Rattle.rpc_records.specs.declared.reply.Job.{Job}
 use Rattle.sched_book.specs.Names.{instance_name}
 use Rattle.sched_book.specs.Fits.{version_at_unit}
 use Rattle.sched_book.specs.Delta.{edited, EditFits}
-use Rattle.sched_book.specs.Places.{host_at, deadline_of}
+use Rattle.sched_book.specs.Places.{host_at, instance_at, deadline_of}
 use Rattle.sched_book.specs.Step.{class_granted, with_owner, job_of}
 use Rattle.sched_book.specs.declared.delta.Edit.{Edit}
 use Rattle.sched_book.specs.declared.delta.Edit.TheVariants as edit
 use Rattle.sched_book.specs.declared.instance.Instance.{Instance}
 use Rattle.sched_book.specs.declared.instance.Owner.{Owner}
+use Rattle.sched_book.specs.declared.instance.Place.{Place}
 use Rattle.sched_book.specs.declared.rows.HostRow.{HostRow}
 use Rattle.sched_book.specs.declared.rows.Version.{Version}
 use Rattle.sched_book.specs.declared.world.World.{World}
@@ -52,6 +53,10 @@ job_on (Some k) number h resent v =
 -- the version of each job is the one that the host runs
 abbrev pub AreRunBy : World → HostRow → List Granted → Type 0
 AreRunBy w h jobs = All (λ (j : Granted). Some j.version ≡ version_at_unit w h j.place.unit) jobs
+
+-- there is an instance at each of these places
+abbrev pub AreThere : World → List Place → Type 0
+AreThere w places = All (λ (p : Place). IsSome (instance_at w p)) places
 
 -- the workunits of these jobs after the classes of their versions were granted, one after another
 abbrev pub with_classes : World → List Granted → World

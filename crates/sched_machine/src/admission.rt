@@ -4,6 +4,7 @@ ghost use Rattle.std.specs.Prelude.{◌≡◌, true, Some, None, IfOk, IsErrOf};
 ghost use Rattle.sched_book.specs.Places.{account_place};
 ghost use Rattle.sched_book.specs.Step.{IsCaller};
 ghost use Rattle.sched_book.specs.Trusted.{Trusted};
+ghost use Rattle.sched_book.specs.declared.cause.Cause.{Cause};
 ghost use Rattle.sched_machine.specs.Admission.{names_host, NamesWrongNumber};
 ghost use Rattle.sched_machine.specs.declared.admission.AdmissionError.TheVariants as error;
 
@@ -65,6 +66,7 @@ pub fn caller_of<D: Desk>(
         account_place (D.world desk.old) request.now.authenticator ≡ None) }
     ensures bad_host { Trusted D.Units desk.old desk.new (IsErrOf result error.BadHost →
         NamesWrongNumber (D.world desk.old) request.now) }
+    ensures causes { Trusted D.Units desk.old desk.new ((cause : Cause) → IsErrOf result (error.Unavailable cause) → D.may_fail desk.old (record { 0 = cause })) }
 {
     let found = desk.account_by_key(alloc, request.authenticator.as_str())?;
     let Some(account) = found.map(|account| account.place) else {

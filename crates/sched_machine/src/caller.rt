@@ -1,9 +1,12 @@
 //! The caller's host: its number, and its row as the call gives it.
 
-ghost use Rattle.std.specs.Prelude.{◌≡◌, [], None, Some, IfOk, IsErrOf};
+ghost use Rattle.std.specs.Prelude.{◌≡◌, [], None, Some, IfOk, IfErr, IsErrOf, IsSome};
+ghost use Rattle.sched_book.specs.Places.{host_at};
 ghost use Rattle.sched_book.specs.Sound.{Sound};
 ghost use Rattle.sched_book.specs.Step.{HasRoom, row_of_call};
 ghost use Rattle.sched_book.specs.Trusted.{Trusted};
+ghost use Rattle.sched_book.specs.declared.cause.Cause.{Cause};
+ghost use Rattle.sched_book.specs.declared.cause.Cause.TheVariants.{Memory};
 ghost use Rattle.sched_machine.specs.Calling.{IsAdmitted, IsEntered, LacksRoom};
 ghost use Rattle.sched_machine.specs.declared.step_error.StepError.TheVariants as error;
 
@@ -25,7 +28,8 @@ pub(crate) struct Calling {
 
 /// A host's row as its call gives it.
 fn row_of_call(caller: &Caller, request: &Request, quota: u32) -> Result<HostRow, Unavailable>
-    ensures { IfOk result (λ row. row ≡ row_of_call caller.now request.now quota) }
+    ensures value { IfOk result (λ row. row ≡ row_of_call caller.now request.now quota) }
+    ensures causes { IfErr result (λ u. u.0 ≡ Memory) }
 {
     Ok(HostRow {
         account: caller.account,
@@ -51,9 +55,10 @@ fn renew_host<S: Draft>(
         IsAdmitted (S.entry working_set.old) caller.now request.now → caller.now.host ≡ Some number →
         IsEntered (S.entry working_set.old) request.now call (S.world working_set.new) (S.edits working_set.new))) }
     ensures caller { IfOk result (λ call. call.caller ≡ caller.now) }
+    ensures causes { Trusted S.Units working_set.old working_set.new (IsSome (host_at (S.world working_set.old) number) → IfErr result (S.may_fail working_set.old)) }
 {
     let Some(before) = working_set.host(alloc, number)? else {
-        return Err(Unavailable(Cause::Broken(Invariant::CallingHost)));
+        return Err(Unavailable(Cause::Spoiled(Invariant::CallingHost)));
     };
     let host = row_of_call(caller, request, before.quota)?;
     working_set.put_host(alloc, number, &host)?;
@@ -78,6 +83,7 @@ fn make_host<S: Draft>(
     ensures room { Trusted S.Units working_set.old working_set.new (IfOk result (λ call. HasRoom (S.entry working_set.old) caller.now)) }
     ensures full { Trusted S.Units working_set.old working_set.new (IsErrOf result error.HostsFull →
         caller.now.host ≡ None → LacksRoom (S.entry working_set.old) caller.now) }
+    ensures causes { Trusted S.Units working_set.old working_set.new (S.edits working_set.old ≡ [] → (cause : Cause) → IsErrOf result (error.Unavailable cause) → S.may_fail working_set.old (record { 0 = cause })) }
 {
     let quota = working_set.settings().daily_result_quota;
     let most = working_set.settings().max_hosts;
@@ -107,6 +113,7 @@ pub(crate) fn enter<S: Draft>(
     ensures caller { IfOk result (λ call. call.caller ≡ caller.now) }
     ensures room { Trusted S.Units working_set.old working_set.new (IfOk result (λ call. HasRoom (S.entry working_set.old) caller.now)) }
     ensures full { Trusted S.Units working_set.old working_set.new (IsErrOf result error.HostsFull → LacksRoom (S.entry working_set.old) caller.now) }
+    ensures causes { Trusted S.Units working_set.old working_set.new (S.edits working_set.old ≡ [] → IsAdmitted (S.entry working_set.old) caller.now request.now → (cause : Cause) → IsErrOf result (error.Unavailable cause) → S.may_fail working_set.old (record { 0 = cause })) }
 {
     match caller.host {
         Some(number) => Ok(renew_host(alloc, working_set, caller, number, request)?),

@@ -1,13 +1,14 @@
 //! How many rows an import has.
 
-ghost use Rattle.std.specs.Prelude.{◌≡◌, IfOk};
+ghost use Rattle.std.specs.Prelude.{◌≡◌, IfOk, ◌<◌, true, is_ok};
 ghost use Rattle.sched_book.specs.Imports.{row_count};
 
 use sched_book::{Cause, Invariant, Rows, Unavailable};
 
 /// How many rows there are. Refused if the count exceeds 32 bits.
 pub(crate) fn row_count(rows: &Rows) -> Result<u32, Unavailable>
-    ensures { IfOk result (λ count. count ≡ row_count rows.now) }
+    ensures value { IfOk result (λ count. count ≡ row_count rows.now) }
+    ensures counted { row_count rows.now < 4294967296 → is_ok result ≡ true }
 {
     let count = match rows {
         Rows::Accounts(accounts) => accounts.len(),
@@ -17,7 +18,6 @@ pub(crate) fn row_count(rows: &Rows) -> Result<u32, Unavailable>
     };
     match u32::try_from(count) {
         Ok(count) => Ok(count),
-        // Does not happen for rows that were checked: no table has more than 200,000.
-        Err(_) => Err(Unavailable(Cause::Broken(Invariant::RowsOfImport))),
+        Err(_) => Err(Unavailable(Cause::Spoiled(Invariant::RowsOfImport))),
     }
 }

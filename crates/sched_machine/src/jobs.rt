@@ -1,6 +1,6 @@
 //! What a reply says of jobs.
 
-ghost use Rattle.std.specs.Prelude.{◌≡◌, [], ◌++◌, true, false, filter_map, option_map, unwrap_or, IfOk, OnOk};
+ghost use Rattle.std.specs.Prelude.{◌≡◌, [], ◌++◌, true, false, filter_map, option_map, unwrap_or, IfOk, IfErr, OnOk};
 ghost use Rattle.std.specs.Option.{option_copied};
 ghost use Rattle.std.specs.List.{cons_option};
 ghost use Rattle.sched_book.specs.Fits.{version_at_unit};
@@ -97,6 +97,7 @@ fn add_job<S: Draft>(
     ensures answer { Trusted S.Units working_set.old working_set.new (OnOk result (
         option_copied version.entry ≡ version_at_unit (S.entry working_set.old) host.now place.unit →
         jobs.new ≡ jobs.old ++ cons_option (job_at (S.world working_set.old) host.now (is_again sending) place) [])) }
+    ensures causes { Trusted S.Units working_set.old working_set.new (IfErr result (S.may_fail working_set.old)) }
 {
     working_set.read(alloc, place.unit)?;
     let job = job_on(
@@ -121,6 +122,7 @@ fn version_at_unit<S: Draft>(
     ensures reads { S.reads working_set.old working_set.new }
     ensures answer { Trusted S.Units working_set.old working_set.new (
         IfOk result (λ version. version ≡ version_at_unit (S.entry working_set.old) host.now unit)) }
+    ensures causes { Trusted S.Units working_set.old working_set.new (IfErr result (S.may_fail working_set.old)) }
 {
     match working_set.unit(alloc, unit)? {
         None => Ok(None),
@@ -139,6 +141,7 @@ fn add_resent<S: Draft>(
     ensures reads { S.reads working_set.old working_set.new }
     ensures answer { Trusted S.Units working_set.old working_set.new (
         OnOk result (jobs.new ≡ jobs.old ++ cons_option (job_at (S.world working_set.old) host.now true place) [])) }
+    ensures causes { Trusted S.Units working_set.old working_set.new (IfErr result (S.may_fail working_set.old)) }
 {
     let version = version_at_unit(alloc, working_set, host, place.unit)?;
     add_job(
@@ -162,6 +165,7 @@ pub(crate) fn resent_jobs<S: Draft>(
     ensures reads { S.reads working_set.old working_set.new }
     ensures answer { Trusted S.Units working_set.old working_set.new (
         IfOk result (λ jobs. jobs ≡ filter_map (job_at (S.world working_set.old) host.now true) places.now)) }
+    ensures causes { Trusted S.Units working_set.old working_set.new (IfErr result (S.may_fail working_set.old)) }
 {
     let mut jobs = Listed::new(alloc);
     for place in places {
@@ -181,6 +185,7 @@ pub(crate) fn add_granted<S: Draft>(
     ensures reads { S.reads working_set.old working_set.new }
     ensures answer { Trusted S.Units working_set.old working_set.new (OnOk result (AreRunBy (S.entry working_set.old) host.now granted.now →
         jobs.new ≡ jobs.old ++ filter_map (job_at (S.world working_set.old) host.now false) (places_of granted.now))) }
+    ensures causes { Trusted S.Units working_set.old working_set.new (IfErr result (S.may_fail working_set.old)) }
 {
     for job in granted {
         add_job(

@@ -1,6 +1,6 @@
 //! What happens to the jobs that a call's client lost, and which of them are sent again.
 
-ghost use Rattle.std.specs.Prelude.{◌≡◌, IfOk, OnOk};
+ghost use Rattle.std.specs.Prelude.{◌≡◌, IfOk, IfErr, OnOk};
 ghost use Rattle.sched_book.specs.Delta.{EditsFit};
 ghost use Rattle.sched_book.specs.Places.{held_by};
 ghost use Rattle.sched_book.specs.Step.{after_reports, after_lost, resent_of};
@@ -52,6 +52,7 @@ pub(crate) fn lose<S: Draft>(
         held.now ≡ held_by (S.entry working_set.old) call.now.number →
         S.world working_set.old ≡ after_reports (S.entry working_set.old) call.now.caller request.now →
         places ≡ resent_of (S.entry working_set.old) call.now.caller request.now)) }
+    ensures causes { Trusted S.Units working_set.old working_set.new (IfErr result (S.may_fail working_set.old)) }
 {
     let lost = lost_on(alloc, working_set, call.number, held, request)?;
     let fates = fates_on(alloc, working_set, &call.host, lost.as_slice(), now)?;

@@ -1,6 +1,6 @@
 //! The result of a call before new jobs are chosen, and what is asked of their choice.
 
-ghost use Rattle.std.specs.Prelude.{◌≡◌, [], length, sum_by, unwrap_or, count_by, IfOk, IsErrOf};
+ghost use Rattle.std.specs.Prelude.{◌≡◌, [], length, sum_by, unwrap_or, count_by, IfOk, IfErr, IsErrOf, ◌<◌, true, is_ok};
 ghost use Rattle.std.specs.Option.{option_copied};
 ghost use Rattle.sched_book.specs.Fits.{estimate_at};
 ghost use Rattle.sched_book.specs.Places.{host_at, held_by};
@@ -41,15 +41,14 @@ fn still_holds(unit_state: Option<&UnitState>, host: u32, number: u32) -> bool
 
 /// How many instances the host still holds, of those that it held when the call came.
 fn held_now<S: Draft>(working_set: &S, host: u32, held: &[Place]) -> Result<u32, Unavailable>
-    ensures { IfOk result (λ count. count ≡ count_by (λ (p : Place). still_holds (S.kept working_set.now p.unit) host p.number) held.now) }
+    ensures count { IfOk result (λ count. count ≡ count_by (λ (p : Place). still_holds (S.kept working_set.now p.unit) host p.number) held.now) }
+    ensures counted { length held.now < 4294967296 → is_ok result ≡ true }
 {
     let mut count: u32 = 0;
     for place in held {
         if still_holds(working_set.unit_state(place.unit), host, place.number) {
             let Some(sum) = count.checked_add(1) else {
-                // Does not happen in a sound world, where no host holds more than 20,000,000:
-                // `sched_book::laws::instances_are_few`.
-                return Err(Unavailable(Cause::Broken(Invariant::JobsOfHost)));
+                return Err(Unavailable(Cause::Spoiled(Invariant::JobsOfHost)));
             };
             count = sum;
         }
@@ -69,6 +68,7 @@ fn seconds_of<S: Draft>(
     ensures reads { S.reads working_set.old working_set.new }
     ensures answer { Trusted S.Units working_set.old working_set.new (
         IfOk result (λ seconds. seconds ≡ sum_by (estimate_at (S.world working_set.old) host.now) places.now)) }
+    ensures causes { Trusted S.Units working_set.old working_set.new (sum_by (estimate_at (S.world working_set.old) host.now) places.now < 18446744073709551616 → IfErr result (S.may_fail working_set.old)) }
 {
     let mut seconds: u64 = 0;
     for place in places {
@@ -77,8 +77,7 @@ fn seconds_of<S: Draft>(
         };
         let more = seconds_at(unit.rsc_fpops_est, host.p_fpops);
         let Some(sum) = seconds.checked_add(more) else {
-            // Does not happen in a sound world, where these are at most 2 * 10^15: `laws::resent_seconds_are_bounded`.
-            return Err(Unavailable(Cause::Broken(Invariant::SecondsSentAgain)));
+            return Err(Unavailable(Cause::Spoiled(Invariant::SecondsSentAgain)));
         };
         seconds = sum;
     }
@@ -112,6 +111,7 @@ fn wish_of<S: Draft>(
         wish.held ≡ length (held_by (S.world working_set.old) call.now.number))) }
     ensures before { Trusted S.Units working_set.old working_set.new (IfOk result (λ wish.
         wish.before ≡ sum_by (estimate_at (S.world working_set.old) call.now.host) resent.now)) }
+    ensures causes { Trusted S.Units working_set.old working_set.new (length held.now < 4294967296 → sum_by (estimate_at (S.world working_set.old) call.now.host) resent.now < 18446744073709551616 → IfErr result (S.may_fail working_set.old)) }
 {
     let held = held_now(working_set, call.number, held)?;
     let before = seconds_of(alloc, working_set, &call.host, resent)?;

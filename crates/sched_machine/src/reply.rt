@@ -1,6 +1,6 @@
 //! The reply to a call: gives new jobs to its host, and says what the reply says of them and of credit.
 
-ghost use Rattle.std.specs.Prelude.{◌≡◌, IfOk, OnOk};
+ghost use Rattle.std.specs.Prelude.{◌≡◌, IfOk, IfErr, OnOk};
 ghost use Rattle.sched_book.specs.Step.{IsCaller, granted, user_name};
 ghost use Rattle.sched_book.specs.Trusted.{Trusted};
 ghost use Rattle.job_choice.specs.Chosen.{places_of};
@@ -38,6 +38,7 @@ fn user_name<S: Draft>(
     ensures reads { S.reads working_set.old working_set.new }
     ensures answer { Trusted S.Units working_set.old working_set.new (IfOk result (λ name.
         IsCaller (S.entry working_set.old) caller request.now → name ≡ user_name (S.entry working_set.old) caller.account)) }
+    ensures causes { Trusted S.Units working_set.old working_set.new (IfErr result (S.may_fail working_set.old)) }
 {
     match working_set.account_by_key(alloc, request.authenticator.as_str())? {
         None => Ok(Text::copied(alloc, "")?),

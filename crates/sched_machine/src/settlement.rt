@@ -1,7 +1,8 @@
 //! The result of a call up to settlement.
 
-ghost use Rattle.std.specs.Prelude.{◌≡◌, IfOk};
+ghost use Rattle.std.specs.Prelude.{◌≡◌, IfOk, IfErr};
 ghost use Rattle.sched_book.specs.Places.{held_by};
+ghost use Rattle.sched_book.specs.Sound.{Sound};
 ghost use Rattle.sched_book.specs.Trusted.{Trusted};
 ghost use Rattle.sched_machine.specs.Calling.{IsEntered};
 ghost use Rattle.sched_machine.specs.Prepared.{IsSettledCall};
@@ -41,6 +42,7 @@ pub(crate) fn settle_call<S: Draft>(
         IsEntered (S.entry working_set.old) request.now call.now (S.world working_set.old) (S.edits working_set.old) →
         held.now ≡ held_by (S.entry working_set.old) call.now.number →
         IsSettledCall (S.entry working_set.old) request.now call.now now done (S.world working_set.new) (S.edits working_set.new))) }
+    ensures causes { Trusted S.Units working_set.old working_set.new (Sound (S.entry working_set.old) → IfErr result (S.may_fail working_set.old)) }
 {
     let acked = record_on(alloc, working_set, call.number, request)?;
     let resent = lose(alloc, working_set, call, held, request, now)?;

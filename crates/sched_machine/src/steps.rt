@@ -1,6 +1,6 @@
 //! One step of the job machine: a call, an import or a tick.
 
-ghost use Rattle.std.specs.Prelude.{◌≡◌, [], IfOk, IsErrOf};
+ghost use Rattle.std.specs.Prelude.{◌≡◌, [], IfOk, IfErr, IsErrOf};
 ghost use Rattle.sched_book.specs.Delta.{edited, EditsFit, applied, Fits};
 ghost use Rattle.sched_book.specs.Imports.{AreChecked};
 ghost use Rattle.sched_book.specs.Sound.{Sound};
@@ -150,12 +150,11 @@ pub fn step_tick<D: Desk>(
         TickStep (D.world desk.old) now (applied (D.world desk.old) done.0) done.1)) }
     ensures sound { Trusted D.Units desk.old desk.new (IfOk result (λ done. Sound (D.world desk.old) → Sound (applied (D.world desk.old) done.0))) }
     ensures fits { Trusted D.Units desk.old desk.new (IfOk result (λ done. Sound (D.world desk.old) → Fits (D.world desk.old) done.0)) }
+    ensures causes { Trusted D.Units desk.old desk.new (Sound (D.world desk.old) → IfErr result (D.may_fail desk.old)) }
 {
     let places = desk.due_before(alloc, now)?;
     let Ok(count) = u32::try_from(places.len()) else {
-        // Does not happen in a sound world, where no more than 20,000,000 are overdue:
-        // `sched_book::laws::instances_are_few`.
-        return Err(Unavailable(Cause::Broken(Invariant::LateInstances)));
+        return Err(Unavailable(Cause::Spoiled(Invariant::LateInstances)));
     };
     let edits = lapse_places(alloc, desk, places.as_slice())?;
     Ok((Delta::Edits(edits), count))

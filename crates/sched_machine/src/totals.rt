@@ -1,6 +1,6 @@
 //! The credit of a call's host and of its user, with what is new in the call.
 
-ghost use Rattle.std.specs.Prelude.{◌≡◌, ◌+◌, ◌==◌, if◌then◌else◌, IfOk};
+ghost use Rattle.std.specs.Prelude.{◌≡◌, ◌+◌, ◌==◌, if◌then◌else◌, IfOk, IfErr, ◌<◌};
 ghost use Rattle.sched_book.specs.Places.{host_credit, user_credit};
 ghost use Rattle.sched_book.specs.Trusted.{Trusted};
 ghost use Rattle.quorum_credit.specs.Scores.{credits_in};
@@ -20,13 +20,13 @@ pub(crate) fn host_total<S: Draft>(
     ensures reads { S.reads working_set.old working_set.new }
     ensures answer { Trusted S.Units working_set.old working_set.new (
         IfOk result (λ credit. credit ≡ host_credit (S.entry working_set.old) host + credits_in scores.now host)) }
+    ensures causes { Trusted S.Units working_set.old working_set.new (host_credit (S.entry working_set.old) host + credits_in scores.now host < 18446744073709551616 → IfErr result (S.may_fail working_set.old)) }
 {
     let mut credit = working_set.credit_of_host(host)?;
     for score in scores {
         let more = if score.host == host { score.credit } else { 0 };
         let Some(sum) = credit.checked_add(u64::from(more)) else {
-            // Does not happen in a sound world, where all credit is at most 2 * 10^15: `laws::credit_is_bounded`.
-            return Err(Unavailable(Cause::Broken(Invariant::CreditOfHost)));
+            return Err(Unavailable(Cause::Spoiled(Invariant::CreditOfHost)));
         };
         credit = sum;
     }
@@ -43,6 +43,7 @@ fn user_gain<S: Draft>(
     ensures reads { S.reads working_set.old working_set.new }
     ensures answer { Trusted S.Units working_set.old working_set.new (IfOk result (λ credit.
         credit ≡ if belongs (S.world working_set.old).hosts account score.now.host then score.now.credit else 0)) }
+    ensures causes { Trusted S.Units working_set.old working_set.new (IfErr result (S.may_fail working_set.old)) }
 {
     if score.credit == 0 {
         return Ok(0);
@@ -64,13 +65,13 @@ pub(crate) fn user_total<S: Draft>(
     ensures reads { S.reads working_set.old working_set.new }
     ensures answer { Trusted S.Units working_set.old working_set.new (IfOk result (λ credit.
         credit ≡ user_credit (S.entry working_set.old) account + user_credits_in (S.world working_set.old).hosts account scores.now)) }
+    ensures causes { Trusted S.Units working_set.old working_set.new (user_credit (S.entry working_set.old) account + user_credits_in (S.world working_set.old).hosts account scores.now < 18446744073709551616 → IfErr result (S.may_fail working_set.old)) }
 {
     let mut credit = working_set.credit_of_user(account)?;
     for score in scores {
         let more = user_gain(alloc, working_set, account, score)?;
         let Some(sum) = credit.checked_add(u64::from(more)) else {
-            // Does not happen in a sound world, as above.
-            return Err(Unavailable(Cause::Broken(Invariant::CreditOfUser)));
+            return Err(Unavailable(Cause::Spoiled(Invariant::CreditOfUser)));
         };
         credit = sum;
     }

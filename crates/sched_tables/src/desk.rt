@@ -15,7 +15,7 @@ use texts::Listed;
 
 impl<S: Alter> Units for Tables<S> {
     ghost use Rattle.std.proofs.Common.{rules};
-    ghost use Rattle.std.specs.Prelude.{◌≡◌};
+    ghost use Rattle.std.specs.Prelude.{◌≡◌, ⊤};
     ghost use Rattle.sched_tables.specs.Held.{IsHonest};
     ghost use Rattle.sched_tables.specs.ReadLaws.{stays_same, was_honest, stays_both, rows_before, due_from_before};
     ghost use Rattle.sched_tables.specs.Views.{state_of, world_of, AreKept, AreReadOn};
@@ -27,6 +27,9 @@ impl<S: Alter> Units for Tables<S> {
     ghost well_kept = { AreKept S.Store };
 
     ghost reads = { AreReadOn S.Store };
+
+    // Nothing is promised yet of why the tables are unavailable.
+    ghost may_fail = { λ _ _. ⊤ };
 
     fn unit_by_name(&mut self, name: &str) -> Result<Option<u32>, Unavailable> {
         match self.cache.unit_named(self.alloc, name)? {
@@ -87,6 +90,10 @@ impl<S: Alter> Units for Tables<S> {
     ghost stays_kept = { λ a b h k l. stays_both _ _ h.0 k _ _ _ _ _ _ _ _ h.1 h.2 (h.3 k l) (h.4 k l) l };
 
     ghost stays_same = { λ a b h k l. stays_same _ _ h.0 k l.0 };
+
+    ghost fails_for_memory = { λ a. tt };
+
+    ghost stays_failing = { λ a b h k l u m. tt };
 }
 
 impl<S: Alter> Desk for Tables<S> {

@@ -1,5 +1,6 @@
 -- Promise. What a call that may commit owes for any answer. (This project's own.)
 use Rattle.std.specs.Prelude.{◌≡◌, ◌⊎◌, Bool, true, false}
+use Rattle.sched_book.specs.declared.desk.Unavailable.{Unavailable}
 use Rattle.sched_book.specs.declared.desk.Units as units
 use Rattle.sched_book.specs.declared.world.World.{World}
 use Rattle.stores.specs.Held.{Held, IsLeft}
@@ -12,6 +13,7 @@ Parts S = record {
   honest : S → Type 0;
   well_kept : S → Type 0;
   reads : S → S → Type 0;
+  may_fail : S → Unavailable → Type 0;
   holds : S → Held;
   clean : S → Type 0;
   lasting : Type 0;
@@ -26,6 +28,7 @@ parts_of desk holds clean lasting may_leave reopens = record {
   honest = desk.honest;
   well_kept = desk.well_kept;
   reads = desk.reads;
+  may_fail = desk.may_fail;
   holds = holds;
   clean = clean;
   lasting = lasting;

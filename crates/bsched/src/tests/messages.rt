@@ -232,14 +232,14 @@ fn has_host<S: Store>(alloc: Global, service: &mut Service<S>) -> Result<bool, F
     Ok(!tells(alloc, &answer, 404, NO_SUCH_HOST)?)
 }
 
-/// The result of serving a front of a message after which the reader fails, and what was written.
+/// The result of serving a prefix of a message after which the reader fails, and what was written.
 fn served_before_a_fault<S: Store>(
     alloc: Global,
     service: &mut Service<S>,
-    front: &[u8],
+    prefix: &[u8],
     kind: ErrorKind,
 ) -> (Result<(), IoFault>, Vec<u8>) {
-    let mut reader = front.chain(Broken { kind });
+    let mut reader = prefix.chain(Broken { kind });
     let mut written = Vec::new(alloc);
     let served = serve_one(
         alloc,
@@ -272,20 +272,20 @@ fn served_into<S: Store>(
 
 /// Whether a message whose reader fails, after each of its bytes in turn, ends as a fault of the reader, with nothing
 /// written. A message that ends there must be refused.
-fn fronts_are_no_message<S: Store>(
+fn prefixes_are_no_message<S: Store>(
     alloc: Global,
     service: &mut Service<S>,
     message: &[u8],
 ) -> Result<bool, Fail> {
     for length in 0..message.len() {
-        let front = message.get(..length).unwrap_or(&[]);
+        let prefix = message.get(..length).unwrap_or(&[]);
         let (served, written) = served_before_a_fault(
             alloc,
             service,
-            front,
+            prefix,
             ErrorKind::ConnectionReset,
         );
-        let cut = answered(alloc, service, front)?;
+        let cut = answered(alloc, service, prefix)?;
         if !matches!(served, Err(IoFault::Read)) || !written.is_empty() {
             return Ok(false);
         }
@@ -296,16 +296,16 @@ fn fronts_are_no_message<S: Store>(
     Ok(!has_host(alloc, service)?)
 }
 
-fn no_front_is_a_message<S: Store + Drop>(alloc: Global, store: S) -> Result<bool, Fail> {
+fn no_prefix_is_a_message<S: Store + Drop>(alloc: Global, store: S) -> Result<bool, Fail> {
     let mut service = project(alloc, store)?;
-    fronts_are_no_message(alloc, &mut service, &first_call(alloc)?)
+    prefixes_are_no_message(alloc, &mut service, &first_call(alloc)?)
 }
 
 /// Whether a message ends as a fault of the reader, if the reader is interrupted for ever after its first half.
 fn is_given_up<S: Store + Drop>(alloc: Global, store: S) -> Result<bool, Fail> {
     let mut service = project(alloc, store)?;
-    let front = first_call(alloc)?;
-    let half = front.get(..front.len() / 2).unwrap_or(&[]);
+    let prefix = first_call(alloc)?;
+    let half = prefix.get(..prefix.len() / 2).unwrap_or(&[]);
     let (served, written) = served_before_a_fault(
         alloc,
         &mut service,
@@ -323,13 +323,13 @@ fn a_reader_that_is_interrupted_for_ever_is_given_up(rt: HostRuntime) -> Result<
 
 #[test]
 fn a_message_that_is_not_read_whole_never_was(rt: HostRuntime) -> Result<(), Fail> {
-    assert!(rt; no_front_is_a_message(rt.alloc(), new_store(rt.alloc())?)?);
+    assert!(rt; no_prefix_is_a_message(rt.alloc(), new_store(rt.alloc())?)?);
     Ok(())
 }
 
 /// Whether an answer whose writer fails ends as a fault of the writer. The writer fails before the first byte, and then
 /// after each byte in turn. In between the whole answer must come again.
-fn fronts_come_again<S: Store>(
+fn prefixes_come_again<S: Store>(
     alloc: Global,
     service: &mut Service<S>,
     message: &[u8],
@@ -349,15 +349,15 @@ fn fronts_come_again<S: Store>(
     Ok(true)
 }
 
-fn each_front_comes_again<S: Store + Drop>(alloc: Global, store: S) -> Result<bool, Fail> {
+fn each_prefix_comes_again<S: Store + Drop>(alloc: Global, store: S) -> Result<bool, Fail> {
     let mut service = project(alloc, store)?;
     let body = REPLY.trim_start_matches("200 ").trim_end();
-    fronts_come_again(alloc, &mut service, &first_call(alloc)?, body)
+    prefixes_come_again(alloc, &mut service, &first_call(alloc)?, body)
 }
 
 #[test]
 fn a_reply_that_is_not_written_whole_comes_again(rt: HostRuntime) -> Result<(), Fail> {
-    assert!(rt; each_front_comes_again(rt.alloc(), new_store(rt.alloc())?)?);
+    assert!(rt; each_prefix_comes_again(rt.alloc(), new_store(rt.alloc())?)?);
     Ok(())
 }
 

@@ -1,6 +1,6 @@
 -- The row of a call's host, put before any other change of the call.
 use Rattle.std.proofs.Common.{◌≡◌, ℕ, ◌+◌, ◌-◌, ◌<◌, ◌≤◌, Bool, true, false, cond, eqb, ltb, List, [], ◌∷◌, ◌++◌, length, Option, Some, None, sym, refl, ap, ◌∙◌, subst, arith, set}
-use Rattle.std.specs.Prelude.{IsTrue, bytes_eq, is_some, option_map, unwrap_or}
+use Rattle.std.specs.Prelude.{IsSome, IsTrue, bytes_eq, is_some, option_map, unwrap_or}
 use Rattle.std.proofs.lemmas.Bool.{eqb-true}
 use Rattle.rpc_records.specs.Ranges.{IsInRange}
 use Rattle.rpc_records.specs.declared.request.Request.{Request}
@@ -54,6 +54,10 @@ module _ (w : World) (c : Caller) (r : Request) (caller : IsCaller w c r) where
   -- a known host has its own quota
   quota_at : (host : ℕ) (h : HostRow) → host_at w host ≡ Some h → quota_of w (Some host) ≡ h.quota
   quota_at host h stands = ap (λ o. unwrap_or (option_map (λ (k : HostRow). k.quota) o) w.settings.daily_result_quota) stands
+
+  -- a caller with a host has one in the world
+  pub caller_stands : (host : ℕ) → c.host ≡ Some host → IsSome (host_at w host)
+  caller_stands host is = ap is_some (place_found (is_host_of c.account r.host.host_cpid) w.hosts host (caller.host ∙ is)).1
 
   puts_row_of_call : set_nth w.hosts (host_number w c) (row_of_call c r (quota_of w c.host)) ≡ hosts_at_entry w c r c.host
   puts_row_of_call = cases c.host caller.host

@@ -1,4 +1,4 @@
-use Rattle.std.proofs.Common.{◌≡◌, ℕ, Bool, true, false, cond, Option, Some, None, refl, sym, ap, ap₂, ◌∙◌}
+use Rattle.std.proofs.Common.{◌≡◌, ℕ, Bool, true, false, cond, Option, Some, None, refl, sym, ap, ap₂, ◌∙◌, rules}
 use Rattle.std.specs.Bool.{then_some}
 use Rattle.sched_book.specs.Fits.{version_for, fits}
 use Rattle.sched_book.specs.Lost.{deadline_after}
@@ -32,3 +32,11 @@ returns-clause-answer g c = λ honest kept.
     (c.fits.ensures ∙ ap (λ (v : Option Version). fits host job.unit v) version)
     (c.deadline_after-deadline.ensures ∙ ap (λ seconds. deadline_after c.args.now seconds job.unit.delay_bound job.deadline) c.seconds_at-seconds.ensures)
     ∙ resent-is (g.S.Draft.entry c.args.working_set.now) host c.args.now c.args.place (g.S.Units.world c.args.working_set.now) _ (Some job) read told
+
+pub returns-in_err-version-clause-causes : goal.returns-in_err-version-clause-causes
+returns-in_err-version-clause-causes g c honest kept =
+    let units = g.met.S.Units in
+    let honest_read = units.stays_honest _ _ c.version_on.ensures.reads honest in
+    let kept_read = units.stays_kept _ _ c.read.ensures.reads honest_read kept in
+    let why = units.stays_failing _ _ c.read.ensures.reads honest_read kept _ (c.in_err-version.ensures.causes honest kept_read) in
+    search (rules, why)

@@ -14,7 +14,7 @@ returns-in_ok-put_instance-in-Some-clause-put g c = λ honest kept.
     let u = g.met.S.Units in
     let honest_1 = g.met.S.Draft.works_honest _ _ c.put_instance.ensures.works honest in
     let row =
-    sym (c.in_ok-reported_on.ensures ∙ ap (λ o. reported_on c.args.host c.args.report.now o c.args.place.number) c.unit_state.ensures
+    sym (c.in_ok-reported_on.ensures.value ∙ ap (λ o. reported_on c.args.host c.args.report.now o c.args.place.number) c.unit_state.ensures
     ∙ reported-is c.args.host c.args.report.now (g.S.Draft.entry c.args.working_set.now) (g.S.Units.world c.args.working_set.now) c.args.place _
     (c.in_ok-read.ensures.answer honest_1 kept)) ∙ c.in-Some.is in
     let kept_1 = u.stays_kept _ _ c.read.ensures.reads honest_1 kept in
@@ -27,7 +27,7 @@ pub returns-in_ok-put_instance-in-Some-clause-fits : goal.returns-in_ok-put_inst
 returns-in_ok-put_instance-in-Some-clause-fits g c = λ honest kept told.
     let honest_1 = g.met.S.Draft.works_honest _ _ c.put_instance.ensures.works honest in
     let row =
-    sym (c.in_ok-reported_on.ensures ∙ ap (λ o. reported_on c.args.host c.args.report.now o c.args.place.number) c.unit_state.ensures
+    sym (c.in_ok-reported_on.ensures.value ∙ ap (λ o. reported_on c.args.host c.args.report.now o c.args.place.number) c.unit_state.ensures
     ∙ reported-is c.args.host c.args.report.now (g.S.Draft.entry c.args.working_set.now) (g.S.Units.world c.args.working_set.now) c.args.place _
     (c.in_ok-read.ensures.answer honest_1 kept)) ∙ c.in-Some.is in
     let entry = g.S.Draft.entry c.args.working_set.now in

@@ -28,7 +28,7 @@ returns-clause-acts c = record {
     stays_kept = search rules;
     left = λ h may. absurd may;
     reopens = λ stands more. (more tt).1 _ (λ may sound. record {
-      world_is = c.in_ok-desk.ensures;
+      world_is = c.in_ok-desk.ensures.ok;
       calls_are = c.in_ok-keep.ensures.ok.calls_are;
       batches_are = c.in_ok-keep.ensures.ok.batches_are;
     });
